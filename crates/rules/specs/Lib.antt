@@ -1,0 +1,10 @@
+pub mod Cases
+pub mod Checking
+pub mod Evaluation
+pub mod Paths
+pub mod Running
+pub mod Satisfiable
+pub mod Symbolic
+pub mod SymbolicRules
+pub mod TypedRules
+pub mod Typings

@@ -1,0 +1,6 @@
+pub mod Answers
+pub mod Limits
+pub mod Rows
+pub mod Table
+pub mod Tests
+pub mod Tree
