@@ -1,5 +1,6 @@
 pub mod Cases
 pub mod Checking
+pub mod Demand3
 pub mod Evaluation
 pub mod Paths
 pub mod Running

@@ -1,0 +1,5 @@
+-- Demand 3. Assumes nothing.
+pub mod Congruence
+pub mod Meaning
+pub mod Memory
+pub mod Stands
