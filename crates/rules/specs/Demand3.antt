@@ -2,4 +2,6 @@
 pub mod Congruence
 pub mod Meaning
 pub mod Memory
+pub mod Promises
 pub mod Stands
+pub mod TypedOperators
