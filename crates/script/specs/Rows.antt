@@ -6,6 +6,7 @@ use mathlib.Core.Option.{Option, none, some}
 use Prim.Native.Nat.{ℕ}
 use lib.ListN.{getElem?}
 use Rattle.script.specs.Limits.{variableLimit}
+pub mod Laws
 
 pub data UnaryOp : Type 0 where
   notOp refOp getOp : UnaryOp

@@ -8,6 +8,7 @@ use lib.ListN.{length, getD}
 use Rattle.script.specs.Rows.{Row, Form, UnaryOp, BinaryOp, intForm, varForm, ifForm, letForm, typedForm, symForm, truthForm, unaryForm, binaryForm, rowOf}
 use Rattle.script.specs.Table.{Table, nodesOf}
 use Rattle.script.specs.declared.Node.{Node}
+pub mod Laws
 
 pub data Expr : Type 0 where
   int : ℕ → ℕ → Expr
