@@ -1,15 +1,13 @@
 -- What every row of the table of words has: the operand count of its form, and a kind below 15. Assumes nothing.
-use mathlib.Core.Bool.{Bool, true, false}
 use mathlib.Core.List.{List, [], _∷_}
-use mathlib.Core.Option.{Option, none, some}
-use mathlib.Core.Path.{_≡_, refl, sym, _∙_}
-use Prim.Native.Nat.{ℕ, zero, suc, _<_, _≤_}
+use mathlib.Core.Option.{some}
+use mathlib.Core.Path.{_≡_, refl, sym}
+use Prim.Native.Nat.{ℕ, zero, suc, _<_}
 use native.Mathlib.Omega.{arith}
 use lib.Dec.{eqb}
 use lib.ListN.{getElem?, length}
 use borrow.Author.Tests.{eqb-true}
 use Rattle.script.specs.Rows.{Row, Form, rows, rowOf, intForm, varForm, ifForm, letForm, typedForm, symForm, truthForm, unaryForm, binaryForm}
-use Rattle.script.specs.Tests.{all}
 use Rattle.script.specs.Tests.Laws.{all-getElem?, some-not-none}
 
 -- how many operands a form takes

@@ -1,9 +1,9 @@
 -- What a table that passes its tests is: its counts are within the limits and its nodes are sound. A well-formed node is told by the form of its
 -- row, its operands are earlier nodes, and so no node is used by itself or an earlier one. Assumes nothing.
-use mathlib.Core.Bool.{Bool, true, false, not, _&&_}
+use mathlib.Core.Bool.{Bool, true, false, not}
 use mathlib.Core.List.{List, [], _∷_, _++_}
 use mathlib.Core.Option.{Option, none, some}
-use mathlib.Core.Path.{_≡_, refl, sym, ap, _∙_}
+use mathlib.Core.Path.{_≡_, refl, ap}
 use Prim.Native.Nat.{ℕ, zero, suc, _+_, _≤_, _<_, pred}
 use native.Mathlib.Nat.{le-trans}
 use native.Mathlib.Omega.{arith}
@@ -11,14 +11,13 @@ use lib.Dec.{leb, ltb, eqb}
 use lib.ListN.{length, take, drop, getD}
 use lib.Seq.{length-take-le, take-suc, take-length}
 use borrow.Author.Tests.{ltb-true, leb-true, eqb-true, not-false, lt-ltb, le-leb, eq-eqb, ne-eqb}
-use Rattle.script.specs.Limits.{nodeLimit, entryLimit, withinLimits}
+use Rattle.script.specs.Limits.{nodeLimit, entryLimit}
 use Rattle.script.specs.Rows.{Row, Form, UnaryOp, BinaryOp, rowOf, numberUpTo, intForm, varForm, ifForm, letForm, typedForm, symForm, truthForm, unaryForm, binaryForm}
 use Rattle.script.specs.Rows.Laws.{countOf, row-count}
-use Rattle.script.specs.Table.{Table, nodesOf, entriesOf, unused, nodeAt, fields, rightOperands, rightNode, wellFormed, nodesAmong, operandsBy, operands, timesIn, uses, tooDeep, nodesTest, tableTest}
-use Rattle.script.specs.Tests.{pick, all, lowest, need, needNone}
+use Rattle.script.specs.Table.{Table, nodesOf, entriesOf, unused, nodeAt, fields, rightOperands, rightNode, wellFormed, nodesAmong, operands, timesIn, uses, tooDeep, nodesTest, tableTest}
+use Rattle.script.specs.Tests.{all}
 use Rattle.script.specs.Tests.Laws.{both-true, true-both, true-or-false, lowest-none, none-lowest, all-getD, getD-all, need-none, none-need, needNone-none, none-needNone}
 use Rattle.script.specs.declared.Node.{Node}
-use Rattle.script.specs.declared.Refusal.{Refusal}
 use Rattle.script.specs.declared.Refusal.the-variants.{TableTooSmall, TooMany, NoNode, BadTypeCode, BadOperand, NotUsedOnce, TooDeep}
 
 -- the nodes pass the tests 4, 5 and 13
