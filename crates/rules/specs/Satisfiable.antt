@@ -1,5 +1,6 @@
 -- Satisfiable formulas (document 01, 'Symbolic mode'): some assignment of true and false to the different atoms makes the formula true.
 -- Assumes nothing.
+pub mod Laws
 use mathlib.Core.Bool.{Bool, true, false, not, _&&_, _||_, Bool·beq}
 use mathlib.Core.List.{List, [], _∷_, _++_}
 use Prim.Native.Nat.{ℕ}

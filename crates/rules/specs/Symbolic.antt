@@ -1,4 +1,5 @@
 -- Symbolic values (document 01, 'Symbolic mode'): sums for words, formulas over atoms for truths, symbols for references. Assumes nothing.
+pub mod Laws
 use mathlib.Core.Bool.{Bool, true, false, _&&_, _||_}
 use mathlib.Core.List.{List, [], _∷_, _++_}
 use Prim.Native.Nat.{ℕ, zero, suc, _+_, _-_, _%_, _^_}

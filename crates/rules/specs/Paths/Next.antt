@@ -4,7 +4,7 @@ use mathlib.Core.Bool.{Bool, true, false}
 use mathlib.Core.List.{List, [], _∷_, _++_, append-assoc, append-nil}
 use mathlib.Core.Option.{Option, none, some}
 use mathlib.Core.Path.{_≡_, refl, ap, sym, _∙_}
-use Prim.Native.Nat.{ℕ, suc, _<_}
+use Prim.Native.Nat.{suc, _<_}
 use native.Mathlib.Omega.{arith}
 use lib.ListN.{length}
 use Rattle.script.specs.declared.Refusal.{Refusal}
@@ -104,12 +104,12 @@ leavesFrom-start (stops r) = refl
 leavesFrom-start (forks t u) = ap (λ ls. ls ++ leaves u) (leavesFrom-start t)
 
 -- the leaves after a choice of the first branch: the others of that branch, and those of the second
-after-true : (t u : Paths) (n : Option (List Bool)) → leavesAfter t n ++ leaves u ≡ leavesAfter (forks t u) (nextAfter true n)
+pub after-true : (t u : Paths) (n : Option (List Bool)) → leavesAfter t n ++ leaves u ≡ leavesAfter (forks t u) (nextAfter true n)
 unfolding leavesFrom
 after-true t u none = sym (leavesFrom-start u)
 after-true t u (some cs) = refl
 
-after-false : (t u : Paths) (n : Option (List Bool)) → leavesAfter u n ≡ leavesAfter (forks t u) (nextAfter false n)
+pub after-false : (t u : Paths) (n : Option (List Bool)) → leavesAfter u n ≡ leavesAfter (forks t u) (nextAfter false n)
 unfolding leavesFrom
 after-false t u none = refl
 after-false t u (some cs) = refl
@@ -170,22 +170,22 @@ met-within (forks t u) [] = rw (follow-met t (true ∷ []) []) (first (met-withi
 met-within (forks t u) (true ∷ cs) = rw (follow-met t (true ∷ []) cs) (first (met-within t cs))
 met-within (forks t u) (false ∷ cs) = rw (follow-met u (false ∷ []) cs) (second (met-within u cs))
 
-data EachWithin (t : Paths) : Option (List Bool) → Type 0 where
+pub data EachWithin (t : Paths) : Option (List Bool) → Type 0 where
   noMore : EachWithin t none
   oneMore : {cs : List Bool} → Within t cs → EachWithin t (some cs)
 
-theMore : {t : Paths} {cs : List Bool} → EachWithin t (some cs) → Within t cs
+pub theMore : {t : Paths} {cs : List Bool} → EachWithin t (some cs) → Within t cs
 theMore (oneMore w) = w
 
-more-first : {t : Paths} (u : Paths) {n : Option (List Bool)} → EachWithin t n → EachWithin (forks t u) (nextAfter true n)
+pub more-first : {t : Paths} (u : Paths) {n : Option (List Bool)} → EachWithin t n → EachWithin (forks t u) (nextAfter true n)
 more-first u noMore = oneMore (second nowhere)
 more-first u (oneMore w) = oneMore (first w)
 
-more-second : (t : Paths) {u : Paths} {n : Option (List Bool)} → EachWithin u n → EachWithin (forks t u) (nextAfter false n)
+pub more-second : (t : Paths) {u : Paths} {n : Option (List Bool)} → EachWithin u n → EachWithin (forks t u) (nextAfter false n)
 more-second t noMore = noMore
 more-second t (oneMore w) = oneMore (second w)
 
-next-each : {t : Paths} {cs : List Bool} → Within t cs → EachWithin t (next cs)
+pub next-each : {t : Paths} {cs : List Bool} → Within t cs → EachWithin t (next cs)
 unfolding next
 next-each nowhere = noMore
 next-each (first {u = u} w) = more-first u (next-each w)
@@ -203,7 +203,7 @@ within-met (first {t = t} {cs = cs} w) = let h = within-met w in (h .0, rw (foll
 within-met (second {u = u} {cs = cs} w) = let h = within-met w in (h .0, rw (follow-met u (false ∷ []) cs, h .1))
 
 -- and nothing of it is left
-none-left : (t : Paths) (met : List Bool) → leftOf (follow t met []) ≡ []
+pub none-left : (t : Paths) (met : List Bool) → leftOf (follow t met []) ≡ []
 unfolding follow
 none-left (ends v p) met = refl
 none-left (stops r) met = refl
