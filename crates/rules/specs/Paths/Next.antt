@@ -156,7 +156,7 @@ pub data Within : Paths → List Bool → Type 0 where
   first : {t u : Paths} {cs : List Bool} → Within t cs → Within (forks t u) (true ∷ cs)
   second : {t u : Paths} {cs : List Bool} → Within u cs → Within (forks t u) (false ∷ cs)
 
--- the choices left where a following ended
+-- the choices left where a following ended in a value; a refusal keeps none
 abbrev pub leftOf : Trace → List Bool
 leftOf (arrives v p met left) = left
 leftOf (halts r met) = []
@@ -170,6 +170,7 @@ met-within (forks t u) [] = rw (follow-met t (true ∷ []) []) (first (met-withi
 met-within (forks t u) (true ∷ cs) = rw (follow-met t (true ∷ []) cs) (first (met-within t cs))
 met-within (forks t u) (false ∷ cs) = rw (follow-met u (false ∷ []) cs) (second (met-within u cs))
 
+-- a string that may be missing, and is within the tree if it is there
 pub data EachWithin (t : Paths) : Option (List Bool) → Type 0 where
   noMore : EachWithin t none
   oneMore : {cs : List Bool} → Within t cs → EachWithin t (some cs)
@@ -195,20 +196,20 @@ next-each (second {t = t} w) = more-second t (next-each w)
 pub next-within : {t : Paths} {cs ds : List Bool} → Within t cs → next cs ≡ some ds → Within t ds
 next-within w e = theMore (rw e at (next-each w))
 
--- a string within the tree is met whole, and then only the first branches are taken
+-- a string within the tree is met whole: the choices met extend it
 pub within-met : {t : Paths} {cs : List Bool} → Within t cs → (more : List Bool) × (metOf (follow t [] cs) ≡ cs ++ more)
 unfolding follow
 within-met (nowhere {t = t}) = (metOf (follow t [] []), refl)
 within-met (first {t = t} {cs = cs} w) = let h = within-met w in (h .0, rw (follow-met t (true ∷ []) cs, h .1))
 within-met (second {u = u} {cs = cs} w) = let h = within-met w in (h .0, rw (follow-met u (false ∷ []) cs, h .1))
 
--- and nothing of it is left
 pub none-left : (t : Paths) (met : List Bool) → leftOf (follow t met []) ≡ []
 unfolding follow
 none-left (ends v p) met = refl
 none-left (stops r) met = refl
 none-left (forks t u) met = none-left t (met ++ (true ∷ []))
 
+-- where a value is reached, nothing of the string is left
 pub within-left : {t : Paths} {cs : List Bool} (met : List Bool) → Within t cs → leftOf (follow t met cs) ≡ []
 unfolding follow
 within-left met (nowhere {t = t}) = none-left t met
