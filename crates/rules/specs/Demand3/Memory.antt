@@ -107,8 +107,12 @@ fitting {typing} {ρ} {cells} f d live =
     nothing e = let z : _≡_ {A = ℕ} 0 1 = cc in absurd (omega arith)
 
 -- a location that has a type is below the cells
-pub type-live : {typing : List ℕ} {cells : List Value} {l t : ℕ} → Fits typing cells → HasType typing (Location l) t → l < length cells
+type-live : {typing : List ℕ} {cells : List Value} {l t : ℕ} → Fits typing cells → HasType typing (Location l) t → l < length cells
 type-live f (is-location a h) = let e = each-length f in let b = at-below a in omega arith
+
+pub value-live : {typing : List ℕ} {cells : List Value} {x : Value} {t : ℕ} → Fits typing cells → HasType typing x t
+    → (l : ℕ) → x ≡ Location l → l < length cells
+value-live {typing} {t = t} f h l e = type-live f (subst (λ (y : Value). HasType typing y t) e h)
 
 different-origins : {A : Type 0} → made ≡ other → A
 different-origins e = let z : _≡_ {A = ℕ} 0 1 = cc in absurd (omega arith)
@@ -138,7 +142,7 @@ unwritten {n} (w ∷ ws) (and-write h q) =
     ap (λ (b : Bool). pick b (lookup other n ws) (pick (eqb (w .through) n) (some (w .value)) none)) (apart-other (w .origin) (w .through) n)
     ∙ ap (λ (b : Bool). pick b (some (w .value)) none) (ne-eqb (w .through) n (λ e. omega arith))
 
-snoc-length : {A : Type 0} (xs : List A) (x : A) → length (xs ++ (x ∷ [])) ≡ suc (length xs)
+pub snoc-length : {A : Type 0} (xs : List A) (x : A) → length (xs ++ (x ∷ [])) ≡ suc (length xs)
 snoc-length xs x = omega (arith, length-append xs (x ∷ []))
 
 written-more : {n m : ℕ} {log : List Write} → n ≤ m → WrittenBelow n log → WrittenBelow m log

@@ -64,7 +64,7 @@ module _ {typing : List ℕ} {cs : List Value} (f : Fits typing cs) where
   equal-kept n (is-location a h) (is-location b k) = ends-here f is-truth
 
   -- two types that are compared
-  compared : (n : ℕ) {t u : ℕ} (answer : Checked) (o : Outcome) → (t ≡ u → Promise typing answer o) → Promise typing (pick (eqb t u) answer (wrong n)) o
+  pub compared : (n : ℕ) {t u : ℕ} (answer : Checked) (o : Outcome) → (t ≡ u → Promise typing answer o) → Promise typing (pick (eqb t u) answer (wrong n)) o
   compared n {t} {u} answer o k = go (eqb t u) refl
     where
       go : (b : Bool) → eqb t u ≡ b → Promise typing (pick b answer (wrong n)) o
