@@ -76,7 +76,7 @@ follows-good (at-end {v = v} {x = x} q) (and-good c e g) =
       extension = q .extension;
       extends = q .extends;
       fits = consistent-fits (q .state .memory) c;
-      typed = subst (λ (k : ℕ). HasType (q .extension) x k) e (stands-type (q .stands))
+      typed = subst (λ (k : ℕ). HasType (q .extension) x k) e (stands-type (q .stands));
     })
 follows-good (first {t = ps} {u = qs} h) g = follows-good h (good-first (leaves ps) (leaves qs) g)
 follows-good (second {t = ps} h) g = follows-good h (good-second (leaves ps) g)
@@ -141,6 +141,7 @@ constant-holds later = refl
 
 mutual
   unfolding check eval
+
   -- typed mode
   pub typed-promise : (limit : ℕ) (e : Expr) {typing types : List ℕ} {env cs : List Value} → HaveTypes typing env types → Fits typing cs
       → Promise typing (check limit e types) (eval e env cs)
@@ -151,12 +152,12 @@ mutual
   typed-promise limit (binary n o e g) {types = types} {env = env} h f =
       promise-then (λ t. andThen (check limit g types) (binaryType n o t)) (λ v cs₁. after (eval g env cs₁) λ w cs₂. binaryOn n o v w cs₂) (typed-promise limit e h f)
       (λ new t v cs x f₁ k. promise-then (binaryType n o t) (binaryOn n o v) (typed-promise limit g (types-extend x h) f₁)
-        (λ new₂ u w cs₂ y f₂ k₂. binary-kept f₂ n o (type-extends y k) k₂))
+      (λ new₂ u w cs₂ y f₂ k₂. binary-kept f₂ n o (type-extends y k) k₂))
   typed-promise limit (ifElse n c e g) {types = types} {env = env} h f =
       promise-then (λ t. andThen (check limit e types) λ u. andThen (check limit g types) (ifType n t u)) (λ v cs₁. branchOn n v cs₁ (eval e env) (eval g env))
       (typed-promise limit c h f)
       (λ new t v cs x f₁ k. if-kept n (check limit e types) (check limit g types) (eval e env) (eval g env) f₁ k
-        (typed-promise limit e (types-extend x h) f₁) (typed-promise limit g (types-extend x h) f₁))
+      (typed-promise limit e (types-extend x h) f₁) (typed-promise limit g (types-extend x h) f₁))
   typed-promise limit (letIn n e g) {types = types} {env = env} h f =
       promise-then (λ t. check limit g (types ++ (t ∷ []))) (λ v cs₁. eval g (env ++ (v ∷ [])) cs₁) (typed-promise limit e h f)
       (λ new t v cs x f₁ k. typed-promise limit g (each-last (types-extend x h) k) f₁)
@@ -177,11 +178,11 @@ mutual
   symbolic-promise limit (binary n o e g) {vs = vs} {env = env} h s =
       follows-then (λ v p₁. bind (exec limit g vs p₁) (binaryExec n o v)) (λ v cs₁. after (eval g env cs₁) λ w cs₂. binaryOn n o v w cs₂) (symbolic-promise limit e h s)
       (λ typing′ ρ′ v p x cs d r k s₁. follows-then (binaryExec n o v) (binaryOn n o x) (symbolic-promise limit g (each-stands-extends d r h) s₁)
-        (λ typing″ ρ″ w q y cs₂ d₂ r₂ k₂ s₂. binary-follows s₂ n o (stands-extends d₂ r₂ k) k₂))
+      (λ typing″ ρ″ w q y cs₂ d₂ r₂ k₂ s₂. binary-follows s₂ n o (stands-extends d₂ r₂ k) k₂))
   symbolic-promise limit (ifElse n c e g) {vs = vs} {env = env} h s =
       follows-then (λ v p₁. decide n v p₁ (exec limit e vs) (exec limit g vs)) (λ v cs₁. branchOn n v cs₁ (eval e env) (eval g env)) (symbolic-promise limit c h s)
       (λ typing′ ρ′ v p x cs d r k s₁. decide-follows s₁ n (exec limit e vs) (exec limit g vs) (eval e env) (eval g env) k
-        (λ q s₂. symbolic-promise limit e (each-stands-extends d r h) s₂) (λ q s₂. symbolic-promise limit g (each-stands-extends d r h) s₂))
+      (λ q s₂. symbolic-promise limit e (each-stands-extends d r h) s₂) (λ q s₂. symbolic-promise limit g (each-stands-extends d r h) s₂))
   symbolic-promise limit (letIn n e g) {vs = vs} {env = env} h s =
       follows-then (λ v p₁. exec limit g (vs ++ (v ∷ [])) p₁) (λ v cs₁. eval g (env ++ (v ∷ [])) cs₁) (symbolic-promise limit e h s)
       (λ typing′ ρ′ v p x cs d r k s₁. symbolic-promise limit g (each-last (each-stands-extends d r h) k) s₁)

@@ -176,8 +176,8 @@ unfolding sumAt
 equal-sums ρ p q =
     zero-difference ρ (minus p q)
     ∙ as-tests (sumAt ρ (minus p q)) 0 (sumAt ρ p) (sumAt ρ q)
-      (λ e. same-difference (raw ρ (negated q)) (raw-plus ρ p (negated q)) (raw-negated ρ q) (record { same = e ∙ sym (zero-mod (2 ^ 32)) }) .same)
-      (λ e. difference-same (raw ρ (negated q)) (raw-plus ρ p (negated q)) (raw-negated ρ q) (record { same = e }) .same ∙ zero-mod (2 ^ 32))
+    (λ e. same-difference (raw ρ (negated q)) (raw-plus ρ p (negated q)) (raw-negated ρ q) (record { same = e ∙ sym (zero-mod (2 ^ 32)) }) .same)
+    (λ e. difference-same (raw ρ (negated q)) (raw-plus ρ p (negated q)) (raw-negated ρ q) (record { same = e }) .same ∙ zero-mod (2 ^ 32))
 
 -- ---- sameness of atoms
 

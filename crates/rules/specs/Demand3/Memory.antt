@@ -97,7 +97,7 @@ fitting {typing} {ρ} {cells} f d live =
       recent = λ o s l v a e. nothing e;
       written = no-writes;
       apart-cells = d;
-      live = live
+      live = live;
     }
   where
     typed-at : {l t : ℕ} {x : Value} → At cells l x → At typing l t → HasType typing x t
@@ -155,7 +155,7 @@ pending-extends {l = l} e p =
       origin = p .origin;
       through = p .through;
       denotes = e .keeps (p .through) (entry (p .origin) (Location l)) (p .denotes);
-      is-pending = p .is-pending
+      is-pending = p .is-pending;
     }
 
 holds-extends : {typing typing′ : List ℕ} {ρ ρ′ : List Entry} {cells cells′ : List Value} {l : ℕ} {v : Symbolic}
@@ -178,7 +178,7 @@ memory-fresh {typing} {ρ} {cells} {log} {x} m known =
       recent = λ o s l v a e. recently o s l v e (split-last ρ a);
       written = written-more (omega (arith, snoc-length ρ (entry other x))) (m .written);
       apart-cells = record { distinct = λ s u l a b. distinctly s u l (split-last ρ a) (split-last ρ b) };
-      live = λ o s l a. lively o s l (split-last ρ a)
+      live = λ o s l a. lively o s l (split-last ρ a);
     }
   where
     still : {l t : ℕ} {y : Value} → HasType typing y t ⊎ Pending ρ log l → HasType typing y t ⊎ Pending (ρ ++ (entry other x ∷ [])) log l
@@ -246,7 +246,7 @@ memory-ref {typing} {ρ} {cells} {log} {v} {x} m h =
       recent = λ o s l u a e. recently o s l u e (split-last ρ a);
       written = and-write {w = refWrite ρ v} (omega (arith, longer)) (written-more (omega (arith, longer)) (m .written));
       apart-cells = record { distinct = λ s u l a b. distinctly s u l (split-last ρ a) (split-last ρ b) };
-      live = λ o s l a. lively o s l (split-last ρ a)
+      live = λ o s l a. lively o s l (split-last ρ a);
     }
   where
     newest : Entry
@@ -266,7 +266,7 @@ memory-ref {typing} {ρ} {cells} {log} {v} {x} m h =
               origin = p .origin;
               through = p .through;
               denotes = at-append (newest ∷ []) (p .denotes);
-              is-pending = pending-past (refWrite ρ v) log (p .through) (λ q. let k = at-below (p .denotes) in omega arith) (p .is-pending)
+              is-pending = pending-past (refWrite ρ v) log (p .through) (λ q. let k = at-below (p .denotes) in omega arith) (p .is-pending);
             })
     content l t y (inl a) (inr q) = let k = at-below a in absurd (omega (arith, m .as-many, q .0))
     content l t y (inr q) (inl b) = let k = at-below b in absurd (omega (arith, m .as-many, q .0))
@@ -287,7 +287,7 @@ memory-ref {typing} {ρ} {cells} {log} {v} {x} m h =
         (λ p r. record {
           content = x;
           placed = subst (λ (k : ℕ). At (cells ++ (x ∷ [])) k x) (sym (location-inside (value-of (q .1)))) (at-last cells x);
-          stands = stands-extends (extends-append (typeOf v ∷ [])) (extends-append (newest ∷ [])) (subst (λ (k : Symbolic). StandsFor typing ρ k x) r h)
+          stands = stands-extends (extends-append (typeOf v ∷ [])) (extends-append (newest ∷ [])) (subst (λ (k : Symbolic). StandsFor typing ρ k x) r h);
         })
 
     distinctly : (s u l : ℕ) → At ρ s (entry made (Location l)) ⊎ ((s ≡ length ρ) × (entry made (Location l) ≡ newest))
@@ -317,7 +317,7 @@ memory-set {typing} {ρ} {cells} {log} {o} {t} {s} {l} {v} {x} m denotes cell h 
       recent = recently;
       written = and-write {w = newest} (at-below denotes) (m .written);
       apart-cells = m .apart-cells;
-      live = λ p u k a. omega (arith, m .live p u k a, length-set cells l x)
+      live = λ p u k a. omega (arith, m .live p u k a, length-set cells l x);
     }
   where
     newest : Write
@@ -337,7 +337,7 @@ memory-set {typing} {ρ} {cells} {log} {o} {t} {s} {l} {v} {x} m denotes cell h 
           denotes = denotes;
           is-pending =
               ap (λ (b : Bool). pick b (pick (isRight newest) false true) (pending log s)) (eq-eqb s s refl)
-              ∙ ap (λ (b : Bool). pick b false true) e
+              ∙ ap (λ (b : Bool). pick b false true) e;
         })
 
     content : (k u : ℕ) (y : Value) → At (set cells l x) k y → At typing k u → (b : Bool) → eqb k l ≡ b → HasType typing y u ⊎ Pending ρ (newest ∷ log) k
@@ -354,20 +354,20 @@ memory-set {typing} {ρ} {cells} {log} {o} {t} {s} {l} {v} {x} m denotes cell h 
               origin = p .origin;
               through = p .through;
               denotes = p .denotes;
-              is-pending = pending-past newest log (p .through) (λ q. eqb-false k l e (same-cell (p .denotes) (subst (λ (z : ℕ). At ρ z (entry o (Location l))) q denotes))) (p .is-pending)
+              is-pending = pending-past newest log (p .through) (λ q. eqb-false k l e (same-cell (p .denotes) (subst (λ (z : ℕ). At ρ z (entry o (Location l))) q denotes))) (p .is-pending);
             })
 
     recently : (p : Origin) (u k : ℕ) (w : Symbolic) → At ρ u (entry p (Location k)) → lookup p u (newest ∷ log) ≡ some w → Holds typing ρ (set cells l x) k w
     recently p u k w a e =
         lookup-after newest log p u e
         (λ q r. let old = m .recent p u k w a r in
-          record {
-            content = old .content;
-            placed = at-set-other x (λ z. apart-differ (m .apart-cells) denotes a q (sym z)) (old .placed);
-            stands = old .stands
-          })
+        record {
+          content = old .content;
+          placed = at-set-other x (λ z. apart-differ (m .apart-cells) denotes a q (sym z)) (old .placed);
+          stands = old .stands;
+        })
         (λ q r. record {
           content = x;
           placed = subst (λ (z : ℕ). At (set cells l x) z x) (same-cell (subst (λ (z : ℕ). At ρ z (entry o (Location l))) q denotes) a) stored;
-          stands = subst (λ (z : Symbolic). StandsFor typing ρ z x) r h
+          stands = subst (λ (z : Symbolic). StandsFor typing ρ z x) r h;
         })

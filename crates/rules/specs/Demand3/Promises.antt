@@ -76,7 +76,7 @@ follows-earlier d r (at-end q) =
       extends = extends-trans d (q .extends);
       extends-valuation = extends-trans r (q .extends-valuation);
       stands = q .stands;
-      state = q .state
+      state = q .state;
     })
 follows-earlier d r at-stop = at-stop
 follows-earlier d r (first q) = first (follows-earlier d r q)
@@ -85,7 +85,7 @@ follows-earlier d r (second q) = second (follows-earlier d r q)
 pub follows-then : {typing : List ℕ} {ρ : List Entry} {t : Paths} {o : Outcome} (k : Symbolic → Path → Paths) (j : Value → List Value → Outcome)
     → Follows typing ρ t o
     → ((typing′ : List ℕ) (ρ′ : List Entry) (v : Symbolic) (p : Path) (x : Value) (cs : List Value) → Extends typing typing′ → Extends ρ ρ′
-      → StandsFor typing′ ρ′ v x → State typing′ ρ′ p cs → Follows typing′ ρ′ (k v p) (j x cs))
+    → StandsFor typing′ ρ′ v x → State typing′ ρ′ p cs → Follows typing′ ρ′ (k v p) (j x cs))
     → Follows typing ρ (bind t k) (after o j)
 unfolding bind
 follows-then k j (at-end {v = v} {p = p} {x = x} {cs = cs} q) f =

@@ -56,8 +56,8 @@ fresh-follows {typing} {ρ} {p} {x} {cs} {t} s h live =
           record {
             counted = ap suc (s .counted) ∙ sym (snoc-length ρ (entry other x));
             condition-holds = later-holds (p .condition) (extends-append (entry other x ∷ [])) (s .condition-holds);
-            memory = memory-fresh (s .memory) live
-          }
+            memory = memory-fresh (s .memory) live;
+          };
     })
 
 -- ---- operators of one operand
@@ -72,10 +72,10 @@ module _ {typing : List ℕ} {ρ : List Entry} {p : Path} {cs : List Value} (s :
 
       go : (b : Bool) → isType (suc (suc (typeOf v))) ≡ b
           → Follows typing ρ
-            (pick b
-            (ends (aReference made (typeOf v) (p .next)) (write (record { origin = made; cell = typeOf v; through = p .next; value = v }) (taken p)))
-            (stops (TooManyReferences n)))
-            (gave (Location (length cs)) (cs ++ (x ∷ [])))
+          (pick b
+          (ends (aReference made (typeOf v) (p .next)) (write (record { origin = made; cell = typeOf v; through = p .next; value = v }) (taken p)))
+          (stops (TooManyReferences n)))
+          (gave (Location (length cs)) (cs ++ (x ∷ [])))
       go true e =
           at-end (record {
             extension = typing ++ (typeOf v ∷ []);
@@ -92,8 +92,8 @@ module _ {typing : List ℕ} {ρ : List Entry} {p : Path} {cs : List Value} (s :
                   condition-holds = later-holds (p .condition) (extends-append (newest ∷ [])) (s .condition-holds);
                   memory =
                       subst (λ (k : ℕ). Memory (typing ++ (typeOf v ∷ [])) (ρ ++ (newest ∷ [])) (cs ++ (x ∷ [])) (record { origin = made; cell = typeOf v; through = k; value = v } ∷ p .log))
-                      (sym (s .counted)) (memory-ref (s .memory) h)
-                }
+                      (sym (s .counted)) (memory-ref (s .memory) h);
+                };
           })
       go false e = at-stop
 
@@ -225,8 +225,8 @@ module _ {typing : List ℕ} {ρ : List Entry} {p : Path} {cs : List Value} (s :
 
       go : (c : Bool)
           → Follows typing ρ
-            (pick c (branches (satisfiable whenTrue) (satisfiable whenFalse) e f (assume whenTrue p) (assume whenFalse p)) (stops (TooManyAtoms n)))
-            (branchOn n (Truth b) cs i j)
+          (pick c (branches (satisfiable whenTrue) (satisfiable whenFalse) e f (assume whenTrue p) (assume whenFalse p)) (stops (TooManyAtoms n)))
+          (branchOn n (Truth b) cs i j)
       go true = side b refl
       go false = at-stop
   decide-follows n e f i j (reference-for a b h) k l = at-stop
@@ -241,7 +241,7 @@ module _ {typing : List ℕ} {ρ : List Entry} {p : Path} {cs : List Value} (s :
       (record {
         counted = s .counted;
         condition-holds = s .condition-holds;
-        memory = fitting (q .fits) (s .memory .apart-cells) (λ o u l a. still l (s .memory .live o u l a))
+        memory = fitting (q .fits) (s .memory .apart-cells) (λ o u l a. still l (s .memory .live o u l a));
       })
       (q .typed) (value-live (q .fits) (q .typed)))
     where

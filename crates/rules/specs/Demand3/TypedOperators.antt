@@ -41,7 +41,7 @@ module _ {typing : List ℕ} {cs : List Value} (f : Fits typing cs) where
             extension = typing ++ (t ∷ []);
             extends = extends-append (t ∷ []);
             fits = each-last (types-extend (extends-append (t ∷ [])) f) (type-extends (extends-append (t ∷ [])) h);
-            typed = is-location placed (leb-true (suc (suc t)) 31 e)
+            typed = is-location placed (leb-true (suc (suc t)) 31 e);
           })
       go false e = free
 
@@ -93,5 +93,5 @@ module _ {typing : List ℕ} {cs : List Value} (f : Fits typing cs) where
       let q = each-at f a in
       compared n (Accepted t) (found (getElem? cs l) (failed n cs) λ u. gave w (set cs l w))
       (λ e. let k′ = subst (λ (x : ℕ). HasType typing w x) (sym e) k in
-        subst (λ (o : Option Value). Promise typing (Accepted t) (found o (failed n cs) λ u. gave w (set cs l w))) (sym (at-found (q .1)))
-        (ends-here (each-set f a k′) k′))
+      subst (λ (o : Option Value). Promise typing (Accepted t) (found o (failed n cs) λ u. gave w (set cs l w))) (sym (at-found (q .1)))
+      (ends-here (each-set f a k′) k′))
