@@ -2,10 +2,10 @@
 -- the error state, never with a refusal; every such typing has an extension that fits the end cells and gives the value the reported type.
 -- Proved over the rules and evaluation, for every path limit. Assumes nothing.
 use mathlib.Core.Path.{_≡_, refl, sym, ap, _∙_, subst}
-use mathlib.Core.Bool.{Bool, true, false, _&&_}
-use mathlib.Core.List.{List, [], _∷_, _++_}
+use mathlib.Core.Bool.{Bool, true}
+use mathlib.Core.List.{List}
 use mathlib.Core.Option.{Option, none, some}
-use Prim.Native.Nat.{ℕ, _*_, _≤_, _<_, _^_}
+use Prim.Native.Nat.{ℕ, _*_, _≤_}
 use native.Mathlib.Omega.{arith}
 use lib.ListN.{length, drop}
 use Rattle.script.specs.Table.{Table, entriesOf, tableTest}
@@ -17,17 +17,16 @@ use Rattle.script.specs.declared.Ran.{Ran}
 use Rattle.script.specs.declared.Refusal.{Refusal}
 use Rattle.script.specs.declared.Refusal.the-variants.{BadCells, BadValues}
 use Rattle.script.specs.declared.Value.{Value}
-use Rattle.script.specs.declared.Value.the-variants.{Word, Truth, Location}
 use Rattle.rules.specs.Checking.{check, answered, checkTable}
-use Rattle.rules.specs.Evaluation.{Outcome, gave, failed}
+use Rattle.rules.specs.Evaluation.{Outcome}
 use Rattle.rules.specs.Evaluation.Laws.{cellsOf}
-use Rattle.rules.specs.Running.{Run, valuesOf, allBytes, stored, finished, ranBy, rightCells, rightValues, withinLimits, runTest, runTable, lentLimit}
+use Rattle.rules.specs.Running.{Run, valuesOf, finished, ranBy, rightCells, rightValues, withinLimits, runTest, runTable, lentLimit}
 use Rattle.rules.specs.Running.Laws.{InRange, wordInRange, truthInRange, locationInRange, AllInRange, noValue, oneValue, values-bytes}
 use Rattle.rules.specs.Running.Room.{outcome, cells-suffice}
-use Rattle.rules.specs.Typings.{At, HasType, is-word, is-truth, is-location, Each, empty, also, Fits, HaveTypes, Extends}
+use Rattle.rules.specs.Typings.{HasType, is-word, is-truth, is-location, empty, also, Fits, HaveTypes, Extends}
 use Rattle.rules.specs.Typings.Laws.{at-below, each-length}
 use Induction.{typed-promise}
-use Promises.{Ends, Promise, kept, free}
+use Promises.{Promise, kept}
 pub mod Congruence
 pub mod Induction
 pub mod Meaning

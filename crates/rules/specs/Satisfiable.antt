@@ -1,9 +1,8 @@
 -- Satisfiable formulas (document 01, 'Symbolic mode'): some assignment of true and false to the different atoms makes the formula true.
 -- Assumes nothing.
 pub mod Laws
-use mathlib.Core.Bool.{Bool, true, false, not, _&&_, _||_, Bool·beq}
+use mathlib.Core.Bool.{Bool, false, not, _&&_, _||_, Bool·beq}
 use mathlib.Core.List.{List, [], _∷_, _++_}
-use Prim.Native.Nat.{ℕ}
 use Rattle.script.specs.Tests.{pick}
 use Rattle.rules.specs.Symbolic.{Atom, Formula, constantly, atom, negation, conjunction, equality, sameAtom}
 

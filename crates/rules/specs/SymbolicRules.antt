@@ -9,11 +9,10 @@ use Rattle.script.specs.Rows.{UnaryOp, notOp, refOp, getOp, BinaryOp, addOp, eq
 use Rattle.script.specs.Tests.{pick}
 use Rattle.script.specs.declared.Checked.{Checked}
 use Rattle.script.specs.declared.Checked.the-variants.{Accepted, Refused}
-use Rattle.script.specs.declared.Refusal.{Refusal}
 use Rattle.script.specs.declared.Refusal.the-variants.{WrongType, UnknownVariable, TooManyReferences, InconsistentLog, TooManyAtoms, PathTypesDiffer, TooManyPaths}
-use Rattle.rules.specs.Paths.{Path, Paths, Write, Leaf, ends, stops, forks, ended, stopped, assume, write, taken, forget, consistent, lookup, fresh}
+use Rattle.rules.specs.Paths.{Path, Paths, Leaf, ends, stops, forks, ended, stopped, assume, write, taken, forget, consistent, lookup, fresh}
 use Rattle.rules.specs.Satisfiable.{satisfiable, differentAtoms}
-use Rattle.rules.specs.Symbolic.{Formula, atom, negation, conjunction, equality, Origin, made, Sum, plus, Symbolic, aWord, aTruth, aReference, typeOf, equalSums, equalReferences}
+use Rattle.rules.specs.Symbolic.{Formula, negation, conjunction, equality, Origin, made, Sum, plus, Symbolic, aWord, aTruth, aReference, typeOf, equalSums, equalReferences}
 use Rattle.rules.specs.TypedRules.{isType}
 
 -- a value of the type wanted, or else the other answer

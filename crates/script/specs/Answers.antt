@@ -1,6 +1,6 @@
 -- Document 01's number and place of each refusal ('Turned down'), and the kind and the 32 bits of each value ('Evaluation').
 -- Assumes nothing.
-use mathlib.Core.Bool.{Bool, true, false}
+use mathlib.Core.Bool.{true, false}
 use Prim.Native.Nat.{ℕ}
 use Rattle.script.specs.declared.Place.{Place}
 use Rattle.script.specs.declared.Place.the-variants.{Nowhere, At}

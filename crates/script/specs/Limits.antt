@@ -29,11 +29,11 @@ abbrev pub pickSized : Bool → Sized → Sized
 pickSized true s = s
 pickSized false s = TooLarge
 
-abbrev pub withinLimits : ℕ → ℕ → Bool
-withinLimits n m = leb n nodeLimit && leb m entryLimit
+abbrev pub countsFit : ℕ → ℕ → Bool
+countsFit n m = leb n nodeLimit && leb m entryLimit
 
 abbrev pub scriptOf : ℕ → ℕ → Sized
-scriptOf n m = pickSized (withinLimits n m) (Fits (sizeOf n m))
+scriptOf n m = pickSized (countsFit n m) (Fits (sizeOf n m))
 
 abbrev pub withNode : Script → Sized
 withNode s = pickSized (ltb (s .nodes) nodeLimit) (Fits (sizeOf (s .nodes + 1) (s .entries)))

@@ -1,13 +1,13 @@
 -- A table as a call lends it, and the tests that a table passes or is turned down by (document 01, 'Turned down': 32, 2, 3, 33, 4, 5, 13, in
 -- this order). Only the used places are looked at, and a refusal names the lowest node that it fits. Assumes nothing.
-use mathlib.Core.Bool.{Bool, true, false, not, _&&_}
+use mathlib.Core.Bool.{Bool, false, not, _&&_}
 use mathlib.Core.List.{List, [], _∷_}
 use mathlib.Core.Option.{Option, none, some}
-use Prim.Native.Nat.{ℕ, zero, suc, _+_, pred}
+use Prim.Native.Nat.{ℕ, suc, _+_, pred}
 use lib.Dec.{leb, ltb, eqb}
 use lib.ListN.{length, take, drop, getD}
-use Rattle.script.specs.Limits.{nodeLimit, entryLimit, nestingLimit, withinLimits}
-use Rattle.script.specs.Rows.{Row, Form, rowOf, numberUpTo, isSym}
+use Rattle.script.specs.Limits.{nodeLimit, entryLimit, nestingLimit, countsFit}
+use Rattle.script.specs.Rows.{Row, rowOf, numberUpTo, isSym}
 use Rattle.script.specs.Tests.{pick, all, lowest, need, needNone}
 use Rattle.script.specs.declared.Node.{Node}
 use Rattle.script.specs.declared.Refusal.{Refusal}
@@ -103,7 +103,7 @@ nodesTest ns =
 unfoldable pub tableTest : Table → Option Refusal
 tableTest t =
     need (leb nodeLimit (length (t .lentNodes)) && leb entryLimit (length (t .lentEntries))) TableTooSmall
-    (need (withinLimits (t .nodeCount) (t .entryCount)) TooMany
+    (need (countsFit (t .nodeCount) (t .entryCount)) TooMany
     (need (ltb 0 (t .nodeCount)) NoNode
     (need (all (λ c. leb c 31) (entriesOf t)) BadTypeCode
     (nodesTest (nodesOf t)))))

@@ -1,9 +1,9 @@
 -- The tree of a table (document 01, 'Script text'): each node with its number, over the trees of its operands. The nodes are grouped by how many
 -- operands they take, with the operator as a parameter. Assumes nothing.
-use mathlib.Core.Bool.{Bool, true, false}
+use mathlib.Core.Bool.{Bool, false}
 use mathlib.Core.List.{List, [], _∷_, _++_}
 use mathlib.Core.Option.{Option, none, some}
-use Prim.Native.Nat.{ℕ, zero, suc, _+_, pred}
+use Prim.Native.Nat.{ℕ, suc, _+_, pred}
 use lib.ListN.{length, getD}
 use Rattle.script.specs.Rows.{Row, Form, UnaryOp, BinaryOp, intForm, varForm, ifForm, letForm, typedForm, symForm, truthForm, unaryForm, binaryForm, rowOf}
 use Rattle.script.specs.Table.{Table, nodesOf}

@@ -1,6 +1,6 @@
 -- Numbers that are equal modulo another one, over any modulus. Assumes nothing.
 use mathlib.Core.Path.{_≡_, refl, sym, ap, _∙_}
-use Prim.Native.Nat.{ℕ, zero, _+_, _*_, _-_, _/_, _%_, _≤_, _<_}
+use Prim.Native.Nat.{ℕ, _+_, _*_, _-_, _/_, _%_, _<_}
 use native.Mathlib.Nat.{add-mod, mod-mod, mod-add-div, add-mul-mod-self-left, add-mul, mul-assoc, mod-self, mod-lt, zero-mod, add-zero, zero-add, sub-add-cancel, le-of-lt}
 use native.Mathlib.Omega.{arith}
 

@@ -1,10 +1,10 @@
 -- The rules' promise, for every tree: what typed mode accepts ends with a value of the type, and a run follows a path of symbolic mode's decision
 -- tree. One induction over trees, with the operator as a parameter. Assumes nothing.
-use mathlib.Core.Path.{_≡_, refl, sym, ap, _∙_, subst}
+use mathlib.Core.Path.{_≡_, refl, sym, _∙_, subst}
 use mathlib.Core.Bool.{Bool, true, false}
 use mathlib.Core.List.{List, [], _∷_, _++_, map}
 use mathlib.Core.Option.{Option, none, some}
-use Prim.Native.Nat.{ℕ, zero, suc, _%_, _^_}
+use Prim.Native.Nat.{ℕ, zero, suc}
 use native.Mathlib.Nat.{mod-lt}
 use native.Mathlib.Omega.{arith}
 use lib.Dec.{eqb, lit<}
@@ -17,21 +17,21 @@ use Rattle.script.specs.declared.Checked.the-variants.{Accepted, Refused}
 use Rattle.script.specs.declared.Refusal.{Refusal}
 use Rattle.script.specs.declared.Refusal.the-variants.{InconsistentLog, PathTypesDiffer}
 use Rattle.script.specs.declared.Value.{Value}
-use Rattle.script.specs.declared.Value.the-variants.{Word, Truth, Location}
+use Rattle.script.specs.declared.Value.the-variants.{Truth}
 use Rattle.rules.specs.Checking.{known, check, exec}
 use Rattle.rules.specs.Demand3.Meaning.{Entry, entry, atomAt}
 use Rattle.rules.specs.Demand3.Memory.{consistent-fits, memory-start}
-use Rattle.rules.specs.Demand3.Promises.{Ends, Promise, kept, free, promise-then, State, Reached, Follows, at-end, at-stop, first, second, follows-then}
+use Rattle.rules.specs.Demand3.Promises.{Promise, kept, free, promise-then, State, Follows, at-end, at-stop, first, second, follows-then}
 use Rattle.rules.specs.Demand3.Stands.{StandsFor, stands-extends, each-stands-extends, stands-type, stand-types, symbols-stand, valuation, number-stands, constantly-stands}
 use Rattle.rules.specs.Demand3.SymbolicOperators.{ends-with, unary-follows, binary-follows, decide-follows, typed-follows}
 use Rattle.rules.specs.Demand3.TypedOperators.{ends-here, unary-kept, binary-kept, compared}
 use Rattle.rules.specs.Evaluation.{Outcome, gave, failed, after, found, branchOn, unaryOn, binaryOn, eval}
-use Rattle.rules.specs.Paths.{Path, Paths, Leaf, ends, stops, forks, ended, stopped, start, consistent, bind, leaves}
+use Rattle.rules.specs.Paths.{Path, Paths, Leaf, ends, ended, stopped, consistent, bind, leaves}
 use Rattle.rules.specs.Satisfiable.{holds}
-use Rattle.rules.specs.Symbolic.{constantly, other, Symbolic, typeOf, symbols}
+use Rattle.rules.specs.Symbolic.{constantly, other, Symbolic, typeOf}
 use Rattle.rules.specs.SymbolicRules.{unaryExec, binaryExec, decide, variable, firstType, judge, verdict}
-use Rattle.rules.specs.TypedRules.{andThen, wrong, unaryType, binaryType, ifType}
-use Rattle.rules.specs.Typings.{At, HasType, is-word, is-truth, is-location, Each, Fits, HaveTypes, Extends}
+use Rattle.rules.specs.TypedRules.{andThen, unaryType, binaryType, ifType}
+use Rattle.rules.specs.Typings.{HasType, is-word, is-truth, is-location, Each, Fits, HaveTypes}
 use Rattle.rules.specs.Typings.Laws.{at-found, found-at, each-at, each-from, each-last, each-length, type-extends, types-extend}
 
 -- ---- the paths of a `sym`

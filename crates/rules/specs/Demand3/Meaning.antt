@@ -1,22 +1,23 @@
 -- What symbolic values mean under a valuation of the symbols: words of sums, truths of formulas. Equality of sums means equality of words, and what the
 -- atoms are under a valuation respects sameness of atoms. Assumes nothing.
-use mathlib.Core.Path.{_≡_, refl, sym, ap, _∙_, subst}
-use mathlib.Core.Bool.{Bool, true, false, not, _&&_, _||_}
+use mathlib.Core.Path.{_≡_, refl, sym, ap, _∙_}
+use mathlib.Core.Bool.{Bool, true, false}
 use mathlib.Core.List.{List, [], _∷_, _++_}
-use mathlib.Core.Logic.{_⊎_, inl, inr}
 use mathlib.Core.Option.{Option, none, some}
-use Prim.Native.Nat.{ℕ, zero, suc, _+_, _*_, _-_, _%_, _^_, _<_}
+use Prim.Native.Nat.{ℕ, _+_, _*_, _%_, _^_, _<_}
 use native.Mathlib.Nat.{add-mul, zero-mul, one-mul, mod-lt, mod-eq-of-lt, zero-mod, add-zero, zero-add}
 use native.Mathlib.Omega.{arith}
 use lib.Dec.{eqb, lit<}
-use lib.ListN.{length, getElem?, replicate}
+use lib.ListN.{getElem?, replicate}
 use borrow.Author.Tests.{eqb-true, eqb-false, eq-eqb, ne-eqb}
 use Rattle.script.specs.Tests.{pick, all}
+use Rattle.script.specs.Tests.Laws.{both-true}
 use Rattle.script.specs.declared.Value.{Value}
 use Rattle.script.specs.declared.Value.the-variants.{Word, Truth, Location}
 use Rattle.rules.specs.Demand3.Congruence.{Same, same-refl, same-eq, same-sym, same-trans, same-mod, same-plus, same-times, same-opposite, same-difference, difference-same, right-of-sum, left-of-sum}
 use Rattle.rules.specs.Satisfiable.{holds}
-use Rattle.rules.specs.Symbolic.{Sum, number, wordSymbol, plusEach, plus, opposite, oppositeEach, negated, minus, sameNumber, isZero, sameEach, sameSum, Atom, truthSymbol, pair, difference, sameAtom, Formula, constantly, atom, Origin, made, other, isConstant, zeroDifference, equalSums}
+use Rattle.rules.specs.Symbolic.{Sum, number, wordSymbol, plusEach, plus, opposite, oppositeEach, negated, minus, sameNumber, isZero, sameEach, sameSum, Atom, truthSymbol, pair, difference, sameAtom, constantly, atom, Origin, isConstant, zeroDifference, equalSums}
+use Rattle.rules.specs.Symbolic.Laws.{SameAtoms, oneTruth, straight, crossed, sameDifference, opposites, same-atoms, congruent-same}
 use Rattle.rules.specs.Typings.{At, here, there}
 
 -- what a symbol stands for: its origin and its value
@@ -139,10 +140,6 @@ sum-symbol {ρ} {s} {w} a h = ap (λ (x : ℕ). x % 2 ^ 32) (zero-add _ ∙ weig
 
 -- ---- equality of sums
 
-pub and-true : (a b : Bool) → a && b ≡ true → (a ≡ true) × (b ≡ true)
-and-true true b e = (refl, e)
-and-true false b e = let z : _≡_ {A = ℕ} 0 1 = cc in absurd (omega arith)
-
 zero-same : (x : ℕ) → isZero x ≡ true → Same³² x 0
 zero-same x e = record { same = eqb-true (x % 2 ^ 32) (0 % 2 ^ 32) e }
 
@@ -151,7 +148,7 @@ unfolding weigh
 weigh-zero [] ρ e = same-refl 0
 weigh-zero (x ∷ xs) [] e = same-refl 0
 weigh-zero (x ∷ xs) (d ∷ ρ) e =
-    let h = and-true (isZero x) (all isZero xs) e in
+    let h = both-true (isZero x) (all isZero xs) e in
     let w = wordIn (d .value) in
     same-trans (same-plus (same-times w (zero-same x (h .0))) (weigh-zero xs ρ (h .1))) (same-eq (ap (λ (z : ℕ). z + 0) (zero-mul w)))
 
@@ -187,13 +184,13 @@ weigh-same [] ys ρ e = same-sym (weigh-zero ys ρ e)
 weigh-same (x ∷ xs) [] ρ e = weigh-zero (x ∷ xs) ρ e
 weigh-same (x ∷ xs) (y ∷ ys) [] e = same-refl 0
 weigh-same (x ∷ xs) (y ∷ ys) (d ∷ ρ) e =
-    let h = and-true (sameNumber x y) (sameEach xs ys) e in
+    let h = both-true (sameNumber x y) (sameEach xs ys) e in
     same-plus (same-times (wordIn (d .value)) (record { same = eqb-true (x % 2 ^ 32) (y % 2 ^ 32) (h .0) })) (weigh-same xs ys ρ (h .1))
 
 same-sums : (ρ : List Entry) (p q : Sum) → sameSum p q ≡ true → sumAt ρ p ≡ sumAt ρ q
 unfolding sameSum sumAt
 same-sums ρ p q e =
-    let h = and-true (sameNumber (p .constant) (q .constant)) (sameEach (p .coefficients) (q .coefficients)) e in
+    let h = both-true (sameNumber (p .constant) (q .constant)) (sameEach (p .coefficients) (q .coefficients)) e in
     same-plus (record { same = eqb-true (p .constant % 2 ^ 32) (q .constant % 2 ^ 32) (h .0) }) (weigh-same (p .coefficients) (q .coefficients) ρ (h .1)) .same
 
 -- a sum is 0 where its negation is
@@ -210,36 +207,17 @@ negated-zero ρ q =
 eqb-turned : (a b : ℕ) → eqb a b ≡ eqb b a
 eqb-turned a b = as-tests a b b a sym sym
 
-or-true : (a b : Bool) → a || b ≡ true → (a ≡ true) ⊎ (b ≡ true)
-or-true true b e = inl refl
-or-true false b e = inr e
-
-never : {A : Type 0} → false ≡ true → A
-never e = let z : _≡_ {A = ℕ} 0 1 = cc in absurd (omega arith)
-
 pub atoms-respect : (ρ : List Entry) (x y : Atom) → sameAtom x y ≡ true → atomAt ρ x ≡ atomAt ρ y
-unfolding sameAtom atomAt
-atoms-respect ρ (truthSymbol s) (truthSymbol u) e = ap (λ (k : ℕ). truthIn (getElem? ρ k)) (eqb-true s u e)
-atoms-respect ρ (truthSymbol s) (pair u v) e = never e
-atoms-respect ρ (truthSymbol s) (difference q) e = never e
-atoms-respect ρ (pair r s) (truthSymbol u) e = never e
-atoms-respect ρ (pair r s) (pair u v) e = go (or-true (eqb r u && eqb s v) (eqb r v && eqb s u) e)
+unfolding atomAt
+atoms-respect ρ x y e = go (same-atoms x y e)
   where
     place : ℕ → ℕ
     place k = locationIn (getElem? ρ k)
 
-    go : (eqb r u && eqb s v ≡ true) ⊎ (eqb r v && eqb s u ≡ true) → eqb (place r) (place s) ≡ eqb (place u) (place v)
-    go (inl h) =
-        let (p, q) = and-true (eqb r u) (eqb s v) h in
-        ap (λ (k : ℕ). eqb (place k) (place s)) (eqb-true r u p) ∙ ap (λ (k : ℕ). eqb (place u) (place k)) (eqb-true s v q)
-    go (inr h) =
-        let (p, q) = and-true (eqb r v) (eqb s u) h in
-        ap (λ (k : ℕ). eqb (place k) (place s)) (eqb-true r v p) ∙ ap (λ (k : ℕ). eqb (place v) (place k)) (eqb-true s u q) ∙ eqb-turned (place v) (place u)
-atoms-respect ρ (pair r s) (difference q) e = never e
-atoms-respect ρ (difference p) (truthSymbol u) e = never e
-atoms-respect ρ (difference p) (pair u v) e = never e
-atoms-respect ρ (difference p) (difference q) e = go (or-true (sameSum p q) (sameSum p (negated q)) e)
-  where
-    go : (sameSum p q ≡ true) ⊎ (sameSum p (negated q) ≡ true) → eqb (sumAt ρ p) 0 ≡ eqb (sumAt ρ q) 0
-    go (inl h) = ap (λ (k : ℕ). eqb k 0) (same-sums ρ p q h)
-    go (inr h) = ap (λ (k : ℕ). eqb k 0) (same-sums ρ p (negated q) h) ∙ negated-zero ρ q
+    go : {x y : Atom} → SameAtoms x y → atomAt ρ x ≡ atomAt ρ y
+    go (oneTruth q) = ap (λ (k : ℕ). truthIn (getElem? ρ k)) q
+    go (straight {s = s} {u = u} p q) = ap (λ (k : ℕ). eqb (place k) (place s)) p ∙ ap (λ (k : ℕ). eqb (place u) (place k)) q
+    go (crossed {s = s} {u = u} {v = v} p q) =
+        ap (λ (k : ℕ). eqb (place k) (place s)) p ∙ ap (λ (k : ℕ). eqb (place v) (place k)) q ∙ eqb-turned (place v) (place u)
+    go (sameDifference {p = p} {q = q} c) = ap (λ (k : ℕ). eqb k 0) (same-sums ρ p q (congruent-same p q c))
+    go (opposites {p = p} {q = q} c) = ap (λ (k : ℕ). eqb k 0) (same-sums ρ p (negated q) (congruent-same p (negated q) c)) ∙ negated-zero ρ q

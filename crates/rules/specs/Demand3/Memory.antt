@@ -1,24 +1,25 @@
 -- The cells beside the write log of a path. Each cell's content has its type, or a symbol that denotes the cell has a wrong write that no right one
 -- followed; a consistent log leaves none of these, so the typing then fits the cells. Each step of a path keeps this. Assumes nothing.
 use mathlib.Core.Path.{_≡_, refl, sym, ap, _∙_, subst}
-use mathlib.Core.Bool.{Bool, true, false, _&&_, _||_}
-use mathlib.Core.List.{List, [], _∷_, _++_, map}
+use mathlib.Core.Bool.{Bool, true, false, _&&_, _||_, true≢false}
+use mathlib.Core.List.{List, [], _∷_, _++_}
 use mathlib.Core.Logic.{_⊎_, inl, inr}
-use mathlib.Core.Option.{Option, none, some}
-use Prim.Native.Nat.{ℕ, zero, suc, _+_, _≤_, _<_}
+use mathlib.Core.Option.{none, some}
+use Prim.Native.Nat.{ℕ, suc, _≤_, _<_}
 use native.Mathlib.Omega.{arith}
 use lib.Dec.{eqb}
 use lib.ListN.{length, set, length-append, length-set}
 use borrow.Author.Tests.{eqb-true, eqb-false, eq-eqb, ne-eqb}
 use Rattle.script.specs.Tests.{pick}
+use Rattle.script.specs.Tests.Laws.{both-true, some-not-none}
 use Rattle.script.specs.declared.Value.{Value}
-use Rattle.script.specs.declared.Value.the-variants.{Word, Truth, Location}
-use Rattle.rules.specs.Demand3.Meaning.{Entry, entry, and-true}
+use Rattle.script.specs.declared.Value.the-variants.{Location}
+use Rattle.rules.specs.Demand3.Meaning.{Entry, entry}
 use Rattle.rules.specs.Demand3.Stands.{StandsFor, Distinct, stands-extends, stands-type, apart-differ, apart-symbols, same-cell, valuation}
 use Rattle.rules.specs.Paths.{Write, isRight, has, consistentAfter, lookup}
 use Rattle.rules.specs.Symbolic.{Origin, made, other, Symbolic, typeOf, apart}
-use Rattle.rules.specs.Typings.{At, here, there, HasType, is-word, is-truth, is-location, Each, Fits, HaveTypes, Extends}
-use Rattle.rules.specs.Typings.Laws.{split-last, at-below, below-at, at-same, at-append, at-last, at-set-same, at-set-other, at-unset, extends-self, extends-append, extends-length, each-length, each-at, each-from, each-by, type-extends}
+use Rattle.rules.specs.Typings.{At, here, there, HasType, is-location, Fits, HaveTypes, Extends}
+use Rattle.rules.specs.Typings.Laws.{split-last, at-below, below-at, at-same, at-append, at-last, at-set-same, at-set-other, at-unset, extends-self, extends-append, each-length, each-at, each-from, each-by, type-extends}
 
 -- the newest write through the symbol is wrong
 unfoldable pub pending : List Write → ℕ → Bool
@@ -53,9 +54,6 @@ pub record Memory (typing : List ℕ) (ρ : List Entry) (cells : List Value) (lo
 
 -- ---- a consistent log
 
-never : {A : Type 0} → true ≡ false → A
-never e = let z : _≡_ {A = ℕ} 0 1 = cc in absurd (omega arith)
-
 or-false : (a b : Bool) → a ≡ false → b ≡ false → a || b ≡ false
 or-false false b e f = f
 or-false true b e f = e
@@ -71,10 +69,10 @@ none-pending mended (w ∷ ws) s c h = go (λ m d k. none-pending m ws s d k) (e
         → pick a (pick b false true) (pending ws s) ≡ false
     go ih true ea true eb d = refl
     go ih true ea false eb d =
-        let q = and-true (has mended (w .through)) (consistentAfter mended ws) d in
-        never (sym (q .0) ∙ ap (has mended) (eqb-true (w .through) s ea) ∙ h)
+        let q = both-true (has mended (w .through)) (consistentAfter mended ws) d in
+        absurd (true≢false (sym (q .0) ∙ ap (has mended) (eqb-true (w .through) s ea) ∙ h))
     go ih false ea true eb d = ih (w .through ∷ mended) d (or-false (eqb (w .through) s) (has mended s) ea h)
-    go ih false ea false eb d = ih mended (and-true (has mended (w .through)) (consistentAfter mended ws) d .1) h
+    go ih false ea false eb d = ih mended (both-true (has mended (w .through)) (consistentAfter mended ws) d .1) h
 
 pub consistent-fits : {typing : List ℕ} {ρ : List Entry} {cells : List Value} {log : List Write}
     → Memory typing ρ cells log → consistentAfter [] log ≡ true → Fits typing cells
@@ -83,7 +81,7 @@ consistent-fits {typing} {ρ} {cells} {log} m c = each-by cells typing (sym (m .
   where
     settled : (l : ℕ) (x : Value) (t : ℕ) → HasType typing x t ⊎ Pending ρ log l → HasType typing x t
     settled l x t (inl h) = h
-    settled l x t (inr p) = never (sym (p .is-pending) ∙ none-pending [] log (p .through) c refl)
+    settled l x t (inr p) = absurd (true≢false (sym (p .is-pending) ∙ none-pending [] log (p .through) c refl))
 
 -- ---- the start of a path, and the end of a typed block
 
@@ -94,7 +92,7 @@ fitting {typing} {ρ} {cells} f d live =
     record {
       as-many = sym (each-length f);
       contents = λ l t x a b. inl (typed-at a b);
-      recent = λ o s l v a e. nothing e;
+      recent = λ o s l v a e. absurd (some-not-none v (sym e));
       written = no-writes;
       apart-cells = d;
       live = live;
@@ -102,9 +100,6 @@ fitting {typing} {ρ} {cells} f d live =
   where
     typed-at : {l t : ℕ} {x : Value} → At cells l x → At typing l t → HasType typing x t
     typed-at {t = t} a b = let q = each-at f b in subst (λ (y : Value). HasType typing y t) (at-same (q .1) a) (q .2)
-
-    nothing : {A : Type 0} {v : Symbolic} → _≡_ {A = Option Symbolic} none (some v) → A
-    nothing e = let z : _≡_ {A = ℕ} 0 1 = cc in absurd (omega arith)
 
 -- a location that has a type is below the cells
 type-live : {typing : List ℕ} {cells : List Value} {l t : ℕ} → Fits typing cells → HasType typing (Location l) t → l < length cells
@@ -209,9 +204,6 @@ memory-fresh {typing} {ρ} {cells} {log} {x} m known =
 some-inside : {a b : Symbolic} → some a ≡ some b → a ≡ b
 some-inside q = cc
 
-none-some : {A : Type 0} {v : Symbolic} → _≡_ {A = Option Symbolic} none (some v) → A
-none-some e = let z : _≡_ {A = ℕ} 0 1 = cc in absurd (omega arith)
-
 location-inside : {l m : ℕ} → Location l ≡ Location m → l ≡ m
 location-inside q = cc
 
@@ -229,7 +221,7 @@ lookup-after w log o s {v} {G} e f g = go (apart (w .origin) (w .through) o s) r
         → pick a (lookup o s log) (pick b (some (w .value)) none) ≡ some v → G
     go true ea b eb q = f ea q
     go false ea true eb q = g (eqb-true (w .through) s eb) (some-inside q)
-    go false ea false eb q = none-some q
+    go false ea false eb q = absurd (some-not-none v (sym q))
 
 -- a write through another symbol leaves what is pending
 pending-past : (w : Write) (log : List Write) (s : ℕ) → (w .through ≡ s → ⊥) → pending log s ≡ true → pending (w ∷ log) s ≡ true

@@ -1,8 +1,8 @@
 -- What an answer of the rules promises of a run, where it is no refusal, and when a run follows a path of a decision tree. Each has one law of
 -- sequencing, which mirrors the sequencing of the definitions. Assumes nothing.
-use mathlib.Core.Path.{_≡_, refl}
-use mathlib.Core.Bool.{Bool, true, false}
-use mathlib.Core.List.{List, [], _∷_, _++_}
+use mathlib.Core.Path.{_≡_}
+use mathlib.Core.Bool.{true}
+use mathlib.Core.List.{List}
 use Prim.Native.Nat.{ℕ}
 use lib.ListN.{length}
 use Rattle.script.specs.declared.Checked.{Checked}
@@ -12,7 +12,7 @@ use Rattle.script.specs.declared.Value.{Value}
 use Rattle.rules.specs.Demand3.Meaning.{Entry, atomAt}
 use Rattle.rules.specs.Demand3.Memory.{Memory}
 use Rattle.rules.specs.Demand3.Stands.{StandsFor}
-use Rattle.rules.specs.Evaluation.{Outcome, gave, failed, after}
+use Rattle.rules.specs.Evaluation.{Outcome, gave, after}
 use Rattle.rules.specs.Paths.{Path, Paths, ends, stops, forks, bind}
 use Rattle.rules.specs.Satisfiable.{holds}
 use Rattle.rules.specs.Symbolic.{Symbolic}

@@ -2,23 +2,21 @@
 -- of the valuation, so that symbols made later change nothing. Assumes nothing.
 use mathlib.Core.Path.{_≡_, refl, sym, ap, _∙_, subst}
 use mathlib.Core.Bool.{Bool, true, false, not, _&&_, Bool·beq}
-use mathlib.Core.List.{List, [], _∷_, _++_, map}
-use mathlib.Core.Option.{Option, none, some}
+use mathlib.Core.List.{List, [], _∷_, map}
+use mathlib.Core.Option.{Option}
 use Prim.Native.Nat.{ℕ, zero, suc, _+_, _%_, _^_, _≤_, _<_}
-use native.Mathlib.Nat.{add-zero}
-use native.Mathlib.Numerals.{add-one}
 use native.Mathlib.Omega.{arith}
 use lib.Dec.{eqb}
-use lib.ListN.{length, getElem?}
-use borrow.Author.Tests.{eqb-true, eqb-false, eq-eqb, ne-eqb}
+use lib.ListN.{getElem?}
+use borrow.Author.Tests.{eqb-true, eq-eqb, ne-eqb}
 use Rattle.script.specs.Tests.{pick}
 use Rattle.script.specs.declared.Value.{Value}
 use Rattle.script.specs.declared.Value.the-variants.{Word, Truth, Location}
 use Rattle.rules.specs.Demand3.Meaning.{Entry, entry, sumAt, atomAt, truthIn, locationIn, sum-plus, sum-below, sum-number, sum-symbol, equal-sums}
 use Rattle.rules.specs.Satisfiable.{holds}
-use Rattle.rules.specs.Symbolic.{Sum, number, plus, Atom, truthSymbol, pair, Formula, constantly, atom, negation, conjunction, equality, Origin, made, other, Symbolic, aWord, aTruth, aReference, typeOf, symbol, symbols, apart, equalSums, equalReferences}
+use Rattle.rules.specs.Symbolic.{Sum, number, plus, pair, Formula, constantly, atom, negation, conjunction, equality, Origin, made, other, Symbolic, aWord, aTruth, aReference, typeOf, symbol, symbols, apart, equalSums, equalReferences}
 use Rattle.rules.specs.Typings.{At, here, there, HasType, is-word, is-truth, is-location, Each, empty, also, HaveTypes, Extends}
-use Rattle.rules.specs.Typings.Laws.{at-found, at-append, at-same, extends-self, extends-trans, each-map}
+use Rattle.rules.specs.Typings.Laws.{at-found, at-same, extends-self, extends-trans, each-map}
 
 pub data StandsFor (typing : List ℕ) (ρ : List Entry) : Symbolic → Value → Type 0 where
   word-for : {p : Sum} {w : ℕ} → ((later : List Entry) → Extends ρ later → sumAt later p ≡ w) → StandsFor typing ρ (aWord p) (Word w)

@@ -3,28 +3,26 @@ use mathlib.Core.Path.{_≡_, refl, sym, ap, _∙_, subst}
 use mathlib.Core.Bool.{Bool, true, false, not, _&&_}
 use mathlib.Core.List.{List, [], _∷_, _++_}
 use mathlib.Core.Option.{Option, none, some}
-use Prim.Native.Nat.{ℕ, zero, suc, _+_, _≤_, _<_}
-use native.Mathlib.Omega.{arith}
+use Prim.Native.Nat.{ℕ, suc, _<_}
 use lib.Dec.{eqb, leb}
 use lib.ListN.{length, getElem?, set}
-use borrow.Author.Tests.{eqb-true, leb-true}
+use borrow.Author.Tests.{leb-true}
 use Rattle.script.specs.Rows.{UnaryOp, notOp, refOp, getOp, BinaryOp, addOp, eqOp, andOp, setOp}
 use Rattle.script.specs.Tests.{pick}
 use Rattle.script.specs.declared.Checked.{Checked}
 use Rattle.script.specs.declared.Checked.the-variants.{Accepted, Refused}
-use Rattle.script.specs.declared.Refusal.{Refusal}
 use Rattle.script.specs.declared.Refusal.the-variants.{WrongType, TooManyReferences, InconsistentLog, TooManyAtoms}
 use Rattle.script.specs.declared.Value.{Value}
-use Rattle.script.specs.declared.Value.the-variants.{Word, Truth, Location}
+use Rattle.script.specs.declared.Value.the-variants.{Truth, Location}
 use Rattle.rules.specs.Demand3.Meaning.{Entry, entry, atomAt, atoms-respect}
-use Rattle.rules.specs.Demand3.Memory.{Memory, Holds, consistent-fits, fitting, value-live, snoc-length, memory-fresh, memory-ref, memory-set, refWrite, setWrite}
-use Rattle.rules.specs.Demand3.Promises.{Ends, Promise, kept, free, State, Reached, Follows, at-end, at-stop, first, second, follows-earlier}
-use Rattle.rules.specs.Demand3.Stands.{StandsFor, word-for, truth-for, reference-for, stands-extends, stands-type, symbol-stands, plus-stands, equal-words, negation-stands, conjunction-stands, equality-stands, equal-references}
+use Rattle.rules.specs.Demand3.Memory.{Memory, consistent-fits, fitting, value-live, snoc-length, memory-fresh, memory-ref, memory-set, setWrite}
+use Rattle.rules.specs.Demand3.Promises.{Ends, Promise, kept, State, Follows, at-end, at-stop, first, second, follows-earlier}
+use Rattle.rules.specs.Demand3.Stands.{StandsFor, word-for, truth-for, reference-for, symbol-stands, plus-stands, equal-words, negation-stands, conjunction-stands, equality-stands, equal-references}
 use Rattle.rules.specs.Evaluation.{Outcome, gave, failed, found, unaryOn, binaryOn, branchOn}
-use Rattle.rules.specs.Paths.{Path, Paths, Write, ends, stops, forks, assume, write, taken, forget, consistent, lookup, fresh}
+use Rattle.rules.specs.Paths.{Path, Paths, ends, stops, assume, write, taken, forget, consistent, lookup, fresh}
 use Rattle.rules.specs.Satisfiable.{holds, satisfiable, differentAtoms}
 use Rattle.rules.specs.Satisfiable.Laws.{satisfiable-if}
-use Rattle.rules.specs.Symbolic.{Formula, negation, conjunction, Origin, made, other, Symbolic, aWord, aTruth, aReference, typeOf, symbol, equalReferences}
+use Rattle.rules.specs.Symbolic.{Formula, negation, conjunction, Origin, made, other, Symbolic, aTruth, aReference, typeOf, equalReferences}
 use Rattle.rules.specs.SymbolicRules.{got, unaryExec, binaryExec, branches, atomLimit, decide, typedResult}
 use Rattle.rules.specs.TypedRules.{isType}
 use Rattle.rules.specs.Typings.{At, HasType, Fits, Extends}

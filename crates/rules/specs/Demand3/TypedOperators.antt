@@ -1,25 +1,24 @@
 -- Each operator keeps the promise of its type rule. Assumes nothing.
 use mathlib.Core.Path.{_≡_, refl, sym, subst}
-use mathlib.Core.Bool.{Bool, true, false, not, _&&_, Bool·beq}
+use mathlib.Core.Bool.{Bool, true, false}
 use mathlib.Core.List.{List, [], _∷_, _++_}
-use mathlib.Core.Option.{Option, none, some}
-use Prim.Native.Nat.{ℕ, zero, suc, _+_, _%_, _^_, _≤_}
+use mathlib.Core.Option.{Option}
+use Prim.Native.Nat.{ℕ, suc, _+_}
 use native.Mathlib.Nat.{mod-lt}
-use lib.Dec.{eqb, leb, lit<}
+use lib.Dec.{eqb, lit<}
 use lib.ListN.{length, getElem?, set}
 use borrow.Author.Tests.{eqb-true, leb-true}
 use Rattle.script.specs.Rows.{UnaryOp, notOp, refOp, getOp, BinaryOp, addOp, eqOp, andOp, setOp}
 use Rattle.script.specs.Tests.{pick}
 use Rattle.script.specs.declared.Checked.{Checked}
 use Rattle.script.specs.declared.Checked.the-variants.{Accepted, Refused}
-use Rattle.script.specs.declared.Refusal.{Refusal}
 use Rattle.script.specs.declared.Refusal.the-variants.{TooManyReferences}
 use Rattle.script.specs.declared.Value.{Value}
-use Rattle.script.specs.declared.Value.the-variants.{Word, Truth, Location}
-use Rattle.rules.specs.Demand3.Promises.{Ends, Promise, kept, free}
+use Rattle.script.specs.declared.Value.the-variants.{Truth, Location}
+use Rattle.rules.specs.Demand3.Promises.{Promise, kept, free}
 use Rattle.rules.specs.Evaluation.{Outcome, gave, failed, found, equal, unaryOn, binaryOn}
 use Rattle.rules.specs.TypedRules.{isType, wrong, unaryType, binaryType}
-use Rattle.rules.specs.Typings.{At, HasType, is-word, is-truth, is-location, Each, Fits, Extends}
+use Rattle.rules.specs.Typings.{At, HasType, is-word, is-truth, is-location, Fits}
 use Rattle.rules.specs.Typings.Laws.{at-found, at-last, extends-self, extends-append, each-at, each-last, each-set, each-length, type-extends, types-extend}
 
 -- the cells as they are and a value of the type

@@ -11,11 +11,11 @@ use lib.Dec.{eqb}
 use lib.ListN.{length, getD, take, drop, length-drop, take-append-drop}
 use lib.Seq.{take-add, getD-drop}
 use borrow.Author.Tests.{leb-true}
+use Rattle.script.specs.Tests.Laws.{both-true}
 use Rattle.script.specs.Answers.{kindOf, bitsOf}
 use Rattle.script.specs.declared.Value.{Value}
 use Rattle.script.specs.declared.Value.the-variants.{Word, Truth, Location}
 use Rattle.rules.specs.Running.{bytesOf, allBytes, bitsAt, valueBy, valueAt, valuesOf, validBy, allValid, stored}
-use Rattle.rules.specs.Symbolic.Laws.{and-first, and-second}
 
 -- a word or a location of 32 bits, or a truth
 pub data InRange : Value → Type 0 where
@@ -149,8 +149,8 @@ bytes-values used zero bs l y h = refl
 bytes-values used (suc n) bs l y h =
     let v = validBy used (getD bs 0 0) (bitsAt bs) in
     let w = allValid used n (drop 5 bs) in
-    let here = bytes-value used bs (omega arith) y (and-first v w h) in
-    let rest = bytes-values used n (drop 5 bs) (simp length-drop (omega arith)) (bytes-drop 5 y) (and-second v w h) in
+    let here = bytes-value used bs (omega arith) y (both-true v w h .0) in
+    let rest = bytes-values used n (drop 5 bs) (simp length-drop (omega arith)) (bytes-drop 5 y) (both-true v w h .1) in
     let m : 5 + 5 * n ≡ 5 * suc n = omega arith in
     ap₂ _++_ here rest ∙ sym (take-add 5 (5 * n) bs) ∙ ap (λ k. take k bs) m
 

@@ -1,10 +1,10 @@
 -- A run within the limits never needs more than the 192 cells that are lent at least: at most 64 are used before it, and it adds at most one for each of
 -- at most 128 nodes. Assumes nothing.
 use mathlib.Core.Path.{_≡_}
-use mathlib.Core.Bool.{Bool, true, _&&_}
+use mathlib.Core.Bool.{true}
 use mathlib.Core.List.{List}
-use mathlib.Core.Option.{Option, none}
-use Prim.Native.Nat.{ℕ, _+_, _≤_, _/_}
+use mathlib.Core.Option.{none}
+use Prim.Native.Nat.{ℕ, _≤_, _/_}
 use native.Mathlib.Omega.{arith}
 use lib.Dec.{leb}
 use lib.ListN.{length}
@@ -12,11 +12,10 @@ use borrow.Author.Tests.{leb-true}
 use Rattle.script.specs.Table.{Table, tableTest}
 use Rattle.script.specs.Table.Laws.{passes}
 use Rattle.script.specs.Tests.Laws.{both-true}
-use Rattle.script.specs.Tree.{size, treeOf}
+use Rattle.script.specs.Tree.{treeOf}
 use Rattle.script.specs.Tree.Size.{size-tree}
-use Rattle.script.specs.declared.Value.{Value}
 use Rattle.rules.specs.Evaluation.{Outcome, eval}
-use Rattle.rules.specs.Evaluation.Laws.{cellsOf, Grows, eval-grows}
+use Rattle.rules.specs.Evaluation.Laws.{cellsOf, eval-grows}
 use Rattle.rules.specs.Running.{valuesOf, usedLimit, lentLimit, rightCells, rightValues, withinLimits}
 use Rattle.rules.specs.Running.Laws.{length-values}
 

@@ -5,9 +5,10 @@ use mathlib.Core.List.{List, [], _∷_, _++_}
 use mathlib.Core.Logic.{_⊎_, inl, inr}
 use mathlib.Core.Path.{_≡_, refl, ap, sym, _∙_}
 use Rattle.script.specs.Tests.{pick}
+use Rattle.script.specs.Tests.Laws.{true-both, or-cases, or-first, or-second}
 use Rattle.rules.specs.Satisfiable.{holds, atomsOf, among, different, differentAtoms, someChoice, satisfiable}
 use Rattle.rules.specs.Symbolic.{Atom, Formula, constantly, atom, negation, conjunction, equality, sameAtom}
-use Rattle.rules.specs.Symbolic.Laws.{and-both, or-cases, or-first, or-second, sameAtom-refl, sameAtom-right}
+use Rattle.rules.specs.Symbolic.Laws.{sameAtom-refl, sameAtom-right}
 
 -- an assignment that is one truth for atoms that are the same
 pub record Respects (a : Atom → Bool) : Type 0 where
@@ -146,7 +147,7 @@ one-branch c g h k = go (satisfiable-only-if c h)
       where
         at : (b : Bool) → holds (w .0) g ≡ b → satisfiable (conjunction c (negation g)) ≡ true
         at true e =
-            absurd (false≢true (sym k ∙ satisfiable-if (conjunction c g) (w .0) (w .1) (and-both (holds (w .0) c) (holds (w .0) g) (w .2) e)))
+            absurd (false≢true (sym k ∙ satisfiable-if (conjunction c g) (w .0) (w .1) (true-both (holds (w .0) c) (holds (w .0) g) (w .2) e)))
         at false e =
             satisfiable-if (conjunction c (negation g)) (w .0) (w .1)
-            (and-both (holds (w .0) c) (not (holds (w .0) g)) (w .2) (ap not e))
+            (true-both (holds (w .0) c) (not (holds (w .0) g)) (w .2) (ap not e))

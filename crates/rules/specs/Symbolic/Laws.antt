@@ -1,6 +1,6 @@
 -- Sameness of atoms is reflexive, symmetric and transitive: numbers are compared modulo 2^32, coefficients that are missing count as 0, and a sum's
 -- negation negated is the sum. Assumes nothing.
-use mathlib.Core.Bool.{Bool, true, false, _&&_, _||_, and-eq-true-iff, or-true, false≢true}
+use mathlib.Core.Bool.{true, _&&_, false≢true}
 use mathlib.Core.List.{List, [], _∷_}
 use mathlib.Core.Logic.{_⊎_, inl, inr}
 use mathlib.Core.Path.{_≡_, refl, sym, _∙_}
@@ -12,34 +12,8 @@ use lib.Dec.{eqb, lit<}
 use lib.ListN.{getD}
 use borrow.Author.Tests.{eqb-true, eq-eqb}
 use Rattle.script.specs.Tests.{all}
+use Rattle.script.specs.Tests.Laws.{both-true, true-both, or-cases, or-first, or-second, both-ways}
 use Rattle.rules.specs.Symbolic.{Sum, opposite, oppositeEach, negated, sameNumber, isZero, sameEach, sameSum, Atom, truthSymbol, pair, difference, sameAtom}
-
--- ---- tests
-
-pub and-first : (a b : Bool) → (a && b) ≡ true → a ≡ true
-and-first a b h = and-eq-true-iff a b .0 h .0
-
-pub and-second : (a b : Bool) → (a && b) ≡ true → b ≡ true
-and-second a b h = and-eq-true-iff a b .0 h .1
-
-pub and-both : (a b : Bool) → a ≡ true → b ≡ true → (a && b) ≡ true
-and-both a b h k = and-eq-true-iff a b .1 (h, k)
-
-pub or-cases : (a b : Bool) → (a || b) ≡ true → (a ≡ true) ⊎ (b ≡ true)
-or-cases true b h = inl refl
-or-cases false b h = inr h
-
-pub or-first : (a b : Bool) → a ≡ true → (a || b) ≡ true
-or-first a b h = rw h
-
-pub or-second : (a b : Bool) → b ≡ true → (a || b) ≡ true
-or-second a b h = rw h (or-true a)
-
--- two tests of which each is passed where the other is
-pub both-ways : (a b : Bool) → (a ≡ true → b ≡ true) → (b ≡ true → a ≡ true) → a ≡ b
-both-ways true b f g = sym (f refl)
-both-ways false true f g = g refl
-both-ways false false f g = refl
 
 -- ---- numbers modulo m
 
@@ -67,37 +41,37 @@ pub record Congruent (p q : Sum) : Type 0 where
 
 pub all-zero : (xs : List ℕ) → all isZero xs ≡ true → (i : ℕ) → getD xs i 0 % 2 ^ 32 ≡ 0
 all-zero [] h i = refl
-all-zero (x ∷ xs) h zero = eqb-true _ _ (and-first (isZero x) (all isZero xs) h)
-all-zero (x ∷ xs) h (suc i) = all-zero xs (and-second (isZero x) (all isZero xs) h) i
+all-zero (x ∷ xs) h zero = eqb-true _ _ (both-true (isZero x) (all isZero xs) h .0)
+all-zero (x ∷ xs) h (suc i) = all-zero xs (both-true (isZero x) (all isZero xs) h .1) i
 
 pub zero-all : (xs : List ℕ) → ((i : ℕ) → getD xs i 0 % 2 ^ 32 ≡ 0) → all isZero xs ≡ true
 zero-all [] h = refl
-zero-all (x ∷ xs) h = and-both (isZero x) (all isZero xs) (eq-eqb _ _ (h zero)) (zero-all xs λ i. h (suc i))
+zero-all (x ∷ xs) h = true-both (isZero x) (all isZero xs) (eq-eqb _ _ (h zero)) (zero-all xs λ i. h (suc i))
 
 pub same-each : (xs ys : List ℕ) → sameEach xs ys ≡ true → (i : ℕ) → getD xs i 0 % 2 ^ 32 ≡ getD ys i 0 % 2 ^ 32
 unfolding sameEach
 same-each [] ys h i = sym (all-zero ys h i)
 same-each (x ∷ xs) [] h i = all-zero (x ∷ xs) h i
-same-each (x ∷ xs) (y ∷ ys) h zero = eqb-true _ _ (and-first (sameNumber x y) (sameEach xs ys) h)
-same-each (x ∷ xs) (y ∷ ys) h (suc i) = same-each xs ys (and-second (sameNumber x y) (sameEach xs ys) h) i
+same-each (x ∷ xs) (y ∷ ys) h zero = eqb-true _ _ (both-true (sameNumber x y) (sameEach xs ys) h .0)
+same-each (x ∷ xs) (y ∷ ys) h (suc i) = same-each xs ys (both-true (sameNumber x y) (sameEach xs ys) h .1) i
 
 pub each-same : (xs ys : List ℕ) → ((i : ℕ) → getD xs i 0 % 2 ^ 32 ≡ getD ys i 0 % 2 ^ 32) → sameEach xs ys ≡ true
 unfolding sameEach
 each-same [] ys h = zero-all ys λ i. sym (h i)
 each-same (x ∷ xs) [] h = zero-all (x ∷ xs) h
-each-same (x ∷ xs) (y ∷ ys) h = and-both (sameNumber x y) (sameEach xs ys) (eq-eqb _ _ (h zero)) (each-same xs ys λ i. h (suc i))
+each-same (x ∷ xs) (y ∷ ys) h = true-both (sameNumber x y) (sameEach xs ys) (eq-eqb _ _ (h zero)) (each-same xs ys λ i. h (suc i))
 
 pub same-congruent : (p q : Sum) → sameSum p q ≡ true → Congruent p q
 unfolding sameSum
 same-congruent p q h =
     let a = sameNumber (p .constant) (q .constant) in
     let b = sameEach (p .coefficients) (q .coefficients) in
-    record { constants = eqb-true _ _ (and-first a b h); each = same-each _ _ (and-second a b h) }
+    record { constants = eqb-true _ _ (both-true a b h .0); each = same-each _ _ (both-true a b h .1) }
 
 pub congruent-same : (p q : Sum) → Congruent p q → sameSum p q ≡ true
 unfolding sameSum
 congruent-same p q c =
-    and-both (sameNumber (p .constant) (q .constant)) (sameEach (p .coefficients) (q .coefficients))
+    true-both (sameNumber (p .constant) (q .constant)) (sameEach (p .coefficients) (q .coefficients))
     (eq-eqb _ _ (c .constants)) (each-same _ _ (c .each))
 
 pub congruent-refl : (p : Sum) → Congruent p p
@@ -131,14 +105,14 @@ negated-twice p = record {
 -- ---- atoms
 
 -- what `sameAtom` tells
-pub data Same : Atom → Atom → Type 0 where
-  oneTruth : {s u : ℕ} → s ≡ u → Same (truthSymbol s) (truthSymbol u)
-  straight : {r s u v : ℕ} → r ≡ u → s ≡ v → Same (pair r s) (pair u v)
-  crossed : {r s u v : ℕ} → r ≡ v → s ≡ u → Same (pair r s) (pair u v)
-  equalSums : {p q : Sum} → Congruent p q → Same (difference p) (difference q)
-  opposites : {p q : Sum} → Congruent p (negated q) → Same (difference p) (difference q)
+pub data SameAtoms : Atom → Atom → Type 0 where
+  oneTruth : {s u : ℕ} → s ≡ u → SameAtoms (truthSymbol s) (truthSymbol u)
+  straight : {r s u v : ℕ} → r ≡ u → s ≡ v → SameAtoms (pair r s) (pair u v)
+  crossed : {r s u v : ℕ} → r ≡ v → s ≡ u → SameAtoms (pair r s) (pair u v)
+  sameDifference : {p q : Sum} → Congruent p q → SameAtoms (difference p) (difference q)
+  opposites : {p q : Sum} → Congruent p (negated q) → SameAtoms (difference p) (difference q)
 
-pub same-atoms : (x y : Atom) → sameAtom x y ≡ true → Same x y
+pub same-atoms : (x y : Atom) → sameAtom x y ≡ true → SameAtoms x y
 unfolding sameAtom
 same-atoms (truthSymbol s) (truthSymbol u) h = oneTruth (eqb-true s u h)
 same-atoms (truthSymbol s) (pair u v) h = absurd (false≢true h)
@@ -146,52 +120,52 @@ same-atoms (truthSymbol s) (difference q) h = absurd (false≢true h)
 same-atoms (pair r s) (truthSymbol u) h = absurd (false≢true h)
 same-atoms (pair r s) (pair u v) h = go (or-cases (eqb r u && eqb s v) (eqb r v && eqb s u) h)
   where
-    go : ((eqb r u && eqb s v) ≡ true) ⊎ ((eqb r v && eqb s u) ≡ true) → Same (pair r s) (pair u v)
-    go (inl k) = straight (eqb-true r u (and-first (eqb r u) (eqb s v) k)) (eqb-true s v (and-second (eqb r u) (eqb s v) k))
-    go (inr k) = crossed (eqb-true r v (and-first (eqb r v) (eqb s u) k)) (eqb-true s u (and-second (eqb r v) (eqb s u) k))
+    go : ((eqb r u && eqb s v) ≡ true) ⊎ ((eqb r v && eqb s u) ≡ true) → SameAtoms (pair r s) (pair u v)
+    go (inl k) = straight (eqb-true r u (both-true (eqb r u) (eqb s v) k .0)) (eqb-true s v (both-true (eqb r u) (eqb s v) k .1))
+    go (inr k) = crossed (eqb-true r v (both-true (eqb r v) (eqb s u) k .0)) (eqb-true s u (both-true (eqb r v) (eqb s u) k .1))
 same-atoms (pair r s) (difference q) h = absurd (false≢true h)
 same-atoms (difference p) (truthSymbol u) h = absurd (false≢true h)
 same-atoms (difference p) (pair u v) h = absurd (false≢true h)
 same-atoms (difference p) (difference q) h = go (or-cases (sameSum p q) (sameSum p (negated q)) h)
   where
-    go : (sameSum p q ≡ true) ⊎ (sameSum p (negated q) ≡ true) → Same (difference p) (difference q)
-    go (inl k) = equalSums (same-congruent p q k)
+    go : (sameSum p q ≡ true) ⊎ (sameSum p (negated q) ≡ true) → SameAtoms (difference p) (difference q)
+    go (inl k) = sameDifference (same-congruent p q k)
     go (inr k) = opposites (same-congruent p (negated q) k)
 
-pub atoms-same : {x y : Atom} → Same x y → sameAtom x y ≡ true
+pub atoms-same : {x y : Atom} → SameAtoms x y → sameAtom x y ≡ true
 unfolding sameAtom
 atoms-same (oneTruth e) = eq-eqb _ _ e
 atoms-same (straight {r = r} {s = s} {u = u} {v = v} e f) =
-    or-first (eqb r u && eqb s v) (eqb r v && eqb s u) (and-both (eqb r u) (eqb s v) (eq-eqb r u e) (eq-eqb s v f))
+    or-first (eqb r u && eqb s v) (eqb r v && eqb s u) (true-both (eqb r u) (eqb s v) (eq-eqb r u e) (eq-eqb s v f))
 atoms-same (crossed {r = r} {s = s} {u = u} {v = v} e f) =
-    or-second (eqb r u && eqb s v) (eqb r v && eqb s u) (and-both (eqb r v) (eqb s u) (eq-eqb r v e) (eq-eqb s u f))
-atoms-same (equalSums {p = p} {q = q} c) = or-first (sameSum p q) (sameSum p (negated q)) (congruent-same p q c)
+    or-second (eqb r u && eqb s v) (eqb r v && eqb s u) (true-both (eqb r v) (eqb s u) (eq-eqb r v e) (eq-eqb s u f))
+atoms-same (sameDifference {p = p} {q = q} c) = or-first (sameSum p q) (sameSum p (negated q)) (congruent-same p q c)
 atoms-same (opposites {p = p} {q = q} c) = or-second (sameSum p q) (sameSum p (negated q)) (congruent-same p (negated q) c)
 
-pub same-refl : (x : Atom) → Same x x
+pub same-refl : (x : Atom) → SameAtoms x x
 same-refl (truthSymbol s) = oneTruth refl
 same-refl (pair r s) = straight refl refl
-same-refl (difference p) = equalSums (congruent-refl p)
+same-refl (difference p) = sameDifference (congruent-refl p)
 
-pub same-sym : {x y : Atom} → Same x y → Same y x
+pub same-sym : {x y : Atom} → SameAtoms x y → SameAtoms y x
 same-sym (oneTruth e) = oneTruth (sym e)
 same-sym (straight e f) = straight (sym e) (sym f)
 same-sym (crossed e f) = crossed (sym f) (sym e)
-same-sym (equalSums c) = equalSums (congruent-sym c)
+same-sym (sameDifference c) = sameDifference (congruent-sym c)
 same-sym (opposites {q = q} c) =
     opposites (congruent-trans (congruent-sym (negated-twice q)) (congruent-negated (congruent-sym c)))
 
-pub same-trans : {x y z : Atom} → Same x y → Same y z → Same x z
+pub same-trans : {x y z : Atom} → SameAtoms x y → SameAtoms y z → SameAtoms x z
 same-trans (oneTruth e) (oneTruth f) = oneTruth (e ∙ f)
 same-trans (straight e f) (straight e′ f′) = straight (e ∙ e′) (f ∙ f′)
 same-trans (straight e f) (crossed e′ f′) = crossed (e ∙ e′) (f ∙ f′)
 same-trans (crossed e f) (straight e′ f′) = crossed (e ∙ f′) (f ∙ e′)
 same-trans (crossed e f) (crossed e′ f′) = straight (e ∙ f′) (f ∙ e′)
-same-trans (equalSums c) (equalSums d) = equalSums (congruent-trans c d)
-same-trans (equalSums c) (opposites d) = opposites (congruent-trans c d)
-same-trans (opposites c) (equalSums d) = opposites (congruent-trans c (congruent-negated d))
+same-trans (sameDifference c) (sameDifference d) = sameDifference (congruent-trans c d)
+same-trans (sameDifference c) (opposites d) = opposites (congruent-trans c d)
+same-trans (opposites c) (sameDifference d) = opposites (congruent-trans c (congruent-negated d))
 same-trans (opposites c) (opposites {q = r} d) =
-    equalSums (congruent-trans c (congruent-trans (congruent-negated d) (negated-twice r)))
+    sameDifference (congruent-trans c (congruent-trans (congruent-negated d) (negated-twice r)))
 
 pub sameAtom-refl : (x : Atom) → sameAtom x x ≡ true
 sameAtom-refl x = atoms-same (same-refl x)

@@ -1,15 +1,15 @@
 -- Laws of places, of lists related place by place, of extensions and of types under a typing. Assumes nothing.
-use mathlib.Core.Path.{_≡_, refl, sym, ap, _∙_, subst}
-use mathlib.Core.List.{List, [], _∷_, _++_, map}
+use mathlib.Core.Path.{_≡_, refl, sym, ap, subst}
+use mathlib.Core.List.{List, [], _∷_, _++_}
 use mathlib.Core.Logic.{_⊎_, inl, inr}
-use mathlib.Core.Option.{Option, none, some}
-use Prim.Native.Nat.{ℕ, zero, suc, _+_, _^_, _≤_, _<_, suc-le-suc, zero-le}
+use mathlib.Core.Option.{some}
+use Prim.Native.Nat.{ℕ, zero, suc, _<_, suc-le-suc, zero-le}
 use native.Mathlib.Nat.{not-suc-le-zero, le-of-suc-le-suc}
 use native.Mathlib.Omega.{arith}
-use lib.ListN.{length, getElem?, set, length-append}
+use lib.ListN.{length, getElem?, set}
+use Rattle.script.specs.Tests.Laws.{some-not-none}
 use Rattle.script.specs.declared.Value.{Value}
-use Rattle.script.specs.declared.Value.the-variants.{Word, Truth, Location}
-use Rattle.rules.specs.Typings.{At, here, there, HasType, is-word, is-truth, is-location, Each, empty, also, Fits, HaveTypes, Extends}
+use Rattle.rules.specs.Typings.{At, here, there, HasType, is-word, is-truth, is-location, Each, empty, also, HaveTypes, Extends}
 
 module _ {A : Type 0} where
   -- ---- places
@@ -19,10 +19,7 @@ module _ {A : Type 0} where
   at-found (there a) = at-found a
 
   pub found-at : (xs : List A) (i : ℕ) (x : A) → getElem? xs i ≡ some x → At xs i x
-  found-at [] i x e = absurd (never e)
-    where
-      never : _≡_ {A = Option A} none (some x) → ⊥
-      never q = let z : _≡_ {A = ℕ} 0 1 = cc in omega arith
+  found-at [] i x e = absurd (some-not-none x (sym e))
   found-at (y ∷ ys) zero x e = subst (λ (z : A). At (y ∷ ys) zero z) (inside e) here
     where
       inside : some y ≡ some x → y ≡ x

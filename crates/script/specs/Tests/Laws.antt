@@ -1,19 +1,20 @@
 -- What the tests tell: the lowest place that passes a test, in both directions and one step at a time for a loop; every element of a list that
 -- passes; and a row of tests that refuses nothing. Assumes nothing.
-use mathlib.Core.Bool.{Bool, true, false, _&&_}
+use mathlib.Core.Bool.{Bool, true, false, _&&_, _||_, true≢false}
 use mathlib.Core.List.{List, [], _∷_}
+use mathlib.Core.Logic.{_⊎_, inl, inr}
 use mathlib.Core.Option.{Option, none, some}
 use mathlib.Core.Path.{_≡_, refl, sym, ap, _∙_}
 use Prim.Native.Nat.{ℕ, zero, suc, _+_, _≤_, _<_}
 use native.Mathlib.Decide.{ℕ-discrete}
 use native.Mathlib.Omega.{arith}
 use lib.ListN.{length, getD, getElem?}
-use Rattle.script.specs.Tests.{pick, all, lowestFrom, lowest, need, needNone}
+use Rattle.script.specs.Tests.{all, lowestFrom, lowest, need, needNone}
 
 -- ---- tests
 
 pub true-or-false : (b : Bool) → b ≡ true → b ≡ false → ⊥
-true-or-false b t f = let z : _≡_ {A = Bool} true false = sym t ∙ f in let n : _≡_ {A = ℕ} 0 1 = ap (λ (c : Bool). pick c 0 1) z in omega arith
+true-or-false b t f = true≢false (sym t ∙ f)
 
 pub both-true : (a b : Bool) → a && b ≡ true → (a ≡ true) × (b ≡ true)
 both-true true b e = (refl, e)
@@ -22,6 +23,23 @@ both-true false b e = absurd (true-or-false false e refl)
 pub true-both : (a b : Bool) → a ≡ true → b ≡ true → a && b ≡ true
 true-both true b e f = f
 true-both false b e f = e
+
+pub or-cases : (a b : Bool) → a || b ≡ true → (a ≡ true) ⊎ (b ≡ true)
+or-cases true b e = inl refl
+or-cases false b e = inr e
+
+pub or-first : (a b : Bool) → a ≡ true → a || b ≡ true
+or-first a b e = rw e
+
+pub or-second : (a b : Bool) → b ≡ true → a || b ≡ true
+or-second true b e = refl
+or-second false b e = e
+
+-- two tests of which each is passed where the other is
+pub both-ways : (a b : Bool) → (a ≡ true → b ≡ true) → (b ≡ true → a ≡ true) → a ≡ b
+both-ways true b f g = sym (f refl)
+both-ways false true f g = g refl
+both-ways false false f g = refl
 
 pub some-not-none : {A : Type 0} (a : A) → some a ≡ none → ⊥
 some-not-none a e = let z : _≡_ {A = ℕ} 0 1 = cc in omega arith
