@@ -5,17 +5,15 @@ use mathlib.Core.Path.{_≡_, refl}
 use mathlib.Core.List.{List, [], _∷_, _++_, map}
 use Prim.Native.Nat.{ℕ, _-_}
 use lib.ListN.{length, replicate, take}
+use Rattle.script.specs.Answers.{Report, typeIs, valueIs, refusedWith, reportOfCheck, reportOfRun}
 use Rattle.script.specs.Limits.{nodeLimit, entryLimit}
 use Rattle.script.specs.Rows.{rows, rowOf}
 use Rattle.script.specs.Table.{Table, unused, wellFormed, operands, timesIn, uses, symsAround, tooDeep, nodesTest, tableTest}
 use Rattle.script.specs.Tests.{lowestFrom}
 use Rattle.script.specs.Tree.{shape, treeBy, treesFrom, trees, root, treeOf}
-use Rattle.script.specs.declared.Checked.{Checked}
 use Rattle.script.specs.declared.Node.{Node}
-use Rattle.script.specs.declared.Ran.{Ran}
-use Rattle.script.specs.declared.Refusal.{Refusal}
-use Rattle.script.specs.declared.Refusal.the-variants.{NoNode, WrongType, TooManyReferences, InconsistentLog, PathTypesDiffer}
-use Rattle.script.specs.declared.Value.the-variants.{Word}
+use Rattle.script.specs.declared.Place.{Place}
+use Rattle.script.specs.declared.Place.the-variants.{Nowhere, At}
 use Rattle.rules.specs.Checking.{checkTable, pathLimit, check}
 use Rattle.rules.specs.Evaluation.{unaryOn, binaryOn, eval}
 use Rattle.rules.specs.Paths.{has, consistentAfter, lookup, bind, leaves}
@@ -93,10 +91,10 @@ pub data Question : Type 0 where
   check? : Question
   run? : List ℕ → List ℕ → ℕ → Question
 
--- the answer; of a run also what the first two cells then hold
+-- what is reported, and for a run what the first two cells then hold
 pub data Answer : Type 0 where
-  checks : Checked → Answer
-  runs : Ran → List ℕ → Answer
+  checks : Report → Answer
+  runs : Report → List ℕ → Answer
 
 pub record Case : Type 0 where
   pub table : Table
@@ -104,10 +102,10 @@ pub record Case : Type 0 where
   pub answer : Answer
 
 abbrev ranTo : Run → Answer
-ranTo r = runs (r .answer) (take 10 (r .cells))
+ranTo r = runs (reportOfRun (r .answer)) (take 10 (r .cells))
 
 abbrev asked : Question → Table → Answer
-asked check? t = checks (checkTable pathLimit t)
+asked check? t = checks (reportOfCheck (checkTable pathLimit t))
 asked (run? values cells used) t = ranTo (runTable t values cells used)
 
 abbrev pub asking : Case → Answer
@@ -117,13 +115,13 @@ abbrev pub right : Case → Answer
 right c = c .answer
 
 abbrev accepts : List ℕ → List Node → ℕ → Case
-accepts es ns t = record { table = lend es ns; question = check?; answer = checks (Checked.Accepted t) }
+accepts es ns t = record { table = lend es ns; question = check?; answer = checks (typeIs t) }
 
-abbrev refuses : List ℕ → List Node → Refusal → Case
-refuses es ns r = record { table = lend es ns; question = check?; answer = checks (Checked.Refused r) }
+abbrev refuses : List ℕ → List Node → ℕ → Place → Case
+refuses es ns number place = record { table = lend es ns; question = check?; answer = checks (refusedWith number place) }
 
 -- a run with no entry values, on 192 empty cells of which none is used
-abbrev ends : List Node → Ran → List ℕ → Case
+abbrev ends : List Node → Report → List ℕ → Case
 ends ns r cs = record { table = lend [] ns; question = run? [] (replicate 960 0) 0; answer = runs r cs }
 
 -- ---- P1 to P9
@@ -131,14 +129,14 @@ ends ns r cs = record { table = lend [] ns; question = run? [] (replicate 960 0)
 unfoldable pub cases : List Case
 cases =
     accepts [] (true′ ∷ int′ 5 ∷ true′ ∷ int′ 3 ∷ add′ 2 3 ∷ if′ 0 1 4 ∷ sym′ 5 ∷ []) 0
-    ∷ refuses [] (true′ ∷ int′ 5 ∷ true′ ∷ int′ 3 ∷ add′ 2 3 ∷ if′ 0 1 4 ∷ []) (WrongType 4)
-    ∷ refuses (1 ∷ []) (var′ 0 ∷ int′ 1 ∷ true′ ∷ if′ 0 1 2 ∷ sym′ 3 ∷ []) (PathTypesDiffer 4)
+    ∷ refuses [] (true′ ∷ int′ 5 ∷ true′ ∷ int′ 3 ∷ add′ 2 3 ∷ if′ 0 1 4 ∷ []) 6 (At 4)
+    ∷ refuses (1 ∷ []) (var′ 0 ∷ int′ 1 ∷ true′ ∷ if′ 0 1 2 ∷ sym′ 3 ∷ []) 10 (At 4)
     ∷ accepts (1 ∷ []) (var′ 0 ∷ var′ 0 ∷ int′ 1 ∷ true′ ∷ int′ 1 ∷ add′ 3 4 ∷ if′ 1 2 5 ∷ int′ 2 ∷ if′ 0 6 7 ∷ sym′ 8 ∷ []) 0
     ∷ accepts (2 ∷ []) (var′ 0 ∷ true′ ∷ set′ 0 1 ∷ var′ 0 ∷ int′ 7 ∷ set′ 3 4 ∷ let′ 2 5 ∷ sym′ 6 ∷ []) 0
-    ∷ refuses (2 ∷ 2 ∷ []) (var′ 0 ∷ true′ ∷ set′ 0 1 ∷ var′ 1 ∷ int′ 7 ∷ set′ 3 4 ∷ let′ 2 5 ∷ sym′ 6 ∷ []) (InconsistentLog 7)
-    ∷ refuses (30 ∷ []) (var′ 0 ∷ ref′ 0 ∷ []) (TooManyReferences 1)
-    ∷ refuses [] [] NoNode
-    ∷ ends (int′ 4294967295 ∷ int′ 1 ∷ add′ 0 1 ∷ []) (Ran.Gave (Word 0) 0) (replicate 10 0)
+    ∷ refuses (2 ∷ 2 ∷ []) (var′ 0 ∷ true′ ∷ set′ 0 1 ∷ var′ 1 ∷ int′ 7 ∷ set′ 3 4 ∷ let′ 2 5 ∷ sym′ 6 ∷ []) 9 (At 7)
+    ∷ refuses (30 ∷ []) (var′ 0 ∷ ref′ 0 ∷ []) 8 (At 1)
+    ∷ refuses [] [] 3 Nowhere
+    ∷ ends (int′ 4294967295 ∷ int′ 1 ∷ add′ 0 1 ∷ []) (valueIs 0 0 0) (replicate 10 0)
     ∷ []
 
 -- to unfold this is to unfold every definition that the cases compute with

@@ -2,6 +2,7 @@
 use mathlib.Core.Bool.{Bool}
 use Prim.Native.Nat.{ℕ, zero, suc}
 use lib.Dec.{leb, eqb}
+use Rattle.script.specs.Limits.{typeLimit}
 use Rattle.script.specs.Rows.{UnaryOp, notOp, refOp, getOp, BinaryOp, addOp, eqOp, andOp, setOp}
 use Rattle.script.specs.Tests.{pick}
 use Rattle.script.specs.declared.Checked.{Checked}
@@ -32,7 +33,7 @@ module _ {A : Type 0} where
 
 -- at most 15 references
 abbrev pub isType : ℕ → Bool
-isType t = leb t 31
+isType t = leb t typeLimit
 
 abbrev pub wrong : ℕ → Checked
 wrong n = Refused (WrongType n)

@@ -2,6 +2,7 @@
 use mathlib.Core.Bool.{Bool}
 use mathlib.Core.List.{List, [], _∷_}
 use Prim.Native.Nat.{ℕ, zero, suc, _^_, _≤_, _<_}
+use Rattle.script.specs.Limits.{typeLimit}
 use Rattle.script.specs.declared.Value.{Value}
 use Rattle.script.specs.declared.Value.the-variants.{Word, Truth, Location}
 pub mod Laws
@@ -15,7 +16,7 @@ pub data At {A : Type 0} : List A → ℕ → A → Type 0 where
 pub data HasType (typing : List ℕ) : Value → ℕ → Type 0 where
   is-word : {w : ℕ} → w < 2 ^ 32 → HasType typing (Word w) 0
   is-truth : {b : Bool} → HasType typing (Truth b) 1
-  is-location : {l t : ℕ} → At typing l t → suc (suc t) ≤ 31 → HasType typing (Location l) (suc (suc t))
+  is-location : {l t : ℕ} → At typing l t → suc (suc t) ≤ typeLimit → HasType typing (Location l) (suc (suc t))
 
 -- two lists of one length whose elements are related at each place
 pub data Each {A B : Type 0} (R : A → B → Type 0) : List A → List B → Type 0 where

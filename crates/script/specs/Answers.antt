@@ -1,9 +1,11 @@
--- Document 01's number and place of each refusal ('Turned down'), and the kind and the 32 bits of each value ('Evaluation').
--- Assumes nothing.
+-- What document 01 has each answer say: the number and place of a refusal ('Turned down'), the kind and the 32 bits of a value ('Evaluation'), and the
+-- report of the checker's and the runner's answer. Assumes nothing.
 use mathlib.Core.Bool.{true, false}
 use Prim.Native.Nat.{ℕ}
+use Rattle.script.specs.declared.Checked.{Checked}
 use Rattle.script.specs.declared.Place.{Place}
 use Rattle.script.specs.declared.Place.the-variants.{Nowhere, At}
+use Rattle.script.specs.declared.Ran.{Ran}
 use Rattle.script.specs.declared.Refusal.{Refusal}
 use Rattle.script.specs.declared.Refusal.the-variants.{BadLine, TooManyAt, TooMany, NoNode, BadOperand, NotUsedOnce, WrongType, UnknownVariable, TooManyReferences, InconsistentLog, PathTypesDiffer, TooManyPaths, TooManyAtoms, TooDeep, TextTooLong, TableTooSmall, BadTypeCode, BadValues, BadCells, OutputTooShort}
 use Rattle.script.specs.declared.Value.{Value}
@@ -65,3 +67,19 @@ bitsOf (Word w) = w
 bitsOf (Truth true) = 1
 bitsOf (Truth false) = 0
 bitsOf (Location l) = l
+
+-- a type's code; a value's kind and bits, and the used count; the node of the error state, and the used count; a refusal's number and place
+pub data Report : Type 0 where
+  typeIs : ℕ → Report
+  valueIs : ℕ → ℕ → ℕ → Report
+  errorAt : ℕ → ℕ → Report
+  refusedWith : ℕ → Place → Report
+
+abbrev pub reportOfCheck : Checked → Report
+reportOfCheck (Checked.Accepted t) = typeIs t
+reportOfCheck (Checked.Refused r) = refusedWith (numberOf r) (placeOf r)
+
+abbrev pub reportOfRun : Ran → Report
+reportOfRun (Ran.Gave v used) = valueIs (kindOf v) (bitsOf v) used
+reportOfRun (Ran.Failed n used) = errorAt n used
+reportOfRun (Ran.Refused r) = refusedWith (numberOf r) (placeOf r)

@@ -22,6 +22,10 @@ nestingLimit = 4
 abbrev pub variableLimit : ℕ
 variableLimit = 143
 
+-- the largest code of a type: 15 references to a truth
+abbrev pub typeLimit : ℕ
+typeLimit = 31
+
 abbrev pub sizeOf : ℕ → ℕ → Script
 sizeOf n m = record { nodes = n; entries = m }
 

@@ -6,7 +6,7 @@ use mathlib.Core.Option.{Option, none, some}
 use Prim.Native.Nat.{ℕ, suc, _+_, pred}
 use lib.Dec.{leb, ltb, eqb}
 use lib.ListN.{length, take, drop, getD}
-use Rattle.script.specs.Limits.{nodeLimit, entryLimit, nestingLimit, countsFit}
+use Rattle.script.specs.Limits.{nodeLimit, entryLimit, nestingLimit, typeLimit, countsFit}
 use Rattle.script.specs.Rows.{Row, rowOf, numberUpTo, isSym}
 use Rattle.script.specs.Tests.{pick, all, lowest, need, needNone}
 use Rattle.script.specs.declared.Node.{Node}
@@ -105,5 +105,5 @@ tableTest t =
     need (leb nodeLimit (length (t .lentNodes)) && leb entryLimit (length (t .lentEntries))) TableTooSmall
     (need (countsFit (t .nodeCount) (t .entryCount)) TooMany
     (need (ltb 0 (t .nodeCount)) NoNode
-    (need (all (λ c. leb c 31) (entriesOf t)) BadTypeCode
+    (need (all (λ c. leb c typeLimit) (entriesOf t)) BadTypeCode
     (nodesTest (nodesOf t)))))

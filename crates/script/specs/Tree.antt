@@ -11,6 +11,7 @@ use Rattle.script.specs.declared.Node.{Node}
 pub mod Laws
 pub mod Size
 
+-- each constructor begins with the node's number
 pub data Expr : Type 0 where
   int : ℕ → ℕ → Expr
   truth : ℕ → Bool → Expr

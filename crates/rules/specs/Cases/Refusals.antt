@@ -4,25 +4,23 @@ use mathlib.Core.Path.{_≡_, refl}
 use mathlib.Core.List.{List, [], _∷_, _++_, map}
 use Prim.Native.Nat.{ℕ}
 use lib.ListN.{replicate}
+use Rattle.script.specs.Answers.{Report, valueIs, errorAt, refusedWith}
 use Rattle.script.specs.Table.{unused}
-use Rattle.script.specs.declared.Checked.{Checked}
-use Rattle.script.specs.declared.Ran.{Ran}
-use Rattle.script.specs.declared.Refusal.{Refusal}
-use Rattle.script.specs.declared.Refusal.the-variants.{TooMany, NoNode, BadOperand, NotUsedOnce, UnknownVariable, TooManyAtoms, TooDeep, TableTooSmall, BadTypeCode, BadValues, BadCells}
-use Rattle.script.specs.declared.Value.the-variants.{Location}
+use Rattle.script.specs.declared.Place.{Place}
+use Rattle.script.specs.declared.Place.the-variants.{Nowhere, At}
 use Rattle.rules.specs.Cases.{Case, check?, run?, checks, runs, asking, right, accepts, refuses, ends, lend, node, computed, int′, true′, var′, add′, and′, if′, let′, ref′, get′, typed′, sym′}
 
 -- a table with so many lent nodes and entries, and the counts
-abbrev lentAs : ℕ → ℕ → ℕ → ℕ → Refusal → Case
-lentAs ns n es m r =
+abbrev lentAs : ℕ → ℕ → ℕ → ℕ → ℕ → Place → Case
+lentAs ns n es m number place =
     record {
       table = record { lentNodes = replicate ns unused; nodeCount = n; lentEntries = replicate es 0; entryCount = m };
       question = check?;
-      answer = checks (Checked.Refused r);
+      answer = checks (refusedWith number place);
     }
 
 -- a run of `var 0` with one entry of type `i`, or of `true` with none
-abbrev runWith : List ℕ → List ℕ → ℕ → Ran → List ℕ → Case
+abbrev runWith : List ℕ → List ℕ → ℕ → Report → List ℕ → Case
 runWith values cells used r cs = record { table = lend (0 ∷ []) (var′ 0 ∷ []); question = run? values cells used; answer = runs r cs }
 
 abbrev zeros : ℕ → List ℕ
@@ -35,49 +33,49 @@ five k b = k ∷ b ∷ 0 ∷ 0 ∷ 0 ∷ []
 unfoldable pub refusals : List Case
 refusals =
     -- 32 before 2 before 3
-    lentAs 127 129 16 0 TableTooSmall
-    ∷ lentAs 128 0 15 0 TableTooSmall
-    ∷ lentAs 129 129 16 0 TooMany
-    ∷ lentAs 128 0 17 17 TooMany
-    ∷ lentAs 128 0 16 16 NoNode
+    lentAs 127 129 16 0 32 Nowhere
+    ∷ lentAs 128 0 15 0 32 Nowhere
+    ∷ lentAs 129 129 16 0 2 Nowhere
+    ∷ lentAs 128 0 17 17 2 Nowhere
+    ∷ lentAs 128 0 16 16 3 Nowhere
     -- 33 before 4, and only used entries count
-    ∷ refuses (31 ∷ 32 ∷ []) (add′ 0 1 ∷ []) BadTypeCode
+    ∷ refuses (31 ∷ 32 ∷ []) (add′ 0 1 ∷ []) 33 Nowhere
     -- 4: an operand that is no earlier node, a kind with no word, a number out of its range, an unused operand; before 5
-    ∷ refuses [] (true′ ∷ true′ ∷ add′ 1 2 ∷ []) (BadOperand 2)
-    ∷ refuses [] (true′ ∷ node 15 0 0 0 ∷ node 16 0 0 0 ∷ []) (BadOperand 1)
-    ∷ refuses [] (var′ 144 ∷ []) (BadOperand 0)
-    ∷ refuses [] (var′ 143 ∷ []) (UnknownVariable 0)
-    ∷ refuses [] (int′ 4294967296 ∷ []) (BadOperand 0)
-    ∷ refuses [] (node 1 0 0 7 ∷ []) (BadOperand 0)
+    ∷ refuses [] (true′ ∷ true′ ∷ add′ 1 2 ∷ []) 4 (At 2)
+    ∷ refuses [] (true′ ∷ node 15 0 0 0 ∷ node 16 0 0 0 ∷ []) 4 (At 1)
+    ∷ refuses [] (var′ 144 ∷ []) 4 (At 0)
+    ∷ refuses [] (var′ 143 ∷ []) 7 (At 0)
+    ∷ refuses [] (int′ 4294967296 ∷ []) 4 (At 0)
+    ∷ refuses [] (node 1 0 0 7 ∷ []) 4 (At 0)
     -- 5: a node used twice, in one node or in two, and one that is not used
-    ∷ refuses [] (int′ 1 ∷ add′ 0 0 ∷ []) (NotUsedOnce 0)
-    ∷ refuses [] (int′ 1 ∷ int′ 2 ∷ add′ 0 1 ∷ add′ 2 1 ∷ []) (NotUsedOnce 1)
-    ∷ refuses [] (int′ 1 ∷ int′ 2 ∷ sym′ 1 ∷ []) (NotUsedOnce 0)
+    ∷ refuses [] (int′ 1 ∷ add′ 0 0 ∷ []) 5 (At 0)
+    ∷ refuses [] (int′ 1 ∷ int′ 2 ∷ add′ 0 1 ∷ add′ 2 1 ∷ []) 5 (At 1)
+    ∷ refuses [] (int′ 1 ∷ int′ 2 ∷ sym′ 1 ∷ []) 5 (At 0)
     -- 13: four `sym` may be nested, a fifth may not, and a typed block between them changes nothing
     ∷ accepts [] (int′ 1 ∷ sym′ 0 ∷ sym′ 1 ∷ sym′ 2 ∷ sym′ 3 ∷ []) 0
-    ∷ refuses [] (int′ 1 ∷ sym′ 0 ∷ sym′ 1 ∷ sym′ 2 ∷ sym′ 3 ∷ sym′ 4 ∷ []) (TooDeep 1)
-    ∷ refuses [] (int′ 1 ∷ sym′ 0 ∷ typed′ 1 ∷ sym′ 2 ∷ sym′ 3 ∷ sym′ 4 ∷ sym′ 5 ∷ []) (TooDeep 1)
+    ∷ refuses [] (int′ 1 ∷ sym′ 0 ∷ sym′ 1 ∷ sym′ 2 ∷ sym′ 3 ∷ sym′ 4 ∷ []) 13 (At 1)
+    ∷ refuses [] (int′ 1 ∷ sym′ 0 ∷ typed′ 1 ∷ sym′ 2 ∷ sym′ 3 ∷ sym′ 4 ∷ sym′ 5 ∷ []) 13 (At 1)
     -- 12: ten atoms and eleven
     ∷ accepts (replicate 10 1) (var′ 0 ∷ var′ 1 ∷ var′ 2 ∷ var′ 3 ∷ var′ 4 ∷ var′ 5 ∷ var′ 6 ∷ var′ 7 ∷ var′ 8 ∷ var′ 9 ∷ and′ 8 9 ∷ and′ 7 10 ∷ and′ 6 11 ∷ and′ 5 12 ∷ and′ 4 13 ∷ and′ 3 14 ∷ and′ 2 15 ∷ and′ 1 16 ∷ and′ 0 17 ∷ int′ 1 ∷ int′ 2 ∷ if′ 18 19 20 ∷ sym′ 21 ∷ []) 0
-    ∷ refuses (replicate 11 1) (var′ 0 ∷ var′ 1 ∷ var′ 2 ∷ var′ 3 ∷ var′ 4 ∷ var′ 5 ∷ var′ 6 ∷ var′ 7 ∷ var′ 8 ∷ var′ 9 ∷ var′ 10 ∷ and′ 9 10 ∷ and′ 8 11 ∷ and′ 7 12 ∷ and′ 6 13 ∷ and′ 5 14 ∷ and′ 4 15 ∷ and′ 3 16 ∷ and′ 2 17 ∷ and′ 1 18 ∷ and′ 0 19 ∷ int′ 1 ∷ int′ 2 ∷ if′ 20 21 22 ∷ sym′ 23 ∷ []) (TooManyAtoms 23)
+    ∷ refuses (replicate 11 1) (var′ 0 ∷ var′ 1 ∷ var′ 2 ∷ var′ 3 ∷ var′ 4 ∷ var′ 5 ∷ var′ 6 ∷ var′ 7 ∷ var′ 8 ∷ var′ 9 ∷ var′ 10 ∷ and′ 9 10 ∷ and′ 8 11 ∷ and′ 7 12 ∷ and′ 6 13 ∷ and′ 5 14 ∷ and′ 4 15 ∷ and′ 3 16 ∷ and′ 2 17 ∷ and′ 1 18 ∷ and′ 0 19 ∷ int′ 1 ∷ int′ 2 ∷ if′ 20 21 22 ∷ sym′ 23 ∷ []) 12 (At 23)
     -- 35 before 34
-    ∷ runWith [] (zeros 960) 65 (Ran.Refused BadCells) (zeros 10)
-    ∷ runWith (five 0 7) (zeros 959) 0 (Ran.Refused BadCells) (zeros 10)
+    ∷ runWith [] (zeros 960) 65 (refusedWith 35 Nowhere) (zeros 10)
+    ∷ runWith (five 0 7) (zeros 959) 0 (refusedWith 35 Nowhere) (zeros 10)
     -- 34: too few values, too many, part of a cell, a kind, a truth, a location among values and among cells
-    ∷ runWith [] (zeros 960) 0 (Ran.Refused BadValues) (zeros 10)
-    ∷ runWith (five 0 7 ++ five 0 7) (zeros 960) 0 (Ran.Refused BadValues) (zeros 10)
-    ∷ runWith (five 0 7) (zeros 961) 0 (Ran.Refused BadValues) (zeros 10)
-    ∷ runWith (five 3 0) (zeros 960) 0 (Ran.Refused BadValues) (zeros 10)
-    ∷ runWith (five 1 2) (zeros 960) 0 (Ran.Refused BadValues) (zeros 10)
-    ∷ runWith (five 2 1) (zeros 960) 1 (Ran.Refused BadValues) (zeros 10)
-    ∷ runWith (five 0 7) (five 2 2 ++ zeros 955) 2 (Ran.Refused BadValues) (five 2 2 ++ zeros 5)
+    ∷ runWith [] (zeros 960) 0 (refusedWith 34 Nowhere) (zeros 10)
+    ∷ runWith (five 0 7 ++ five 0 7) (zeros 960) 0 (refusedWith 34 Nowhere) (zeros 10)
+    ∷ runWith (five 0 7) (zeros 961) 0 (refusedWith 34 Nowhere) (zeros 10)
+    ∷ runWith (five 3 0) (zeros 960) 0 (refusedWith 34 Nowhere) (zeros 10)
+    ∷ runWith (five 1 2) (zeros 960) 0 (refusedWith 34 Nowhere) (zeros 10)
+    ∷ runWith (five 2 1) (zeros 960) 1 (refusedWith 34 Nowhere) (zeros 10)
+    ∷ runWith (five 0 7) (five 2 2 ++ zeros 955) 2 (refusedWith 34 Nowhere) (five 2 2 ++ zeros 5)
     -- only used cells are looked at, and a value need not fit its entry's type
-    ∷ runWith (five 2 0) (five 2 0 ++ five 9 9 ++ zeros 950) 1 (Ran.Gave (Location 0) 1) (five 2 0 ++ five 9 9)
+    ∷ runWith (five 2 0) (five 2 0 ++ five 9 9 ++ zeros 950) 1 (valueIs 2 0 1) (five 2 0 ++ five 9 9)
     -- error states: a wrong kind, after both operands; an unknown variable; cells as they were then
-    ∷ ends (int′ 1 ∷ ref′ 0 ∷ int′ 2 ∷ ref′ 2 ∷ add′ 1 3 ∷ []) (Ran.Failed 4 2) (five 0 1 ++ five 0 2)
-    ∷ ends (int′ 1 ∷ var′ 1 ∷ let′ 0 1 ∷ []) (Ran.Failed 1 0) (zeros 10)
-    ∷ ends (int′ 1 ∷ get′ 0 ∷ []) (Ran.Failed 1 0) (zeros 10)
-    ∷ ends (int′ 1 ∷ int′ 2 ∷ int′ 3 ∷ if′ 0 1 2 ∷ []) (Ran.Failed 3 0) (zeros 10)
+    ∷ ends (int′ 1 ∷ ref′ 0 ∷ int′ 2 ∷ ref′ 2 ∷ add′ 1 3 ∷ []) (errorAt 4 2) (five 0 1 ++ five 0 2)
+    ∷ ends (int′ 1 ∷ var′ 1 ∷ let′ 0 1 ∷ []) (errorAt 1 0) (zeros 10)
+    ∷ ends (int′ 1 ∷ get′ 0 ∷ []) (errorAt 1 0) (zeros 10)
+    ∷ ends (int′ 1 ∷ int′ 2 ∷ int′ 3 ∷ if′ 0 1 2 ∷ []) (errorAt 3 0) (zeros 10)
     ∷ []
 
 pub refusals-hold : map asking refusals ≡ map right refusals
