@@ -57,9 +57,6 @@ add′ x y = node 4 x y 0
 abbrev eq′ : ℕ → ℕ → Node
 eq′ x y = node 5 x y 0
 
-abbrev not′ : ℕ → Node
-not′ x = node 6 x 0 0
-
 abbrev and′ : ℕ → ℕ → Node
 and′ x y = node 7 x y 0
 
@@ -128,14 +125,23 @@ ends ns r cs = record { table = lend [] ns; question = run? [] (replicate 960 0)
 
 unfoldable pub cases : List Case
 cases =
+    -- P1
     accepts [] (true′ ∷ int′ 5 ∷ true′ ∷ int′ 3 ∷ add′ 2 3 ∷ if′ 0 1 4 ∷ sym′ 5 ∷ []) 0
+    -- P2
     ∷ refuses [] (true′ ∷ int′ 5 ∷ true′ ∷ int′ 3 ∷ add′ 2 3 ∷ if′ 0 1 4 ∷ []) 6 (At 4)
+    -- P3
     ∷ refuses (1 ∷ []) (var′ 0 ∷ int′ 1 ∷ true′ ∷ if′ 0 1 2 ∷ sym′ 3 ∷ []) 10 (At 4)
+    -- P4
     ∷ accepts (1 ∷ []) (var′ 0 ∷ var′ 0 ∷ int′ 1 ∷ true′ ∷ int′ 1 ∷ add′ 3 4 ∷ if′ 1 2 5 ∷ int′ 2 ∷ if′ 0 6 7 ∷ sym′ 8 ∷ []) 0
+    -- P5
     ∷ accepts (2 ∷ []) (var′ 0 ∷ true′ ∷ set′ 0 1 ∷ var′ 0 ∷ int′ 7 ∷ set′ 3 4 ∷ let′ 2 5 ∷ sym′ 6 ∷ []) 0
+    -- P6
     ∷ refuses (2 ∷ 2 ∷ []) (var′ 0 ∷ true′ ∷ set′ 0 1 ∷ var′ 1 ∷ int′ 7 ∷ set′ 3 4 ∷ let′ 2 5 ∷ sym′ 6 ∷ []) 9 (At 7)
+    -- P7
     ∷ refuses (30 ∷ []) (var′ 0 ∷ ref′ 0 ∷ []) 8 (At 1)
+    -- P8
     ∷ refuses [] [] 3 Nowhere
+    -- P9
     ∷ ends (int′ 4294967295 ∷ int′ 1 ∷ add′ 0 1 ∷ []) (valueIs 0 0 0) (replicate 10 0)
     ∷ []
 

@@ -19,7 +19,7 @@ lentAs ns n es m number place =
       answer = checks (refusedWith number place);
     }
 
--- a run of `var 0` with one entry of type `i`, or of `true` with none
+-- a run of `var 0` with one entry of type `i`
 abbrev runWith : List ℕ → List ℕ → ℕ → Report → List ℕ → Case
 runWith values cells used r cs = record { table = lend (0 ∷ []) (var′ 0 ∷ []); question = run? values cells used; answer = runs r cs }
 
