@@ -1,4 +1,4 @@
--- Rows for the tests of tables, entry values and cells, and for error states: each cause, its place, and which comes first. Proved together by
+-- Rows for the tests of tables, entry values and cells, for 9 and 12, and for error states: each cause, its place, and which comes first. Proved together by
 -- computation. Assumes nothing.
 use mathlib.Core.Path.{_≡_, refl}
 use mathlib.Core.List.{List, [], _∷_, _++_, map}
@@ -8,7 +8,7 @@ use Rattle.script.specs.Answers.{Report, valueIs, errorAt, refusedWith}
 use Rattle.script.specs.Table.{unused}
 use Rattle.script.specs.declared.Place.{Place}
 use Rattle.script.specs.declared.Place.the-variants.{Nowhere, At}
-use Rattle.rules.specs.Cases.{Case, check?, run?, checks, runs, asking, right, accepts, refuses, ends, lend, node, computed, int′, true′, var′, add′, and′, if′, let′, ref′, get′, typed′, sym′}
+use Rattle.rules.specs.Cases.{Case, check?, run?, checks, runs, asking, right, accepts, refuses, ends, lend, node, computed, int′, true′, var′, add′, and′, if′, let′, ref′, get′, set′, typed′, sym′}
 
 -- a table with so many lent nodes and entries, and the counts
 abbrev lentAs : ℕ → ℕ → ℕ → ℕ → ℕ → Place → Case
@@ -55,6 +55,8 @@ refusals =
     ∷ accepts [] (int′ 1 ∷ sym′ 0 ∷ sym′ 1 ∷ sym′ 2 ∷ sym′ 3 ∷ []) 0
     ∷ refuses [] (int′ 1 ∷ sym′ 0 ∷ sym′ 1 ∷ sym′ 2 ∷ sym′ 3 ∷ sym′ 4 ∷ []) 13 (At 1)
     ∷ refuses [] (int′ 1 ∷ sym′ 0 ∷ typed′ 1 ∷ sym′ 2 ∷ sym′ 3 ∷ sym′ 4 ∷ sym′ 5 ∷ []) 13 (At 1)
+    -- 9 at a path's end: the script whose line document 01 prints whole
+    ∷ refuses (2 ∷ []) (var′ 0 ∷ true′ ∷ set′ 0 1 ∷ sym′ 2 ∷ []) 9 (At 3)
     -- 12: ten atoms and eleven
     ∷ accepts (replicate 10 1) (var′ 0 ∷ var′ 1 ∷ var′ 2 ∷ var′ 3 ∷ var′ 4 ∷ var′ 5 ∷ var′ 6 ∷ var′ 7 ∷ var′ 8 ∷ var′ 9 ∷ and′ 8 9 ∷ and′ 7 10 ∷ and′ 6 11 ∷ and′ 5 12 ∷ and′ 4 13 ∷ and′ 3 14 ∷ and′ 2 15 ∷ and′ 1 16 ∷ and′ 0 17 ∷ int′ 1 ∷ int′ 2 ∷ if′ 18 19 20 ∷ sym′ 21 ∷ []) 0
     ∷ refuses (replicate 11 1) (var′ 0 ∷ var′ 1 ∷ var′ 2 ∷ var′ 3 ∷ var′ 4 ∷ var′ 5 ∷ var′ 6 ∷ var′ 7 ∷ var′ 8 ∷ var′ 9 ∷ var′ 10 ∷ and′ 9 10 ∷ and′ 8 11 ∷ and′ 7 12 ∷ and′ 6 13 ∷ and′ 5 14 ∷ and′ 4 15 ∷ and′ 3 16 ∷ and′ 2 17 ∷ and′ 1 18 ∷ and′ 0 19 ∷ int′ 1 ∷ int′ 2 ∷ if′ 20 21 22 ∷ sym′ 23 ∷ []) 12 (At 23)
