@@ -2,13 +2,13 @@
 -- computation. The tables below are of the same form: `Traps` tells the rules from document 01's traps, `Refusals` has the tests of tables, values and
 -- cells. Assumes nothing.
 use mathlib.Core.Path.{_≡_, refl}
-use mathlib.Core.List.{List, [], _∷_, _++_, map}
-use Prim.Native.Nat.{ℕ, _-_}
-use lib.ListN.{length, replicate, take}
+use mathlib.Core.List.{List, [], _∷_, map}
+use Prim.Native.Nat.{ℕ}
+use lib.ListN.{replicate, take}
 use Rattle.script.specs.Answers.{Report, typeIs, valueIs, refusedWith, reportOfCheck, reportOfRun}
-use Rattle.script.specs.Limits.{nodeLimit, entryLimit}
 use Rattle.script.specs.Rows.{rows, rowOf}
-use Rattle.script.specs.Table.{Table, unused, wellFormed, operands, timesIn, uses, symsAround, tooDeep, nodesTest, tableTest}
+use Rattle.script.specs.Table.{Table, wellFormed, operands, timesIn, uses, symsAround, tooDeep, nodesTest, tableTest}
+use Rattle.script.specs.Table.Cases.{lend, int′, true′, var′, add′, if′, let′, ref′, set′, sym′}
 use Rattle.script.specs.Tests.{lowestFrom}
 use Rattle.script.specs.Tree.{shape, treeBy, treesFrom, trees, root, treeOf}
 use Rattle.script.specs.declared.Node.{Node}
@@ -24,62 +24,6 @@ use Rattle.rules.specs.SymbolicRules.{unaryExec, binaryExec, branches, d
 use Rattle.rules.specs.TypedRules.{unaryType, binaryType, ifType}
 pub mod Refusals
 pub mod Traps
-
--- ---- a table with its unused places
-
-abbrev lend : List ℕ → List Node → Table
-lend es ns =
-    record {
-      lentNodes = ns ++ replicate (nodeLimit - length ns) unused;
-      nodeCount = length ns;
-      lentEntries = es ++ replicate (entryLimit - length es) 0;
-      entryCount = length es;
-    }
-
-abbrev node : ℕ → ℕ → ℕ → ℕ → Node
-node k x y z = record { kind = k; a = x; b = y; c = z }
-
-abbrev int′ : ℕ → Node
-int′ w = node 0 w 0 0
-
-abbrev true′ : Node
-true′ = node 1 0 0 0
-
-abbrev false′ : Node
-false′ = node 2 0 0 0
-
-abbrev var′ : ℕ → Node
-var′ k = node 3 k 0 0
-
-abbrev add′ : ℕ → ℕ → Node
-add′ x y = node 4 x y 0
-
-abbrev eq′ : ℕ → ℕ → Node
-eq′ x y = node 5 x y 0
-
-abbrev and′ : ℕ → ℕ → Node
-and′ x y = node 7 x y 0
-
-abbrev if′ : ℕ → ℕ → ℕ → Node
-if′ x y z = node 8 x y z
-
-abbrev let′ : ℕ → ℕ → Node
-let′ x y = node 9 x y 0
-
-abbrev ref′ : ℕ → Node
-ref′ x = node 10 x 0 0
-
-abbrev get′ : ℕ → Node
-get′ x = node 11 x 0 0
-
-abbrev set′ : ℕ → ℕ → Node
-set′ x y = node 12 x y 0
-
-abbrev typed′ : ℕ → Node
-typed′ x = node 13 x 0 0
-
-abbrev sym′ : ℕ → Node
-sym′ x = node 14 x 0 0
 
 -- ---- rows
 

@@ -12,6 +12,7 @@ use Rattle.script.specs.Tests.{pick, all, lowest, need, needNone}
 use Rattle.script.specs.declared.Node.{Node}
 use Rattle.script.specs.declared.Refusal.{Refusal}
 use Rattle.script.specs.declared.Refusal.the-variants.{TableTooSmall, TooMany, NoNode, BadTypeCode, BadOperand, NotUsedOnce, TooDeep}
+pub mod Cases
 pub mod Laws
 
 -- all places that are lent, and how many of them are used

@@ -1,23 +1,13 @@
--- Rows for the tests of tables, entry values and cells, for 9 and 12, and for error states: each cause, its place, and which comes first. Proved together by
--- computation. Assumes nothing.
+-- Rows for 7, 9 and 12, for the tests of entry values and cells, and for error states: each cause, its place, and which comes first. The tests of tables
+-- have theirs in `script`. Proved together by computation. Assumes nothing.
 use mathlib.Core.Path.{_≡_, refl}
 use mathlib.Core.List.{List, [], _∷_, _++_, map}
 use Prim.Native.Nat.{ℕ}
 use lib.ListN.{replicate}
 use Rattle.script.specs.Answers.{Report, valueIs, errorAt, refusedWith}
-use Rattle.script.specs.Table.{unused}
-use Rattle.script.specs.declared.Place.{Place}
+use Rattle.script.specs.Table.Cases.{lend, int′, true′, var′, add′, and′, if′, let′, ref′, get′, set′, sym′}
 use Rattle.script.specs.declared.Place.the-variants.{Nowhere, At}
-use Rattle.rules.specs.Cases.{Case, check?, run?, checks, runs, asking, right, accepts, refuses, ends, lend, node, computed, int′, true′, var′, add′, and′, if′, let′, ref′, get′, set′, typed′, sym′}
-
--- a table with so many lent nodes and entries, and the counts
-abbrev lentAs : ℕ → ℕ → ℕ → ℕ → ℕ → Place → Case
-lentAs ns n es m number place =
-    record {
-      table = record { lentNodes = replicate ns unused; nodeCount = n; lentEntries = replicate es 0; entryCount = m };
-      question = check?;
-      answer = checks (refusedWith number place);
-    }
+use Rattle.rules.specs.Cases.{Case, run?, runs, asking, right, accepts, refuses, ends, computed}
 
 -- a run of `var 0` with one entry of type `i`
 abbrev runWith : List ℕ → List ℕ → ℕ → Report → List ℕ → Case
@@ -32,29 +22,12 @@ five k b = k ∷ b ∷ 0 ∷ 0 ∷ 0 ∷ []
 
 unfoldable pub refusals : List Case
 refusals =
-    -- 32 before 2 before 3
-    lentAs 127 129 16 0 32 Nowhere
-    ∷ lentAs 128 0 15 0 32 Nowhere
-    ∷ lentAs 129 129 16 0 2 Nowhere
-    ∷ lentAs 128 0 17 17 2 Nowhere
-    ∷ lentAs 128 0 16 16 3 Nowhere
-    -- 33 before 4, and only used entries count
-    ∷ refuses (31 ∷ 32 ∷ []) (add′ 0 1 ∷ []) 33 Nowhere
-    -- 4: an operand that is no earlier node, a kind with no word, a number out of its range, an unused operand; before 5
-    ∷ refuses [] (true′ ∷ true′ ∷ add′ 1 2 ∷ []) 4 (At 2)
-    ∷ refuses [] (true′ ∷ node 15 0 0 0 ∷ node 16 0 0 0 ∷ []) 4 (At 1)
-    ∷ refuses [] (var′ 144 ∷ []) 4 (At 0)
-    ∷ refuses [] (var′ 143 ∷ []) 7 (At 0)
-    ∷ refuses [] (int′ 4294967296 ∷ []) 4 (At 0)
-    ∷ refuses [] (node 1 0 0 7 ∷ []) 4 (At 0)
-    -- 5: a node used twice, in one node or in two, and one that is not used
-    ∷ refuses [] (int′ 1 ∷ add′ 0 0 ∷ []) 5 (At 0)
-    ∷ refuses [] (int′ 1 ∷ int′ 2 ∷ add′ 0 1 ∷ add′ 2 1 ∷ []) 5 (At 1)
-    ∷ refuses [] (int′ 1 ∷ int′ 2 ∷ sym′ 1 ∷ []) 5 (At 0)
-    -- 13: four `sym` may be nested, a fifth may not, and a typed block between them changes nothing
+    -- a `var` that a table may have and nothing binds; four nested `sym`
+    refuses [] (var′ 143 ∷ []) 7 (At 0)
     ∷ accepts [] (int′ 1 ∷ sym′ 0 ∷ sym′ 1 ∷ sym′ 2 ∷ sym′ 3 ∷ []) 0
-    ∷ refuses [] (int′ 1 ∷ sym′ 0 ∷ sym′ 1 ∷ sym′ 2 ∷ sym′ 3 ∷ sym′ 4 ∷ []) 13 (At 1)
-    ∷ refuses [] (int′ 1 ∷ sym′ 0 ∷ typed′ 1 ∷ sym′ 2 ∷ sym′ 3 ∷ sym′ 4 ∷ sym′ 5 ∷ []) 13 (At 1)
+    -- a table's own refusal is the answer, of the checker and of the runner, and comes before 35 and 34
+    ∷ refuses [] (int′ 1 ∷ add′ 0 0 ∷ []) 5 (At 0)
+    ∷ record { table = lend [] (int′ 1 ∷ add′ 0 0 ∷ []); question = run? (five 3 0) (zeros 4) 65; answer = runs (refusedWith 5 (At 0)) (zeros 4) }
     -- 9 at a path's end: the script whose line document 01 prints whole
     ∷ refuses (2 ∷ []) (var′ 0 ∷ true′ ∷ set′ 0 1 ∷ sym′ 2 ∷ []) 9 (At 3)
     -- 12: ten atoms and eleven

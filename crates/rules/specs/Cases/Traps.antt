@@ -4,8 +4,9 @@ use mathlib.Core.Path.{_≡_, refl}
 use mathlib.Core.List.{List, [], _∷_, map}
 use lib.ListN.{replicate}
 use Rattle.script.specs.Answers.{valueIs}
+use Rattle.script.specs.Table.Cases.{int′, true′, false′, var′, eq′, and′, if′, let′, ref′, get′, set′, typed′, sym′}
 use Rattle.script.specs.declared.Place.the-variants.{At}
-use Rattle.rules.specs.Cases.{Case, asking, right, accepts, refuses, ends, computed, int′, true′, false′, var′, eq′, and′, if′, let′, ref′, get′, set′, typed′, sym′}
+use Rattle.rules.specs.Cases.{Case, asking, right, accepts, refuses, ends, computed}
 
 unfoldable pub traps : List Case
 traps =
