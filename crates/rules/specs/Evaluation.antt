@@ -27,37 +27,37 @@ found none other k = other
 found (some v) other k = k v
 
 -- a value of the kind wanted, or else the other outcome
-abbrev pub word : Value → Outcome → (ℕ → Outcome) → Outcome
-word (Word w) other k = k w
-word (Truth b) other k = other
-word (Location l) other k = other
+abbrev pub asWord : Value → Outcome → (ℕ → Outcome) → Outcome
+asWord (Word w) other k = k w
+asWord (Truth b) other k = other
+asWord (Location l) other k = other
 
-abbrev pub truthValue : Value → Outcome → (Bool → Outcome) → Outcome
-truthValue (Word w) other k = other
-truthValue (Truth b) other k = k b
-truthValue (Location l) other k = other
+abbrev pub asTruth : Value → Outcome → (Bool → Outcome) → Outcome
+asTruth (Word w) other k = other
+asTruth (Truth b) other k = k b
+asTruth (Location l) other k = other
 
-abbrev pub location : Value → Outcome → (ℕ → Outcome) → Outcome
-location (Word w) other k = other
-location (Truth b) other k = other
-location (Location l) other k = k l
+abbrev pub asLocation : Value → Outcome → (ℕ → Outcome) → Outcome
+asLocation (Word w) other k = other
+asLocation (Truth b) other k = other
+asLocation (Location l) other k = k l
 
 -- two values of one kind
 abbrev pub equal : Value → Value → Outcome → (Bool → Outcome) → Outcome
-equal (Word v) w other k = word w other λ u. k (eqb v u)
-equal (Truth b) w other k = truthValue w other λ c. k (Bool·beq b c)
-equal (Location l) w other k = location w other λ m. k (eqb l m)
+equal (Word v) w other k = asWord w other λ u. k (eqb v u)
+equal (Truth b) w other k = asTruth w other λ c. k (Bool·beq b c)
+equal (Location l) w other k = asLocation w other λ m. k (eqb l m)
 
 unfoldable pub unaryOn : ℕ → UnaryOp → Value → List Value → Outcome
-unaryOn n notOp v cs = truthValue v (failed n cs) λ b. gave (Truth (not b)) cs
+unaryOn n notOp v cs = asTruth v (failed n cs) λ b. gave (Truth (not b)) cs
 unaryOn n refOp v cs = gave (Location (length cs)) (cs ++ (v ∷ []))
-unaryOn n getOp v cs = location v (failed n cs) λ l. found (getElem? cs l) (failed n cs) λ u. gave u cs
+unaryOn n getOp v cs = asLocation v (failed n cs) λ l. found (getElem? cs l) (failed n cs) λ u. gave u cs
 
 unfoldable pub binaryOn : ℕ → BinaryOp → Value → Value → List Value → Outcome
-binaryOn n addOp v w cs = word v (failed n cs) λ a. word w (failed n cs) λ b. gave (Word ((a + b) % 2 ^ 32)) cs
+binaryOn n addOp v w cs = asWord v (failed n cs) λ a. asWord w (failed n cs) λ b. gave (Word ((a + b) % 2 ^ 32)) cs
 binaryOn n eqOp v w cs = equal v w (failed n cs) λ b. gave (Truth b) cs
-binaryOn n andOp v w cs = truthValue v (failed n cs) λ a. truthValue w (failed n cs) λ b. gave (Truth (a && b)) cs
-binaryOn n setOp v w cs = location v (failed n cs) λ l. found (getElem? cs l) (failed n cs) λ u. gave w (set cs l w)
+binaryOn n andOp v w cs = asTruth v (failed n cs) λ a. asTruth w (failed n cs) λ b. gave (Truth (a && b)) cs
+binaryOn n setOp v w cs = asLocation v (failed n cs) λ l. found (getElem? cs l) (failed n cs) λ u. gave w (set cs l w)
 
 -- the branch that the condition takes; the other one is not evaluated
 abbrev pub branchOn : ℕ → Value → List Value → (List Value → Outcome) → (List Value → Outcome) → Outcome

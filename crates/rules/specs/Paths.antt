@@ -17,6 +17,9 @@ pub record Write : Type 0 where
   pub through : ℕ
   pub value : Symbolic
 
+abbrev pub writeOf : Origin → ℕ → ℕ → Symbolic → Write
+writeOf o t s v = record { origin = o; cell = t; through = s; value = v }
+
 -- the next fresh symbol, the condition, and the log with the newest write first
 pub record Path : Type 0 where
   pub next : ℕ

@@ -1,6 +1,6 @@
 -- Symbolic values (document 01, 'Symbolic mode'): sums for words, formulas over atoms for truths, symbols for references. Assumes nothing.
 pub mod Laws
-use mathlib.Core.Bool.{Bool, true, false, _&&_, _||_}
+use mathlib.Core.Bool.{Bool, true, false, not, _&&_, _||_}
 use mathlib.Core.List.{List, [], _∷_, _++_}
 use Prim.Native.Nat.{ℕ, zero, suc, _+_, _-_, _%_, _^_}
 use lib.Dec.{eqb}
@@ -108,7 +108,7 @@ symbols s (t ∷ ts) = symbol t s ∷ symbols (suc s) ts
 
 -- two symbols that are certainly different cells: two different `ref` symbols of this path
 unfoldable pub apart : Origin → ℕ → Origin → ℕ → Bool
-apart made s made u = pick (eqb s u) false true
+apart made s made u = not (eqb s u)
 apart made s other u = false
 apart other s made u = false
 apart other s other u = false

@@ -10,7 +10,7 @@ use Rattle.script.specs.Tests.{pick}
 use Rattle.script.specs.declared.Checked.{Checked}
 use Rattle.script.specs.declared.Checked.the-variants.{Accepted, Refused}
 use Rattle.script.specs.declared.Refusal.the-variants.{WrongType, UnknownVariable, TooManyReferences, InconsistentLog, TooManyAtoms, PathTypesDiffer, TooManyPaths}
-use Rattle.rules.specs.Paths.{Path, Paths, Leaf, ends, stops, forks, ended, stopped, assume, write, taken, forget, consistent, lookup, fresh}
+use Rattle.rules.specs.Paths.{Path, Paths, Leaf, ends, stops, forks, ended, stopped, assume, writeOf, write, taken, forget, consistent, lookup, fresh}
 use Rattle.rules.specs.Satisfiable.{satisfiable, differentAtoms}
 use Rattle.rules.specs.Symbolic.{Formula, negation, conjunction, equality, Origin, made, Sum, plus, Symbolic, aWord, aTruth, aReference, typeOf, equalSums, equalReferences}
 use Rattle.rules.specs.TypedRules.{isType}
@@ -47,7 +47,7 @@ unaryExec n notOp v p = truthOf v (stops (WrongType n)) λ f. ends (aTruth (nega
 unaryExec n refOp v p =
     let s = p .next in
     pick (isType (suc (suc (typeOf v))))
-    (ends (aReference made (typeOf v) s) (write (record { origin = made; cell = typeOf v; through = s; value = v }) (taken p)))
+    (ends (aReference made (typeOf v) s) (write (writeOf made (typeOf v) s v) (taken p)))
     (stops (TooManyReferences n))
 unaryExec n getOp v p =
     referenceOf v (stops (WrongType n)) λ o t s. pick (consistent p) (got (lookup o s (p .log)) t p) (stops (InconsistentLog n))
@@ -58,7 +58,7 @@ binaryExec n eqOp v w p = equalTo v w (stops (WrongType n)) λ f. ends (aTruth f
 binaryExec n andOp v w p =
     truthOf v (stops (WrongType n)) λ f. truthOf w (stops (WrongType n)) λ g. ends (aTruth (conjunction f g)) p
 binaryExec n setOp v w p =
-    referenceOf v (stops (WrongType n)) λ o t s. ends w (write (record { origin = o; cell = t; through = s; value = w }) p)
+    referenceOf v (stops (WrongType n)) λ o t s. ends w (write (writeOf o t s w) p)
 
 -- the branches that some assignment allows, the true one first; of a satisfiable condition one of them is allowed (`Satisfiable.Laws`)
 unfoldable pub branches : Bool → Bool → (Path → Paths) → (Path → Paths) → Path → Path → Paths

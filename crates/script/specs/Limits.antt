@@ -22,6 +22,10 @@ nestingLimit = 4
 abbrev pub variableLimit : ℕ
 variableLimit = 143
 
+-- the largest word
+abbrev pub wordLimit : ℕ
+wordLimit = 4294967295
+
 -- the largest code of a type: 15 references to a truth
 abbrev pub typeLimit : ℕ
 typeLimit = 31

@@ -5,7 +5,7 @@ use mathlib.Core.List.{List, [], _∷_}
 use mathlib.Core.Option.{Option, none, some}
 use Prim.Native.Nat.{ℕ}
 use lib.ListN.{getElem?}
-use Rattle.script.specs.Limits.{variableLimit}
+use Rattle.script.specs.Limits.{variableLimit, wordLimit}
 pub mod Laws
 
 pub data UnaryOp : Type 0 where
@@ -53,7 +53,7 @@ rowOf k = getElem? rows k
 
 -- the largest number that `int` and `var` take; the operands of every other word are nodes
 abbrev pub numberUpTo : Form → Option ℕ
-numberUpTo intForm = some 4294967295
+numberUpTo intForm = some wordLimit
 numberUpTo varForm = some variableLimit
 numberUpTo ifForm = none
 numberUpTo letForm = none

@@ -119,7 +119,7 @@ pub enum Ran {
     Refused(Refusal),
 }
 
-// A script by its counts, both within the limits. It is made by `empty`, `of`, `with_node` and `with_entry` alone.
+// A script by its counts. Made by `empty`, `of`, `with_node` and `with_entry`, both are within the limits.
 pub struct Script {
     pub nodes: usize,
     pub entries: usize,

@@ -10,8 +10,10 @@ use Rattle.rules.specs.Cases.{Case, asking, right, accepts, refuses, end
 
 unfoldable pub traps : List Case
 traps =
-    -- clearing all wrong writes when any right one comes: a right write through another symbol mends nothing
-    refuses (2 ∷ 2 ∷ []) (var′ 0 ∷ true′ ∷ set′ 0 1 ∷ var′ 1 ∷ int′ 7 ∷ set′ 3 4 ∷ let′ 2 5 ∷ sym′ 6 ∷ []) 9 (At 7)
+    -- clearing all wrong writes when any right one comes: a right write through another symbol mends nothing, here at a `get` (at a path's end: P6)
+    refuses (2 ∷ 2 ∷ [])
+    (var′ 0 ∷ true′ ∷ set′ 0 1 ∷ var′ 1 ∷ int′ 7 ∷ set′ 3 4 ∷ var′ 1 ∷ get′ 6 ∷ let′ 5 7 ∷ let′ 2 8 ∷ sym′ 9 ∷ [])
+    9 (At 7)
     -- keeping the log across a typed block: the block stores 8 where 7 was, so the `get` after it may give either
     ∷ refuses (2 ∷ [])
     (var′ 0 ∷ int′ 7 ∷ set′ 0 1 ∷ var′ 0 ∷ int′ 8 ∷ set′ 3 4 ∷ typed′ 5 ∷ var′ 0 ∷ get′ 7 ∷ int′ 7 ∷ eq′ 8 9 ∷ int′ 1 ∷ true′ ∷ if′ 10 11 12 ∷ let′ 6 13 ∷ let′ 2 14 ∷ sym′ 15 ∷ [])

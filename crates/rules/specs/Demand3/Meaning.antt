@@ -73,11 +73,11 @@ atomAt ρ (difference d) = eqb (sumAt ρ d) 0
 abbrev Same³² : ℕ → ℕ → Type 0
 Same³² a b = Same (2 ^ 32) a b
 
+regroup : (a b c d : ℕ) → a + b + (c + d) ≡ a + c + (b + d)
+regroup a b c d = omega arith
+
 times-plus : (x y w a b : ℕ) → (x + y) * w + (a + b) ≡ x * w + a + (y * w + b)
-times-plus x y w a b = ap (λ (z : ℕ). z + (a + b)) (add-mul x y w) ∙ regroup (x * w) (y * w)
-  where
-    regroup : (p q : ℕ) → p + q + (a + b) ≡ p + a + (q + b)
-    regroup p q = omega arith
+times-plus x y w a b = ap (λ (z : ℕ). z + (a + b)) (add-mul x y w) ∙ regroup (x * w) (y * w) a b
 
 weigh-plus : (xs ys : List ℕ) (ρ : List Entry) → Same³² (weigh (plusEach xs ys) ρ) (weigh xs ρ + weigh ys ρ)
 unfolding plusEach weigh
@@ -105,17 +105,11 @@ raw-plus : (ρ : List Entry) (p q : Sum) → Same³² (raw ρ (plus p q)) (raw �
 raw-plus ρ p q =
     same-trans (same-plus (same-mod (p .constant + q .constant)) (weigh-plus (p .coefficients) (q .coefficients) ρ))
     (same-eq (regroup (p .constant) (q .constant) (weigh (p .coefficients) ρ) (weigh (q .coefficients) ρ)))
-  where
-    regroup : (a b c d : ℕ) → a + b + (c + d) ≡ a + c + (b + d)
-    regroup a b c d = omega arith
 
 raw-negated : (ρ : List Entry) (p : Sum) → Same³² (raw ρ (negated p) + raw ρ p) 0
 raw-negated ρ p =
     same-trans (same-eq (regroup (opposite (p .constant)) (weigh (oppositeEach (p .coefficients)) ρ) (p .constant) (weigh (p .coefficients) ρ)))
     (same-plus (same-opposite (p .constant) positive) (weigh-opposite (p .coefficients) ρ))
-  where
-    regroup : (a b c d : ℕ) → a + b + (c + d) ≡ a + c + (b + d)
-    regroup a b c d = omega arith
 
 pub sum-plus : (ρ : List Entry) (p q : Sum) → sumAt ρ (plus p q) ≡ (sumAt ρ p + sumAt ρ q) % 2 ^ 32
 unfolding sumAt
@@ -168,12 +162,16 @@ zero-difference ρ d = go (isConstant d) refl
     go true e = ap (λ (x : ℕ). eqb x 0) (same-trans (same-eq (sym (add-zero (d .constant)))) (same-plus (same-refl (d .constant)) (same-sym (weigh-zero (d .coefficients) ρ e))) .same)
     go false e = refl
 
+-- a number that is 0 once it is reduced
+zeroed : (x : ℕ) → x % 2 ^ 32 ≡ 0 → Same³² x 0
+zeroed x e = record { same = e ∙ sym (zero-mod (2 ^ 32)) }
+
 pub equal-sums : (ρ : List Entry) (p q : Sum) → holds (atomAt ρ) (equalSums p q) ≡ eqb (sumAt ρ p) (sumAt ρ q)
 unfolding sumAt
 equal-sums ρ p q =
     zero-difference ρ (minus p q)
     ∙ as-tests (sumAt ρ (minus p q)) 0 (sumAt ρ p) (sumAt ρ q)
-    (λ e. same-difference (raw ρ (negated q)) (raw-plus ρ p (negated q)) (raw-negated ρ q) (record { same = e ∙ sym (zero-mod (2 ^ 32)) }) .same)
+    (λ e. same-difference (raw ρ (negated q)) (raw-plus ρ p (negated q)) (raw-negated ρ q) (zeroed (raw ρ (minus p q)) e) .same)
     (λ e. difference-same (raw ρ (negated q)) (raw-plus ρ p (negated q)) (raw-negated ρ q) (record { same = e }) .same ∙ zero-mod (2 ^ 32))
 
 -- ---- sameness of atoms
@@ -200,9 +198,6 @@ negated-zero ρ q =
     as-tests (sumAt ρ (negated q)) 0 (sumAt ρ q) 0
     (λ e. right-of-sum (raw-negated ρ q) (zeroed (raw ρ (negated q)) e) .same ∙ zero-mod (2 ^ 32))
     (λ e. left-of-sum (raw-negated ρ q) (zeroed (raw ρ q) e) .same ∙ zero-mod (2 ^ 32))
-  where
-    zeroed : (x : ℕ) → x % 2 ^ 32 ≡ 0 → Same³² x 0
-    zeroed x e = record { same = e ∙ sym (zero-mod (2 ^ 32)) }
 
 eqb-turned : (a b : ℕ) → eqb a b ≡ eqb b a
 eqb-turned a b = as-tests a b b a sym sym

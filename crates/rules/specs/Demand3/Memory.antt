@@ -1,7 +1,7 @@
 -- The cells beside the write log of a path. Each cell's content has its type, or a symbol that denotes the cell has a wrong write that no right one
 -- followed; a consistent log leaves none of these, so the typing then fits the cells. Each step of a path keeps this. Assumes nothing.
 use mathlib.Core.Path.{_≡_, refl, sym, ap, _∙_, subst}
-use mathlib.Core.Bool.{Bool, true, false, _&&_, _||_, true≢false}
+use mathlib.Core.Bool.{Bool, true, false, not, _&&_, _||_, true≢false}
 use mathlib.Core.List.{List, [], _∷_, _++_}
 use mathlib.Core.Logic.{_⊎_, inl, inr}
 use mathlib.Core.Option.{none, some}
@@ -15,16 +15,16 @@ use Rattle.script.specs.Tests.Laws.{both-true, some-not-none}
 use Rattle.script.specs.declared.Value.{Value}
 use Rattle.script.specs.declared.Value.the-variants.{Location}
 use Rattle.rules.specs.Demand3.Meaning.{Entry, entry}
-use Rattle.rules.specs.Demand3.Stands.{StandsFor, Distinct, stands-extends, stands-type, apart-differ, apart-symbols, same-cell, valuation}
-use Rattle.rules.specs.Paths.{Write, isRight, has, consistentAfter, lookup}
+use Rattle.rules.specs.Demand3.Stands.{StandsFor, Distinct, stands-extends, stands-type, apart-differ, apart-symbols, same-cell, location-inside, valuation}
+use Rattle.rules.specs.Paths.{Write, writeOf, isRight, has, consistentAfter, lookup}
 use Rattle.rules.specs.Symbolic.{Origin, made, other, Symbolic, typeOf, apart}
 use Rattle.rules.specs.Typings.{At, here, there, HasType, is-location, Fits, HaveTypes, Extends}
-use Rattle.rules.specs.Typings.Laws.{split-last, at-below, below-at, at-same, at-append, at-last, at-set-same, at-set-other, at-unset, extends-self, extends-append, each-length, each-at, each-from, each-by, type-extends}
+use Rattle.rules.specs.Typings.Laws.{split-last, at-below, below-at, at-same, at-last, at-set-same, at-set-other, at-unset, extends-self, extends-append, each-length, each-at, each-from, each-by, type-extends}
 
 -- the newest write through the symbol is wrong
 unfoldable pub pending : List Write → ℕ → Bool
 pending [] s = false
-pending (w ∷ ws) s = pick (eqb (w .through) s) (pick (isRight w) false true) (pending ws s)
+pending (w ∷ ws) s = pick (eqb (w .through) s) (not (isRight w)) (pending ws s)
 
 -- all writes are through symbols below n
 pub data WrittenBelow (n : ℕ) : List Write → Type 0 where
@@ -66,7 +66,7 @@ none-pending mended (w ∷ ws) s c h = go (λ m d k. none-pending m ws s d k) (e
     go : ((m : List ℕ) → consistentAfter m ws ≡ true → has m s ≡ false → pending ws s ≡ false)
         → (a : Bool) → eqb (w .through) s ≡ a → (b : Bool) → isRight w ≡ b
         → pick b (consistentAfter (w .through ∷ mended) ws) (has mended (w .through) && consistentAfter mended ws) ≡ true
-        → pick a (pick b false true) (pending ws s) ≡ false
+        → pick a (not b) (pending ws s) ≡ false
     go ih true ea true eb d = refl
     go ih true ea false eb d =
         let q = both-true (has mended (w .through)) (consistentAfter mended ws) d in
@@ -204,11 +204,8 @@ memory-fresh {typing} {ρ} {cells} {log} {x} m known =
 some-inside : {a b : Symbolic} → some a ≡ some b → a ≡ b
 some-inside q = cc
 
-location-inside : {l m : ℕ} → Location l ≡ Location m → l ≡ m
-location-inside q = cc
-
 abbrev pub refWrite : List Entry → Symbolic → Write
-refWrite ρ v = record { origin = made; cell = typeOf v; through = length ρ; value = v }
+refWrite ρ v = writeOf made (typeOf v) (length ρ) v
 
 -- what `get` finds after a write, by the tests on that write
 lookup-after : (w : Write) (log : List Write) (o : Origin) (s : ℕ) {v : Symbolic} {G : Type 0} → lookup o s (w ∷ log) ≡ some v
@@ -223,10 +220,19 @@ lookup-after w log o s {v} {G} e f g = go (apart (w .origin) (w .through) o s) r
     go false ea true eb q = g (eqb-true (w .through) s eb) (some-inside q)
     go false ea false eb q = absurd (some-not-none v (sym q))
 
--- a write through another symbol leaves what is pending
-pending-past : (w : Write) (log : List Write) (s : ℕ) → (w .through ≡ s → ⊥) → pending log s ≡ true → pending (w ∷ log) s ≡ true
+-- a write through symbols that do not denote the cell leaves what is pending
+pending-past : {ρ ρ′ : List Entry} {log : List Write} {l : ℕ} (w : Write) → Extends ρ ρ′
+    → ((o : Origin) (s : ℕ) → At ρ s (entry o (Location l)) → w .through ≡ s → ⊥) → Pending ρ log l → Pending ρ′ (w ∷ log) l
 unfolding pending
-pending-past w log s ne e = ap (λ (b : Bool). pick b (pick (isRight w) false true) (pending log s)) (ne-eqb (w .through) s ne) ∙ e
+pending-past {log = log} {l = l} w e ne p =
+    record {
+      origin = p .origin;
+      through = p .through;
+      denotes = e .keeps (p .through) (entry (p .origin) (Location l)) (p .denotes);
+      is-pending =
+          ap (λ (b : Bool). pick b (not (isRight w)) (pending log (p .through))) (ne-eqb (w .through) (p .through) (ne (p .origin) (p .through) (p .denotes)))
+          ∙ p .is-pending;
+    }
 
 pub memory-ref : {typing : List ℕ} {ρ : List Entry} {cells : List Value} {log : List Write} {v : Symbolic} {x : Value}
     → Memory typing ρ cells log → StandsFor typing ρ v x
@@ -253,13 +259,7 @@ memory-ref {typing} {ρ} {cells} {log} {v} {x} m h =
       where
         go : HasType typing y t ⊎ Pending ρ log l → HasType (typing ++ (typeOf v ∷ [])) y t ⊎ Pending (ρ ++ (newest ∷ [])) (refWrite ρ v ∷ log) l
         go (inl k) = inl (type-extends (extends-append (typeOf v ∷ [])) k)
-        go (inr p) =
-            inr (record {
-              origin = p .origin;
-              through = p .through;
-              denotes = at-append (newest ∷ []) (p .denotes);
-              is-pending = pending-past (refWrite ρ v) log (p .through) (λ q. let k = at-below (p .denotes) in omega arith) (p .is-pending);
-            })
+        go (inr p) = inr (pending-past (refWrite ρ v) (extends-append (newest ∷ [])) (λ o s c q. let k = at-below c in omega arith) p)
     content l t y (inl a) (inr q) = let k = at-below a in absurd (omega (arith, m .as-many, q .0))
     content l t y (inr q) (inl b) = let k = at-below b in absurd (omega (arith, m .as-many, q .0))
     content l t y (inr q) (inr r) =
@@ -295,12 +295,9 @@ memory-ref {typing} {ρ} {cells} {log} {v} {x} m h =
 
 -- ---- `set`
 
-abbrev pub setWrite : Origin → ℕ → ℕ → Symbolic → Write
-setWrite o t s v = record { origin = o; cell = t; through = s; value = v }
-
 pub memory-set : {typing : List ℕ} {ρ : List Entry} {cells : List Value} {log : List Write} {o : Origin} {t s l : ℕ} {v : Symbolic} {x : Value}
     → Memory typing ρ cells log → At ρ s (entry o (Location l)) → At typing l t → StandsFor typing ρ v x
-    → Memory typing ρ (set cells l x) (setWrite o t s v ∷ log)
+    → Memory typing ρ (set cells l x) (writeOf o t s v ∷ log)
 unfolding pending
 memory-set {typing} {ρ} {cells} {log} {o} {t} {s} {l} {v} {x} m denotes cell h =
     record {
@@ -313,7 +310,7 @@ memory-set {typing} {ρ} {cells} {log} {o} {t} {s} {l} {v} {x} m denotes cell h 
     }
   where
     newest : Write
-    newest = setWrite o t s v
+    newest = writeOf o t s v
 
     stored : At (set cells l x) l x
     stored = let q = below-at cells l (m .live o s l denotes) in at-set-same x (q .1)
@@ -328,8 +325,8 @@ memory-set {typing} {ρ} {cells} {log} {o} {t} {s} {l} {v} {x} m denotes cell h 
           through = s;
           denotes = denotes;
           is-pending =
-              ap (λ (b : Bool). pick b (pick (isRight newest) false true) (pending log s)) (eq-eqb s s refl)
-              ∙ ap (λ (b : Bool). pick b false true) e;
+              ap (λ (b : Bool). pick b (not (isRight newest)) (pending log s)) (eq-eqb s s refl)
+              ∙ ap not e;
         })
 
     content : (k u : ℕ) (y : Value) → At (set cells l x) k y → At typing k u → (b : Bool) → eqb k l ≡ b → HasType typing y u ⊎ Pending ρ (newest ∷ log) k
@@ -341,13 +338,7 @@ memory-set {typing} {ρ} {cells} {log} {o} {t} {s} {l} {v} {x} m denotes cell h 
       where
         go : HasType typing y u ⊎ Pending ρ log k → HasType typing y u ⊎ Pending ρ (newest ∷ log) k
         go (inl q) = inl q
-        go (inr p) =
-            inr (record {
-              origin = p .origin;
-              through = p .through;
-              denotes = p .denotes;
-              is-pending = pending-past newest log (p .through) (λ q. eqb-false k l e (same-cell (p .denotes) (subst (λ (z : ℕ). At ρ z (entry o (Location l))) q denotes))) (p .is-pending);
-            })
+        go (inr p) = inr (pending-past newest extends-self (λ o′ s′ d q. eqb-false k l e (same-cell d (subst (λ (z : ℕ). At ρ z (entry o (Location l))) q denotes))) p)
 
     recently : (p : Origin) (u k : ℕ) (w : Symbolic) → At ρ u (entry p (Location k)) → lookup p u (newest ∷ log) ≡ some w → Holds typing ρ (set cells l x) k w
     recently p u k w a e =

@@ -1,14 +1,14 @@
 -- When a symbolic value stands for a value, under a typing of the cells and a valuation of the symbols. Words and truths do so under every extension
 -- of the valuation, so that symbols made later change nothing. Assumes nothing.
 use mathlib.Core.Path.{_≡_, refl, sym, ap, _∙_, subst}
-use mathlib.Core.Bool.{Bool, true, false, not, _&&_, Bool·beq}
+use mathlib.Core.Bool.{Bool, true, false, not, _&&_, Bool·beq, false≢true}
 use mathlib.Core.List.{List, [], _∷_, map}
 use mathlib.Core.Option.{Option}
 use Prim.Native.Nat.{ℕ, zero, suc, _+_, _%_, _^_, _≤_, _<_}
-use native.Mathlib.Omega.{arith}
 use lib.Dec.{eqb}
 use lib.ListN.{getElem?}
-use borrow.Author.Tests.{eqb-true, eq-eqb, ne-eqb}
+use borrow.Author.Tests.{eqb-true, eqb-false, not-true, eq-eqb, ne-eqb}
+use Rattle.script.specs.Limits.{typeLimit}
 use Rattle.script.specs.Tests.{pick}
 use Rattle.script.specs.declared.Value.{Value}
 use Rattle.script.specs.declared.Value.the-variants.{Word, Truth, Location}
@@ -22,7 +22,7 @@ pub data StandsFor (typing : List ℕ) (ρ : List Entry) : Symbolic → Value �
   word-for : {p : Sum} {w : ℕ} → ((later : List Entry) → Extends ρ later → sumAt later p ≡ w) → StandsFor typing ρ (aWord p) (Word w)
   truth-for : {f : Formula} {b : Bool} → ((later : List Entry) → Extends ρ later → holds (atomAt later) f ≡ b)
       → StandsFor typing ρ (aTruth f) (Truth b)
-  reference-for : {o : Origin} {t s l : ℕ} → At ρ s (entry o (Location l)) → At typing l t → suc (suc t) ≤ 31
+  reference-for : {o : Origin} {t s l : ℕ} → At ρ s (entry o (Location l)) → At typing l t → suc (suc t) ≤ typeLimit
       → StandsFor typing ρ (aReference o t s) (Location l)
 
 pub stands-extends : {typing typing′ : List ℕ} {ρ ρ′ : List Entry} {v : Symbolic} {x : Value}
@@ -122,31 +122,33 @@ module _ {typing : List ℕ} {ρ : List Entry} where
 pub record Distinct (ρ : List Entry) : Type 0 where
   pub distinct : (s u l : ℕ) → At ρ s (entry made (Location l)) → At ρ u (entry made (Location l)) → s ≡ u
 
-flipped : (s u : ℕ) → pick (eqb s u) false true ≡ true → s ≡ u → ⊥
-flipped s u e q = let z : _≡_ {A = ℕ} 0 1 = cc (eq-eqb s u q) in omega arith
+-- what being apart tells: both are `ref` symbols, and they are not the same
+record Apart (o : Origin) (s : ℕ) (p : Origin) (u : ℕ) : Type 0 where
+  first-made : o ≡ made
+  second-made : p ≡ made
+  not-same : s ≡ u → ⊥
 
--- symbols that are apart are not the same
-pub apart-symbols : (o : Origin) (s : ℕ) (p : Origin) (u : ℕ) → apart o s p u ≡ true → s ≡ u → ⊥
+apart-tells : (o : Origin) (s : ℕ) (p : Origin) (u : ℕ) → apart o s p u ≡ true → Apart o s p u
 unfolding apart
-apart-symbols made s made u e q = flipped s u e q
-apart-symbols made s other u e q = let z : _≡_ {A = ℕ} 0 1 = cc in omega arith
-apart-symbols other s made u e q = let z : _≡_ {A = ℕ} 0 1 = cc in omega arith
-apart-symbols other s other u e q = let z : _≡_ {A = ℕ} 0 1 = cc in omega arith
+apart-tells made s made u e = record { first-made = refl; second-made = refl; not-same = eqb-false s u (not-true (eqb s u) e) }
+apart-tells made s other u e = absurd (false≢true e)
+apart-tells other s made u e = absurd (false≢true e)
+apart-tells other s other u e = absurd (false≢true e)
+
+pub apart-symbols : (o : Origin) (s : ℕ) (p : Origin) (u : ℕ) → apart o s p u ≡ true → s ≡ u → ⊥
+apart-symbols o s p u e = apart-tells o s p u e .not-same
 
 pub apart-differ : {ρ : List Entry} {o p : Origin} {s u l m : ℕ} → Distinct ρ → At ρ s (entry o (Location l)) → At ρ u (entry p (Location m))
     → apart o s p u ≡ true → l ≡ m → ⊥
-unfolding apart
-apart-differ {ρ} {o = made} {p = made} {s} {u} {l} {m} d a b e q =
-    flipped s u e (d .distinct s u l a (subst (λ (k : ℕ). At ρ u (entry made (Location k))) (sym q) b))
-apart-differ {o = made} {p = other} d a b e q = let z : _≡_ {A = ℕ} 0 1 = cc in omega arith
-apart-differ {o = other} {p = made} d a b e q = let z : _≡_ {A = ℕ} 0 1 = cc in omega arith
-apart-differ {o = other} {p = other} d a b e q = let z : _≡_ {A = ℕ} 0 1 = cc in omega arith
+apart-differ {ρ} {o} {p} {s} {u} {l} {m} d a b e q =
+    let t = apart-tells o s p u e in
+    t .not-same (d .distinct s u l (rw (t .first-made) at a) (rw (t .second-made, ← q) at b))
+
+pub location-inside : {l m : ℕ} → Location l ≡ Location m → l ≡ m
+location-inside q = cc
 
 pub same-cell : {ρ : List Entry} {o p : Origin} {s l m : ℕ} → At ρ s (entry o (Location l)) → At ρ s (entry p (Location m)) → l ≡ m
-same-cell a b = let e = at-same a b in inside (ap (λ (x : Entry). x .value) e)
-  where
-    inside : {l m : ℕ} → Location l ≡ Location m → l ≡ m
-    inside q = cc
+same-cell a b = location-inside (ap (λ (x : Entry). x .value) (at-same a b))
 
 pub equal-references : {typing : List ℕ} {ρ : List Entry} {o p : Origin} {s u l m : ℕ} → Distinct ρ
     → At ρ s (entry o (Location l)) → At ρ u (entry p (Location m))

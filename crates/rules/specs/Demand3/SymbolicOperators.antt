@@ -7,6 +7,7 @@ use Prim.Native.Nat.{ℕ, suc, _<_}
 use lib.Dec.{eqb, leb}
 use lib.ListN.{length, getElem?, set}
 use borrow.Author.Tests.{leb-true}
+use Rattle.script.specs.Limits.{typeLimit}
 use Rattle.script.specs.Rows.{UnaryOp, notOp, refOp, getOp, BinaryOp, addOp, eqOp, andOp, setOp}
 use Rattle.script.specs.Tests.{pick}
 use Rattle.script.specs.declared.Checked.{Checked}
@@ -15,11 +16,11 @@ use Rattle.script.specs.declared.Refusal.the-variants.{WrongType, TooManyRefere
 use Rattle.script.specs.declared.Value.{Value}
 use Rattle.script.specs.declared.Value.the-variants.{Truth, Location}
 use Rattle.rules.specs.Demand3.Meaning.{Entry, entry, atomAt, atoms-respect}
-use Rattle.rules.specs.Demand3.Memory.{Memory, consistent-fits, fitting, value-live, snoc-length, memory-fresh, memory-ref, memory-set, setWrite}
+use Rattle.rules.specs.Demand3.Memory.{Memory, consistent-fits, fitting, value-live, snoc-length, memory-fresh, memory-ref, memory-set}
 use Rattle.rules.specs.Demand3.Promises.{Ends, Promise, kept, State, Follows, at-end, at-stop, first, second, follows-earlier}
 use Rattle.rules.specs.Demand3.Stands.{StandsFor, word-for, truth-for, reference-for, symbol-stands, plus-stands, equal-words, negation-stands, conjunction-stands, equality-stands, equal-references}
 use Rattle.rules.specs.Evaluation.{Outcome, gave, failed, found, unaryOn, binaryOn, branchOn}
-use Rattle.rules.specs.Paths.{Path, Paths, ends, stops, assume, write, taken, forget, consistent, lookup, fresh}
+use Rattle.rules.specs.Paths.{Path, Paths, writeOf, ends, stops, assume, write, taken, forget, consistent, lookup, fresh}
 use Rattle.rules.specs.Satisfiable.{holds, satisfiable, differentAtoms}
 use Rattle.rules.specs.Satisfiable.Laws.{satisfiable-if}
 use Rattle.rules.specs.Symbolic.{Formula, negation, conjunction, Origin, made, other, Symbolic, aTruth, aReference, typeOf, equalReferences}
@@ -71,7 +72,7 @@ module _ {typing : List ℕ} {ρ : List Entry} {p : Path} {cs : List Value} (s :
       go : (b : Bool) → isType (suc (suc (typeOf v))) ≡ b
           → Follows typing ρ
           (pick b
-          (ends (aReference made (typeOf v) (p .next)) (write (record { origin = made; cell = typeOf v; through = p .next; value = v }) (taken p)))
+          (ends (aReference made (typeOf v) (p .next)) (write (writeOf made (typeOf v) (p .next) v) (taken p)))
           (stops (TooManyReferences n)))
           (gave (Location (length cs)) (cs ++ (x ∷ [])))
       go true e =
@@ -83,23 +84,23 @@ module _ {typing : List ℕ} {ρ : List Entry} {p : Path} {cs : List Value} (s :
             stands =
                 reference-for (subst (λ (k : ℕ). At (ρ ++ (newest ∷ [])) k newest) (sym (s .counted)) (at-last ρ newest))
                 (subst (λ (k : ℕ). At (typing ++ (typeOf v ∷ [])) k (typeOf v)) (s .memory .as-many) (at-last typing (typeOf v)))
-                (leb-true (suc (suc (typeOf v))) 31 e);
+                (leb-true (suc (suc (typeOf v))) typeLimit e);
             state =
                 record {
                   counted = ap suc (s .counted) ∙ sym (snoc-length ρ newest);
                   condition-holds = later-holds (p .condition) (extends-append (newest ∷ [])) (s .condition-holds);
                   memory =
-                      subst (λ (k : ℕ). Memory (typing ++ (typeOf v ∷ [])) (ρ ++ (newest ∷ [])) (cs ++ (x ∷ [])) (record { origin = made; cell = typeOf v; through = k; value = v } ∷ p .log))
+                      subst (λ (k : ℕ). Memory (typing ++ (typeOf v ∷ [])) (ρ ++ (newest ∷ [])) (cs ++ (x ∷ [])) (writeOf made (typeOf v) k v ∷ p .log))
                       (sym (s .counted)) (memory-ref (s .memory) h);
                 };
           })
       go false e = at-stop
 
   -- what `get` gives, where the log is consistent
-  got-follows : {o : Origin} {t u l : ℕ} → At ρ u (entry o (Location l)) → At typing l t → Fits typing cs
+  got-follows : {o : Origin} {t u l : ℕ} → At ρ u (entry o (Location l)) → Fits typing cs
       → (r : Option Symbolic) → lookup o u (p .log) ≡ r → (x : Value) → At cs l x → HasType typing x t → Follows typing ρ (got r t p) (gave x cs)
-  got-follows a b f none e x c h = fresh-follows s h (value-live f h)
-  got-follows {o} {t} {u} {l} a b f (some v) e x c h =
+  got-follows a f none e x c h = fresh-follows s h (value-live f h)
+  got-follows {o} {t} {u} {l} a f (some v) e x c h =
       let found = s .memory .recent o u l v a e in
       ends-with s (subst (λ (y : Value). StandsFor typing ρ v y) (at-same (found .placed) c) (found .stands))
 
@@ -115,7 +116,7 @@ module _ {typing : List ℕ} {ρ : List Entry} {p : Path} {cs : List Value} (s :
           let f = consistent-fits (s .memory) e in
           let q = each-at f b in
           subst (λ (y : Option Value). Follows typing ρ (got (lookup o u (p .log)) t p) (found y (failed n cs) λ z. gave z cs)) (sym (at-found (q .1)))
-          (got-follows a b f (lookup o u (p .log)) refl (q .0) (q .1) (q .2))
+          (got-follows a f (lookup o u (p .log)) refl (q .0) (q .1) (q .2))
       go false e = at-stop
 
   pub unary-follows : (n : ℕ) (o : UnaryOp) {v : Symbolic} {x : Value} → StandsFor typing ρ v x → Follows typing ρ (unaryExec n o v p) (unaryOn n o x cs)
@@ -152,7 +153,7 @@ module _ {typing : List ℕ} {ρ : List Entry} {p : Path} {cs : List Value} (s :
   set-follows n (truth-for h) k = at-stop
   set-follows n {w = w} {y = y} (reference-for {o = o} {t = t} {s = u} {l = l} a b h) k =
       let q = below-at cs l (s .memory .live o u l a) in
-      subst (λ (z : Option Value). Follows typing ρ (ends w (write (setWrite o t u w) p)) (found z (failed n cs) λ z′. gave y (set cs l y))) (sym (at-found (q .1)))
+      subst (λ (z : Option Value). Follows typing ρ (ends w (write (writeOf o t u w) p)) (found z (failed n cs) λ z′. gave y (set cs l y))) (sym (at-found (q .1)))
       (ends-with (record { counted = s .counted; condition-holds = s .condition-holds; memory = memory-set (s .memory) a b k }) k)
 
   pub binary-follows : (n : ℕ) (o : BinaryOp) {v w : Symbolic} {x y : Value} → StandsFor typing ρ v x → StandsFor typing ρ w y

@@ -8,6 +8,7 @@ use native.Mathlib.Nat.{mod-lt}
 use lib.Dec.{eqb, lit<}
 use lib.ListN.{length, getElem?, set}
 use borrow.Author.Tests.{eqb-true, leb-true}
+use Rattle.script.specs.Limits.{typeLimit}
 use Rattle.script.specs.Rows.{UnaryOp, notOp, refOp, getOp, BinaryOp, addOp, eqOp, andOp, setOp}
 use Rattle.script.specs.Tests.{pick}
 use Rattle.script.specs.declared.Checked.{Checked}
@@ -40,7 +41,7 @@ module _ {typing : List ℕ} {cs : List Value} (f : Fits typing cs) where
             extension = typing ++ (t ∷ []);
             extends = extends-append (t ∷ []);
             fits = each-last (types-extend (extends-append (t ∷ [])) f) (type-extends (extends-append (t ∷ [])) h);
-            typed = is-location placed (leb-true (suc (suc t)) 31 e);
+            typed = is-location placed (leb-true (suc (suc t)) typeLimit e);
           })
       go false e = free
 

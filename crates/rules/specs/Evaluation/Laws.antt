@@ -9,7 +9,7 @@ use Rattle.script.specs.Rows.{UnaryOp, notOp, refOp, getOp, BinaryOp, addOp, eq
 use Rattle.script.specs.Tree.{Expr, int, truth, var, unary, binary, ifElse, letIn, typedBlock, symBlock, size}
 use Rattle.script.specs.declared.Value.{Value}
 use Rattle.script.specs.declared.Value.the-variants.{Word, Truth, Location}
-use Rattle.rules.specs.Evaluation.{Outcome, gave, failed, after, found, word, truthValue, location, equal, unaryOn, binaryOn, branchOn, eval}
+use Rattle.rules.specs.Evaluation.{Outcome, gave, failed, after, found, asWord, asTruth, asLocation, equal, unaryOn, binaryOn, branchOn, eval}
 
 -- the cells that a run ends with
 abbrev pub cellsOf : Outcome → List Value
@@ -41,17 +41,17 @@ module _ (n s : ℕ) (other : Outcome) (g : Grows n s other) where
   grows-found none k h = g
   grows-found (some v) k h = h v
 
-  pub grows-word : (v : Value) (k : ℕ → Outcome) → ((w : ℕ) → Grows n s (k w)) → Grows n s (word v other k)
+  pub grows-word : (v : Value) (k : ℕ → Outcome) → ((w : ℕ) → Grows n s (k w)) → Grows n s (asWord v other k)
   grows-word (Word w) k h = h w
   grows-word (Truth b) k h = g
   grows-word (Location l) k h = g
 
-  pub grows-truth : (v : Value) (k : Bool → Outcome) → ((b : Bool) → Grows n s (k b)) → Grows n s (truthValue v other k)
+  pub grows-truth : (v : Value) (k : Bool → Outcome) → ((b : Bool) → Grows n s (k b)) → Grows n s (asTruth v other k)
   grows-truth (Word w) k h = g
   grows-truth (Truth b) k h = h b
   grows-truth (Location l) k h = g
 
-  pub grows-location : (v : Value) (k : ℕ → Outcome) → ((l : ℕ) → Grows n s (k l)) → Grows n s (location v other k)
+  pub grows-location : (v : Value) (k : ℕ → Outcome) → ((l : ℕ) → Grows n s (k l)) → Grows n s (asLocation v other k)
   grows-location (Word w) k h = g
   grows-location (Truth b) k h = g
   grows-location (Location l) k h = h l

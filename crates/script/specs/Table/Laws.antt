@@ -11,7 +11,7 @@ use lib.Dec.{leb, ltb, eqb}
 use lib.ListN.{length, take, drop, getD}
 use lib.Seq.{length-take-le, take-suc, take-length}
 use borrow.Author.Tests.{ltb-true, leb-true, eqb-true, not-false, lt-ltb, le-leb, eq-eqb, ne-eqb}
-use Rattle.script.specs.Limits.{nodeLimit, entryLimit}
+use Rattle.script.specs.Limits.{nodeLimit, entryLimit, variableLimit, wordLimit, typeLimit}
 use Rattle.script.specs.Rows.{Row, Form, UnaryOp, BinaryOp, rowOf, numberUpTo, intForm, varForm, ifForm, letForm, typedForm, symForm, truthForm, unaryForm, binaryForm}
 use Rattle.script.specs.Rows.Laws.{countOf, row-count}
 use Rattle.script.specs.Table.{Table, nodesOf, entriesOf, unused, nodeAt, fields, rightOperands, rightNode, wellFormed, nodesAmong, operands, timesIn, uses, tooDeep, nodesTest, tableTest}
@@ -27,12 +27,12 @@ pub record Sound (ns : List Node) : Type 0 where
   pub shallow : (i : ℕ) → i < length ns → tooDeep ns i ≡ false
 
 pub record Passes (t : Table) : Type 0 where
-  pub lentNodes : 128 ≤ length (t .lentNodes)
-  pub lentEntries : 16 ≤ length (t .lentEntries)
-  pub nodesMost : t .nodeCount ≤ 128
-  pub entriesMost : t .entryCount ≤ 16
+  pub lentNodes : nodeLimit ≤ length (t .lentNodes)
+  pub lentEntries : entryLimit ≤ length (t .lentEntries)
+  pub nodesMost : t .nodeCount ≤ nodeLimit
+  pub entriesMost : t .entryCount ≤ entryLimit
   pub nodesLeast : 1 ≤ t .nodeCount
-  pub codes : (i : ℕ) → i < t .entryCount → getD (entriesOf t) i 0 ≤ 31
+  pub codes : (i : ℕ) → i < t .entryCount → getD (entriesOf t) i 0 ≤ typeLimit
   pub nodesLength : length (nodesOf t) ≡ t .nodeCount
   pub entriesLength : length (entriesOf t) ≡ t .entryCount
   pub sound : Sound (nodesOf t)
@@ -76,7 +76,7 @@ passes t e =
       nodesMost = n′;
       entriesMost = m′;
       nodesLeast = ltb-true 0 (t .nodeCount) (c .0);
-      codes = λ i h. leb-true (getD (entriesOf t) i 0) 31 (all-getD (λ c. leb c 31) (entriesOf t) (d .0) i 0 (omega arith));
+      codes = λ i h. leb-true (getD (entriesOf t) i 0) typeLimit (all-getD (λ c. leb c typeLimit) (entriesOf t) (d .0) i 0 (omega arith));
       nodesLength = length-take-le (t .nodeCount) (t .lentNodes) (omega arith);
       entriesLength = l;
       sound = nodesTest-sound (nodesOf t) (d .1);
@@ -88,16 +88,16 @@ passes-none t p =
     none-need _ TableTooSmall _ (true-both _ _ (le-leb _ _ (p .lentNodes)) (le-leb _ _ (p .lentEntries)))
     (none-need _ TooMany _ (true-both _ _ (le-leb _ _ (p .nodesMost)) (le-leb _ _ (p .entriesMost)))
     (none-need _ NoNode _ (lt-ltb _ _ (p .nodesLeast))
-    (none-need _ BadTypeCode _ (getD-all (λ c. leb c 31) 0 (entriesOf t) (λ i h. le-leb _ _ (p .codes i (omega arith))))
+    (none-need _ BadTypeCode _ (getD-all (λ c. leb c typeLimit) 0 (entriesOf t) (λ i h. le-leb _ _ (p .codes i (omega arith))))
     (sound-nodesTest (nodesOf t) (p .sound)))))
 
 -- ---- a well-formed node
 
 -- a node with the number i, by the form of its row: the operands in use and their ranges, and that the rest are 0
 pub data Formed (i : ℕ) (n : Node) : Form → Type 0 where
-  intNode : n .a ≤ 4294967295 → n .b ≡ 0 → n .c ≡ 0 → Formed i n intForm
+  intNode : n .a ≤ wordLimit → n .b ≡ 0 → n .c ≡ 0 → Formed i n intForm
   truthNode : {b : Bool} → n .a ≡ 0 → n .b ≡ 0 → n .c ≡ 0 → Formed i n (truthForm b)
-  varNode : n .a ≤ 143 → n .b ≡ 0 → n .c ≡ 0 → Formed i n varForm
+  varNode : n .a ≤ variableLimit → n .b ≡ 0 → n .c ≡ 0 → Formed i n varForm
   unaryNode : {o : UnaryOp} → n .a < i → n .b ≡ 0 → n .c ≡ 0 → Formed i n (unaryForm o)
   binaryNode : {o : BinaryOp} → n .a < i → n .b < i → n .c ≡ 0 → Formed i n (binaryForm o)
   ifNode : n .a < i → n .b < i → n .c < i → Formed i n ifForm
@@ -125,8 +125,8 @@ module _ (i : ℕ) (n : Node) where
   rest-zero v = (each-zero (n .b ∷ n .c ∷ []) v 0 (omega arith), each-zero (n .b ∷ n .c ∷ []) v 1 (omega arith))
 
   by-form : (f : Form) → rightOperands (numberUpTo f) i (take (countOf f) (fields n)) ≡ true → all (λ o. eqb o 0) (drop (countOf f) (fields n)) ≡ true → Formed i n f
-  by-form intForm u v = intNode (each-most 4294967295 (n .a ∷ []) u 0 (omega arith)) (rest-zero v .0) (rest-zero v .1)
-  by-form varForm u v = varNode (each-most 143 (n .a ∷ []) u 0 (omega arith)) (rest-zero v .0) (rest-zero v .1)
+  by-form intForm u v = intNode (each-most wordLimit (n .a ∷ []) u 0 (omega arith)) (rest-zero v .0) (rest-zero v .1)
+  by-form varForm u v = varNode (each-most variableLimit (n .a ∷ []) u 0 (omega arith)) (rest-zero v .0) (rest-zero v .1)
   by-form ifForm u v = let p = each-earlier i (fields n) u in ifNode (p 0 (omega arith)) (p 1 (omega arith)) (p 2 (omega arith))
   by-form letForm u v = let p = each-earlier i (n .a ∷ n .b ∷ []) u in letNode (p 0 (omega arith)) (p 1 (omega arith)) (each-zero (n .c ∷ []) v 0 (omega arith))
   by-form typedForm u v = typedNode (each-earlier i (n .a ∷ []) u 0 (omega arith)) (rest-zero v .0) (rest-zero v .1)

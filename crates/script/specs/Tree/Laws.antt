@@ -9,6 +9,7 @@ use native.Mathlib.Omega.{arith}
 use native.Mathlib.Nat.{zero-add}
 use lib.ListN.{length, take, drop, length-append, take-append-drop, List·getD-append}
 use lib.Seq.{length-take-le, getD-at}
+use Rattle.script.specs.Limits.{variableLimit, wordLimit}
 use Rattle.script.specs.Rows.{Row, Form, UnaryOp, BinaryOp, rowOf, intForm, varForm, ifForm, letForm, typedForm, symForm, truthForm, unaryForm, binaryForm}
 use Rattle.script.specs.Table.{nodeAt, wellFormed}
 use Rattle.script.specs.Table.Laws.{Formed, intNode, truthNode, varNode, unaryNode, binaryNode, ifNode, letNode, typedNode, symNode, FormedAt, formed-at}
@@ -97,9 +98,9 @@ unrolling ns w i h =
 
 -- the tree of node i: its row's form, the ranges of its operands, and the trees of the operands that are nodes
 pub data Unrolled (ns : List Node) (i : ℕ) : Expr → Type 0 where
-  is-int : {r : Row} → rowOf (nodeAt ns i .kind) ≡ some r → r .form ≡ intForm → nodeAt ns i .a ≤ 4294967295 → Unrolled ns i (int i (nodeAt ns i .a))
+  is-int : {r : Row} → rowOf (nodeAt ns i .kind) ≡ some r → r .form ≡ intForm → nodeAt ns i .a ≤ wordLimit → Unrolled ns i (int i (nodeAt ns i .a))
   is-truth : {r : Row} {b : Bool} → rowOf (nodeAt ns i .kind) ≡ some r → r .form ≡ truthForm b → Unrolled ns i (truth i b)
-  is-var : {r : Row} → rowOf (nodeAt ns i .kind) ≡ some r → r .form ≡ varForm → nodeAt ns i .a ≤ 143 → Unrolled ns i (var i (nodeAt ns i .a))
+  is-var : {r : Row} → rowOf (nodeAt ns i .kind) ≡ some r → r .form ≡ varForm → nodeAt ns i .a ≤ variableLimit → Unrolled ns i (var i (nodeAt ns i .a))
   is-unary : {r : Row} {o : UnaryOp} → rowOf (nodeAt ns i .kind) ≡ some r → r .form ≡ unaryForm o → nodeAt ns i .a < i
       → Unrolled ns i (unary i o (treeAt (trees ns) (nodeAt ns i .a)))
   is-binary : {r : Row} {o : BinaryOp} → rowOf (nodeAt ns i .kind) ≡ some r → r .form ≡ binaryForm o → nodeAt ns i .a < i → nodeAt ns i .b < i
