@@ -7,7 +7,7 @@ use Prim.Native.Nat.{ℕ}
 use lib.ListN.{replicate, take}
 use Rattle.script.specs.Answers.{Report, typeIs, valueIs, refusedWith, reportOfCheck, reportOfRun}
 use Rattle.script.specs.Rows.{rows, rowOf}
-use Rattle.script.specs.Table.{Table, wellFormed, operands, timesIn, uses, symsAround, tooDeep, nodesTest, tableTest}
+use Rattle.script.specs.Table.{Table, wellFormed, operands, timesIn, uses, symsAround, tooDeep, treeTest, nodesTest, tableTest}
 use Rattle.script.specs.Table.Cases.{lend, int′, true′, var′, add′, if′, let′, ref′, set′, sym′}
 use Rattle.script.specs.Tests.{lowestFrom}
 use Rattle.script.specs.Tree.{shape, treeBy, treesFrom, trees, root, treeOf}
@@ -91,7 +91,7 @@ cases =
 
 -- to unfold this is to unfold every definition that the cases compute with
 computed : Unit {0}
-unfolding checkTable unaryOn binaryOn eval has consistentAfter lookup bind leaves allValid valuesOf runTest runTable allBytes holds atomsOf among different someChoice satisfiable plusEach oppositeEach sameEach sameSum sameAtom symbol symbols apart equalReferences unaryExec binaryExec branches decide typedResult variable judge unaryType binaryType ifType rows rowOf wellFormed operands timesIn uses symsAround tooDeep nodesTest tableTest lowestFrom shape treeBy treesFrom trees root treeOf check
+unfolding checkTable unaryOn binaryOn eval has consistentAfter lookup bind leaves allValid valuesOf runTest runTable allBytes holds atomsOf among different someChoice satisfiable plusEach oppositeEach sameEach sameSum sameAtom symbol symbols apart equalReferences unaryExec binaryExec branches decide typedResult variable judge unaryType binaryType ifType rows rowOf wellFormed operands timesIn uses symsAround tooDeep treeTest nodesTest tableTest lowestFrom shape treeBy treesFrom trees root treeOf check
 computed = tt
 
 pub cases-hold : map asking cases ≡ map right cases

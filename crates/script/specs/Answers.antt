@@ -1,15 +1,17 @@
 -- What document 01 has each answer say: the number and place of a refusal ('Turned down'), the kind and the 32 bits of a value ('Evaluation'), and the
--- report of the checker's and the runner's answer. Assumes nothing.
+-- report of each call's answer. Assumes nothing.
 use mathlib.Core.Bool.{true, false}
 use Prim.Native.Nat.{ℕ}
 use Rattle.script.specs.declared.Checked.{Checked}
 use Rattle.script.specs.declared.Place.{Place}
 use Rattle.script.specs.declared.Place.the-variants.{Nowhere, At}
 use Rattle.script.specs.declared.Ran.{Ran}
+use Rattle.script.specs.declared.Reading.{Reading}
 use Rattle.script.specs.declared.Refusal.{Refusal}
 use Rattle.script.specs.declared.Refusal.the-variants.{BadLine, TooManyAt, TooMany, NoNode, BadOperand, NotUsedOnce, WrongType, UnknownVariable, TooManyReferences, InconsistentLog, PathTypesDiffer, TooManyPaths, TooManyAtoms, TooDeep, TextTooLong, TableTooSmall, BadTypeCode, BadValues, BadCells, OutputTooShort}
 use Rattle.script.specs.declared.Value.{Value}
 use Rattle.script.specs.declared.Value.the-variants.{Word, Truth, Location}
+use Rattle.script.specs.declared.Writing.{Writing}
 
 abbrev pub numberOf : Refusal → ℕ
 numberOf (BadLine i) = 1
@@ -68,11 +70,14 @@ bitsOf (Truth true) = 1
 bitsOf (Truth false) = 0
 bitsOf (Location l) = l
 
--- a type's code; a value's kind and bits, and the used count; the node of the error state, and the used count; a refusal's number and place
+-- a type's code; a value's kind and bits, and the used count; the node of the error state, and the used count; how many nodes and entries were read;
+-- how many bytes were written; a refusal's number and place
 pub data Report : Type 0 where
   typeIs : ℕ → Report
   valueIs : ℕ → ℕ → ℕ → Report
   errorAt : ℕ → ℕ → Report
+  tableOf : ℕ → ℕ → Report
+  bytesOf : ℕ → Report
   refusedWith : ℕ → Place → Report
 
 abbrev pub reportOfCheck : Checked → Report
@@ -83,3 +88,11 @@ abbrev pub reportOfRun : Ran → Report
 reportOfRun (Ran.Gave v used) = valueIs (kindOf v) (bitsOf v) used
 reportOfRun (Ran.Failed n used) = errorAt n used
 reportOfRun (Ran.Refused r) = refusedWith (numberOf r) (placeOf r)
+
+abbrev pub reportOfReading : Reading → Report
+reportOfReading (Reading.Read s) = tableOf (s .nodes) (s .entries)
+reportOfReading (Reading.Refused r) = refusedWith (numberOf r) (placeOf r)
+
+abbrev pub reportOfWriting : Writing → Report
+reportOfWriting (Writing.Wrote n) = bytesOf n
+reportOfWriting (Writing.Refused r) = refusedWith (numberOf r) (placeOf r)

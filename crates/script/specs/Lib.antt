@@ -1,4 +1,5 @@
 pub mod Answers
+pub mod Flat
 pub mod Limits
 pub mod Rows
 pub mod Table

@@ -95,11 +95,14 @@ tooDeep ns i = isSymNode (nodeAt ns i) && leb nestingLimit (symsAround i (suc i)
 
 -- ---- the tests in their order
 
+-- 5 and 13
+unfoldable pub treeTest : List Node → Option Refusal
+treeTest ns =
+    needNone (lowest (λ i. not (eqb (uses ns i) 1)) (pred (length ns))) NotUsedOnce
+    (needNone (lowest (tooDeep ns) (length ns)) TooDeep none)
+
 unfoldable pub nodesTest : List Node → Option Refusal
-nodesTest ns =
-    needNone (lowest (λ i. not (wellFormed ns i)) (length ns)) BadOperand
-    (needNone (lowest (λ i. not (eqb (uses ns i) 1)) (pred (length ns))) NotUsedOnce
-    (needNone (lowest (tooDeep ns) (length ns)) TooDeep none))
+nodesTest ns = needNone (lowest (λ i. not (wellFormed ns i)) (length ns)) BadOperand (treeTest ns)
 
 unfoldable pub tableTest : Table → Option Refusal
 tableTest t =

@@ -119,6 +119,18 @@ pub enum Ran {
     Refused(Refusal),
 }
 
+// The reader's answer: the script's counts, or why not.
+pub enum Reading {
+    Read(Script),
+    Refused(Refusal),
+}
+
+// The writer's answer: the length of the text, or why not.
+pub enum Writing {
+    Wrote(usize),
+    Refused(Refusal),
+}
+
 // A script by its counts. Made by `empty`, `of`, `with_node` and `with_entry`, both are within the limits.
 pub struct Script {
     pub nodes: usize,

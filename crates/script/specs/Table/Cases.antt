@@ -7,7 +7,7 @@ use lib.ListN.{length, replicate}
 use Rattle.script.specs.Answers.{numberOf, placeOf}
 use Rattle.script.specs.Limits.{nodeLimit, entryLimit}
 use Rattle.script.specs.Rows.{rows, rowOf}
-use Rattle.script.specs.Table.{Table, unused, wellFormed, operands, timesIn, uses, symsAround, tooDeep, nodesTest, tableTest}
+use Rattle.script.specs.Table.{Table, unused, wellFormed, operands, timesIn, uses, symsAround, tooDeep, treeTest, nodesTest, tableTest}
 use Rattle.script.specs.Tests.{lowestFrom}
 use Rattle.script.specs.declared.Node.{Node}
 use Rattle.script.specs.declared.Place.{Place}
@@ -129,5 +129,5 @@ cases =
     ∷ []
 
 pub cases-hold : map asking cases ≡ map right cases
-unfolding cases rows rowOf wellFormed operands timesIn uses symsAround tooDeep nodesTest tableTest lowestFrom
+unfolding cases rows rowOf wellFormed operands timesIn uses symsAround tooDeep treeTest nodesTest tableTest lowestFrom
 cases-hold = refl

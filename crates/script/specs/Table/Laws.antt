@@ -14,7 +14,7 @@ use borrow.Author.Tests.{ltb-true, leb-true, eqb-true, not-false, lt-ltb, le-leb
 use Rattle.script.specs.Limits.{nodeLimit, entryLimit, variableLimit, wordLimit, typeLimit}
 use Rattle.script.specs.Rows.{Row, Form, UnaryOp, BinaryOp, rowOf, numberUpTo, intForm, varForm, ifForm, letForm, typedForm, symForm, truthForm, unaryForm, binaryForm}
 use Rattle.script.specs.Rows.Laws.{countOf, row-count}
-use Rattle.script.specs.Table.{Table, nodesOf, entriesOf, unused, nodeAt, fields, rightOperands, rightNode, wellFormed, nodesAmong, operands, timesIn, uses, tooDeep, nodesTest, tableTest}
+use Rattle.script.specs.Table.{Table, nodesOf, entriesOf, unused, nodeAt, fields, rightOperands, rightNode, wellFormed, nodesAmong, operands, timesIn, uses, tooDeep, treeTest, nodesTest, tableTest}
 use Rattle.script.specs.Tests.{all}
 use Rattle.script.specs.Tests.Laws.{both-true, true-both, true-or-false, lowest-none, none-lowest, all-getD, getD-all, need-none, none-need, needNone-none, none-needNone}
 use Rattle.script.specs.declared.Node.{Node}
@@ -38,7 +38,7 @@ pub record Passes (t : Table) : Type 0 where
   pub sound : Sound (nodesOf t)
 
 pub nodesTest-sound : (ns : List Node) → nodesTest ns ≡ none → Sound ns
-unfolding nodesTest
+unfolding treeTest nodesTest
 nodesTest-sound ns e =
     let a = needNone-none _ BadOperand _ e in
     let b = needNone-none _ NotUsedOnce _ (a .1) in
@@ -50,7 +50,7 @@ nodesTest-sound ns e =
     }
 
 pub sound-nodesTest : (ns : List Node) → Sound ns → nodesTest ns ≡ none
-unfolding nodesTest
+unfolding treeTest nodesTest
 sound-nodesTest ns s =
     none-needNone _ BadOperand _ (none-lowest (λ i. not (wellFormed ns i)) (length ns) (λ j h. ap not (s .formed j h)))
     (none-needNone _ NotUsedOnce _ (none-lowest (λ i. not (eqb (uses ns i) 1)) (pred (length ns)) (λ j h. ap not (eq-eqb (uses ns j) 1 (s .once j h))))

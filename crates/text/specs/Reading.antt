@@ -1,0 +1,44 @@
+-- The whole answer of reading a text into a lent table, and what every lent place then holds (document 01, 'Turned down'): 32 comes before all else; a
+-- refused reading leaves `false` in every place of the table and 0 in every entry, and after success the unused places hold the same.
+-- Assumes nothing.
+use mathlib.Core.Bool.{_&&_}
+use mathlib.Core.List.{List, [], _∷_, _++_}
+use Prim.Native.Nat.{ℕ, _-_}
+use lib.Dec.{leb}
+use lib.ListN.{length, replicate}
+use Rattle.script.specs.Limits.{nodeLimit, entryLimit, sizeOf}
+use Rattle.script.specs.Table.{unused}
+use Rattle.script.specs.Tests.{pick}
+use Rattle.script.specs.declared.Node.{Node}
+use Rattle.script.specs.declared.Reading.{Reading}
+use Rattle.script.specs.declared.Refusal.the-variants.{TableTooSmall}
+use Rattle.text.specs.Grammar.{Meaning, means, refused, meaningOf}
+
+pub record Outcome : Type 0 where
+  pub answer : Reading
+  pub lentNodes : List Node
+  pub lentEntries : List ℕ
+
+abbrev pub answerOf : Meaning → Reading
+answerOf (means es ns) = Reading.Read (sizeOf (length ns) (length es))
+answerOf (refused r) = Reading.Refused r
+
+abbrev pub nodesRead : Meaning → List Node
+nodesRead (means es ns) = ns
+nodesRead (refused r) = []
+
+abbrev pub entriesRead : Meaning → List ℕ
+entriesRead (means es ns) = es
+entriesRead (refused r) = []
+
+module _ {A : Type 0} where
+  -- the places of a lent list, the first ones used
+  abbrev pub filled : List A → ℕ → A → List A
+  filled xs n x = xs ++ replicate (n - length xs) x
+
+-- where n nodes and m entries are lent
+abbrev pub outcomeOf : Meaning → ℕ → ℕ → Outcome
+outcomeOf t n m = record { answer = answerOf t; lentNodes = filled (nodesRead t) n unused; lentEntries = filled (entriesRead t) m 0 }
+
+unfoldable pub reading : List ℕ → ℕ → ℕ → Outcome
+reading text n m = outcomeOf (pick (leb nodeLimit n && leb entryLimit m) (meaningOf text) (refused TableTooSmall)) n m

@@ -1,0 +1,1 @@
+// Script text: reader and writer.
