@@ -6,6 +6,8 @@ use mathlib.Core.Option.{Option, none, some}
 use Prim.Native.Nat.{ℕ}
 use lib.ListN.{getElem?}
 use Rattle.script.specs.Limits.{variableLimit, wordLimit}
+use Rattle.script.specs.declared.table.Takes.{Takes}
+use Rattle.script.specs.declared.table.Takes.the-variants.{Number, Nodes}
 pub mod Laws
 
 pub data UnaryOp : Type 0 where
@@ -73,3 +75,23 @@ isSym symForm = true
 isSym (truthForm b) = false
 isSym (unaryForm o) = false
 isSym (binaryForm o) = false
+
+abbrev pub countBy : Option Row → ℕ
+countBy none = 0
+countBy (some r) = r .count
+
+-- how many operands a kind takes; a kind that has no word takes none
+unfoldable pub operandCount : ℕ → ℕ
+operandCount k = countBy (rowOf k)
+
+-- what the operands of a kind are, as the code says it
+abbrev pub takesBy : Option ℕ → Takes
+takesBy none = Nodes
+takesBy (some m) = Number m
+
+abbrev pub takesIn : Option Row → Takes
+takesIn none = Nodes
+takesIn (some r) = takesBy (numberUpTo (r .form))
+
+unfoldable pub takesOf : ℕ → Takes
+takesOf k = takesIn (rowOf k)

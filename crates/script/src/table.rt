@@ -1,0 +1,71 @@
+// A table in its flat form, four numbers a node: the operand counts of the kinds, the one door to a node, and the tests of a table.
+ghost use mathlib.Core.Path.{_≡_};
+ghost use mathlib.Core.List.{List, [], _∷_};
+ghost use Prim.Native.Nat.{_+_, _*_, _<_};
+ghost use lib.ListN.{length};
+ghost use lib.Seq.{sets};
+ghost use Rattle.script.specs.Flat.{nodesIn};
+ghost use Rattle.script.specs.Rows.{operandCount, takesOf};
+ghost use Rattle.script.specs.Table.{nodeAt};
+
+use crate::Node;
+use crate::Script;
+
+// How many kinds of node there are.
+pub const KINDS: u32 = 15;
+
+// How many operands each kind takes: the one table of operand counts, for the reader, the writer and the tests of a table.
+const COUNTS: [u32; 15] = [1, 0, 0, 1, 2, 2, 1, 2, 3, 2, 1, 1, 2, 1, 1];
+
+// What the operands of a kind are: numbers up to a limit, or nodes.
+pub enum Takes {
+    Number(u32),
+    Nodes,
+}
+
+// How many operands a kind takes.
+pub fn operand_count(kind: u32) -> u32
+    ensures { λ r. ⌜ r ≡ operandCount kind ⌝ }
+{
+    if kind < KINDS {
+        return COUNTS[kind as usize];
+    }
+    0
+}
+
+// What the operands of a kind are.
+pub fn kind_takes(kind: u32) -> Takes
+    ensures { λ r. ⌜ r ≡ takesOf kind ⌝ }
+{
+    match kind {
+        0 => Takes::Number(4294967295),
+        3 => Takes::Number(Script::VARIABLE),
+        _ => Takes::Nodes,
+    }
+}
+
+// The node at place i of a table.
+pub fn node_at(table: &[u32], i: usize) -> Node
+    requires { ⌜ 4 * i + 3 < length (now table) ⌝ }
+    ensures { λ r. ⌜ r ≡ nodeAt (nodesIn (now (table .entry))) i ⌝ }
+{
+    let at = 4 * i;
+    Node {
+        kind: table[at],
+        a: table[at + 1],
+        b: table[at + 2],
+        c: table[at + 3],
+    }
+}
+
+// A table with this node at place i.
+pub fn put_node(table: &mut [u32], i: usize, n: Node)
+    requires { ⌜ 4 * i + 3 < length (now table) ⌝ }
+    ensures { λ _. ⌜ now (table .exit) ≡ sets (now (table .entry)) (4 * i) (n .kind ∷ n .a ∷ n .b ∷ n .c ∷ []) ⌝ }
+{
+    let at = 4 * i;
+    table[at] = n.kind;
+    table[at + 1] = n.a;
+    table[at + 2] = n.b;
+    table[at + 3] = n.c;
+}
