@@ -1,5 +1,7 @@
 pub mod Bytes
 pub mod Fields
 pub mod Grammar
+pub mod Output
 pub mod Reading
+pub mod Scan
 pub mod Writing
