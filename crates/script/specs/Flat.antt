@@ -3,6 +3,7 @@ use mathlib.Core.List.{List, [], _∷_}
 use Prim.Native.Nat.{ℕ}
 use Rattle.script.specs.Table.{Table}
 use Rattle.script.specs.declared.Node.{Node}
+pub mod Laws
 
 abbrev pub nodeOf : ℕ → ℕ → ℕ → ℕ → Node
 nodeOf k a b c = record { kind = k; a = a; b = b; c = c }

@@ -7,7 +7,6 @@ ghost use lib.Seq.{sets};
 ghost use Rattle.script.specs.Flat.{nodesIn};
 ghost use Rattle.script.specs.Rows.{operandCount, takesOf};
 ghost use Rattle.script.specs.Table.{nodeAt};
-
 use crate::Node;
 use crate::Script;
 

@@ -1,14 +1,17 @@
--- What every row of the table of words has: the operand count of its form, and a kind below 15. Assumes nothing.
-use mathlib.Core.List.{List, [], _∷_}
+-- What every row of the table of words has: the operand count of its form, and a kind below 15; the rows as the code has
+-- them. Assumes nothing.
+use mathlib.Core.List.{List, [], _∷_, map}
 use mathlib.Core.Option.{some}
-use mathlib.Core.Path.{_≡_, refl, sym}
-use Prim.Native.Nat.{ℕ, zero, suc, _<_}
+use mathlib.Core.Path.{_≡_, refl, sym, _∙_}
+use Prim.Native.Nat.{ℕ, zero, suc, _≤_, _<_}
 use native.Mathlib.Omega.{arith}
 use lib.Dec.{eqb}
-use lib.ListN.{getElem?, length}
+use lib.ListN.{getElem?, length, getD, drop, replicate, List·getD-eq-default}
 use borrow.Author.Tests.{eqb-true}
-use Rattle.script.specs.Rows.{Row, Form, rows, rowOf, intForm, varForm, ifForm, letForm, typedForm, symForm, truthForm, unaryForm, binaryForm}
+use Rattle.script.specs.Limits.{variableLimit, wordLimit}
+use Rattle.script.specs.Rows.{Row, Form, rows, rowOf, countBy, operandCount, takesIn, takesOf, intForm, varForm, ifForm, letForm, typedForm, symForm, truthForm, unaryForm, binaryForm}
 use Rattle.script.specs.Tests.Laws.{all-getElem?, some-not-none}
+use Rattle.script.specs.declared.table.Takes.the-variants.{Number, Nodes}
 
 -- how many operands a form takes
 abbrev pub countOf : Form → ℕ
@@ -35,3 +38,45 @@ place-below (y ∷ ys) (suc k) x e = let h = place-below ys k x e in omega arith
 pub row-kind : (k : ℕ) (r : Row) → rowOf k ≡ some r → k < 15
 unfolding rowOf rows
 row-kind k r e = place-below rows k r e
+
+-- ---- the operand counts and what operands are, as the code has them
+
+counts-at : (rs : List Row) (k : ℕ) → countBy (getElem? rs k) ≡ getD (map (λ (r : Row). r .count) rs) k 0
+counts-at [] k = refl
+counts-at (r ∷ rs) zero = refl
+counts-at (r ∷ rs) (suc k) = counts-at rs k
+
+-- the operand counts of the kinds, in their order
+pub operand-counts : (k : ℕ) → getD (1 ∷ 0 ∷ 0 ∷ 1 ∷ 2 ∷ 2 ∷ 1 ∷ 2 ∷ 3 ∷ 2 ∷ 1 ∷ 1 ∷ 2 ∷ 1 ∷ 1 ∷ []) k 0 ≡ operandCount k
+unfolding operandCount rowOf rows
+operand-counts k = sym (counts-at rows k)
+
+pub no-operands : (k : ℕ) → 15 ≤ k → operandCount k ≡ 0
+no-operands k h = sym (operand-counts k) ∙ List·getD-eq-default (1 ∷ 0 ∷ 0 ∷ 1 ∷ 2 ∷ 2 ∷ 1 ∷ 2 ∷ 3 ∷ 2 ∷ 1 ∷ 1 ∷ 2 ∷ 1 ∷ 1 ∷ []) 0 h
+
+takes-at : (rs : List Row) (k : ℕ) → takesIn (getElem? rs k) ≡ getD (map (λ (r : Row). takesIn (some r)) rs) k Nodes
+takes-at [] k = refl
+takes-at (r ∷ rs) zero = refl
+takes-at (r ∷ rs) (suc k) = takes-at rs k
+
+same-anywhere : {A : Type 0} (m : ℕ) (a : A) (k : ℕ) → getD (replicate m a) k a ≡ a
+same-anywhere zero a k = refl
+same-anywhere (suc m) a zero = refl
+same-anywhere (suc m) a (suc k) = same-anywhere m a k
+
+pub takes-int : takesOf 0 ≡ Number wordLimit
+unfolding takesOf rowOf rows
+takes-int = refl
+
+pub takes-var : takesOf 3 ≡ Number variableLimit
+unfolding takesOf rowOf rows
+takes-var = refl
+
+-- every other kind takes nodes
+pub takes-nodes : (k : ℕ) → (k ≡ 0 → ⊥) → (k ≡ 3 → ⊥) → takesOf k ≡ Nodes
+unfolding takesOf rowOf rows
+takes-nodes zero n m = absurd (n refl)
+takes-nodes (suc zero) n m = refl
+takes-nodes (suc (suc zero)) n m = refl
+takes-nodes (suc (suc (suc zero))) n m = absurd (m refl)
+takes-nodes (suc (suc (suc (suc k)))) n m = takes-at (drop 4 rows) k ∙ same-anywhere 11 Nodes k

@@ -1,0 +1,29 @@
+-- `script::table::node_at` meets its contract: the four numbers from place 4 * i on are node i. Assumes nothing.
+use borrow.Author.Needs.{needs}
+use mathlib.Core.Path.{sym}
+use Rattle.script.specs.Flat.Laws.{nodeAt-nodesIn}
+use Rattle.script.proofs.table.node_at.Statement.{statement}
+use Rattle.script.proofs.table.node_at.Tie as tie
+
+returns : tie.Need-returns
+returns c =
+    let s = c .before .before .before .before in
+    sym (nodeAt-nodesIn (s .args .table .now) (s .args .i) (s .pre))
+
+pub node-at-spec : {M : Type 1} → statement M
+node-at-spec =
+    tie.close
+    (tie.spec
+    (λ c. search needs)
+    (λ c. search needs)
+    (λ c. search needs)
+    (λ c. search needs)
+    (λ c. search needs)
+    (λ c. search needs)
+    (λ c. search needs)
+    (λ c. search needs)
+    (λ c. search needs)
+    (λ c. search needs)
+    (λ c. search needs)
+    (λ c. search needs)
+    returns)

@@ -1,0 +1,26 @@
+-- `script::table::put_node` meets its contract: its four stores are those of `sets`. Assumes nothing.
+use borrow.Author.Needs.{needs}
+use native.Mathlib.Omega.{arith}
+use lib.ListN.{length-set}
+use Rattle.script.specs.Flat.Laws.{stores-sets}
+use Rattle.script.proofs.table.put_node.Statement.{statement}
+use Rattle.script.proofs.table.put_node.Tie as tie
+
+pub put-node-spec : {M : Type 1} → statement M
+put-node-spec =
+    tie.close
+    (tie.spec
+    (λ c. search needs)
+    (λ c. search needs)
+    (λ c. search needs)
+    (λ c. search needs)
+    (λ c. search needs)
+    (λ c. simp length-set (omega arith))
+    (λ c. search needs)
+    (λ c. search needs)
+    (λ c. simp length-set (omega arith))
+    (λ c. search needs)
+    (λ c. search needs)
+    (λ c. search needs)
+    (λ c. search needs)
+    (λ c. let n = c .args .n in stores-sets (c .args .table .now) (c .args .i) (n .kind) (n .a) (n .b) (n .c)))

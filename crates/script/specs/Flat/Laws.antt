@@ -1,0 +1,135 @@
+-- What the flat form tells: the node at a place by its four numbers, a node stored, how many nodes there are, and the way there and back.
+-- Assumes nothing.
+use mathlib.Core.List.{List, [], _∷_, _++_}
+use mathlib.Core.Path.{_≡_, refl, sym, ap, _∙_}
+use Prim.Native.Nat.{ℕ, zero, suc, _+_, _*_, _/_, _≤_, _<_}
+use native.Mathlib.Omega.{arith}
+use lib.ListN.{length, getD, take, drop, set}
+use lib.Seq.{sets, take-nil, drop-nil}
+use Rattle.script.specs.Flat.{nodeOf, flat, nodesIn}
+use Rattle.script.specs.Table.{nodeAt}
+use Rattle.script.specs.declared.Node.{Node}
+
+-- the place of a node's first number, by steps
+unfoldable first : ℕ → ℕ
+first zero = zero
+first (suc i) = suc (suc (suc (suc (first i))))
+
+first-is : (i : ℕ) → first i ≡ 4 * i
+unfolding first
+first-is zero = refl
+first-is (suc i) = let h = first-is i in omega arith
+
+-- ---- how many nodes
+
+pub length-nodesIn : (xs : List ℕ) → length (nodesIn xs) ≡ length xs / 4
+unfolding nodesIn
+length-nodesIn (k ∷ a ∷ b ∷ c ∷ xs) = let h = length-nodesIn xs in omega arith
+length-nodesIn (k ∷ a ∷ b ∷ []) = refl
+length-nodesIn (k ∷ a ∷ []) = refl
+length-nodesIn (k ∷ []) = refl
+length-nodesIn [] = refl
+
+-- as many nodes as the list has room for
+pub nodesIn-holds : (xs : List ℕ) (n : ℕ) → 4 * n ≤ length xs → n ≤ length (nodesIn xs)
+nodesIn-holds xs n h = let l = length-nodesIn xs in omega arith
+
+pub nodesIn-below : (xs : List ℕ) (i : ℕ) → 4 * i + 3 < length xs → i < length (nodesIn xs)
+nodesIn-below xs i h = let l = length-nodesIn xs in omega arith
+
+pub length-flat : (ns : List Node) → length (flat ns) ≡ 4 * length ns
+unfolding flat
+length-flat [] = refl
+length-flat (n ∷ ns) = let h = length-flat ns in omega arith
+
+-- ---- one node
+
+node-first : (xs : List ℕ) (i : ℕ) → suc (suc (suc (first i))) < length xs → nodeAt (nodesIn xs) i ≡ nodeOf (getD xs (first i) 0) (getD xs (suc (first i)) 0) (getD xs (suc (suc (first i))) 0) (getD xs (suc (suc (suc (first i)))) 0)
+unfolding first nodesIn
+node-first [] i h = absurd (omega arith)
+node-first (k ∷ []) i h = absurd (omega arith)
+node-first (k ∷ a ∷ []) i h = absurd (omega arith)
+node-first (k ∷ a ∷ b ∷ []) i h = absurd (omega arith)
+node-first (k ∷ a ∷ b ∷ c ∷ xs) zero h = refl
+node-first (k ∷ a ∷ b ∷ c ∷ xs) (suc i) h = node-first xs i (omega arith)
+
+-- the places as the code writes them
+module _ (i : ℕ) where
+  place-0 : 4 * i ≡ first i
+  place-0 = sym (first-is i)
+
+  place-1 : 4 * i + 1 ≡ suc (first i)
+  place-1 = let h = first-is i in omega arith
+
+  place-2 : 4 * i + 2 ≡ suc (suc (first i))
+  place-2 = let h = first-is i in omega arith
+
+  place-3 : 4 * i + 3 ≡ suc (suc (suc (first i)))
+  place-3 = let h = first-is i in omega arith
+
+-- the node at place i
+pub nodeAt-nodesIn : (xs : List ℕ) (i : ℕ) → 4 * i + 3 < length xs → nodeAt (nodesIn xs) i ≡ nodeOf (getD xs (4 * i) 0) (getD xs (4 * i + 1) 0) (getD xs (4 * i + 2) 0) (getD xs (4 * i + 3) 0)
+nodeAt-nodesIn xs i h =
+    rw (place-1 i, place-2 i, place-3 i, place-0 i) (node-first xs i (rw (place-3 i) at h))
+
+put-first : (xs : List ℕ) (i : ℕ) (n : Node) → suc (suc (suc (first i))) < length xs → nodesIn (sets xs (first i) (n .kind ∷ n .a ∷ n .b ∷ n .c ∷ [])) ≡ set (nodesIn xs) i n
+unfolding first nodesIn
+put-first [] i n h = absurd (omega arith)
+put-first (k ∷ []) i n h = absurd (omega arith)
+put-first (k ∷ a ∷ []) i n h = absurd (omega arith)
+put-first (k ∷ a ∷ b ∷ []) i n h = absurd (omega arith)
+put-first (k ∷ a ∷ b ∷ c ∷ xs) zero n h = refl
+put-first (k ∷ a ∷ b ∷ c ∷ xs) (suc i) n h = ap (_∷_ (nodeOf k a b c)) (put-first xs i n (omega arith))
+
+-- the node n stored at place i
+pub nodesIn-sets : (xs : List ℕ) (i : ℕ) (n : Node) → 4 * i + 3 < length xs → nodesIn (sets xs (4 * i) (n .kind ∷ n .a ∷ n .b ∷ n .c ∷ [])) ≡ set (nodesIn xs) i n
+nodesIn-sets xs i n h = rw (place-0 i) (put-first xs i n (rw (place-3 i) at h))
+
+-- the four stores of a node, as the code writes their places
+pub stores-sets : (xs : List ℕ) (i k a b c : ℕ) → set (set (set (set xs (4 * i) k) (4 * i + 1) a) (4 * i + 2) b) (4 * i + 3) c ≡ sets xs (4 * i) (k ∷ a ∷ b ∷ c ∷ [])
+stores-sets xs i k a b c = rw (place-1 i, place-2 i, place-3 i, place-0 i) refl
+
+-- ---- there and back
+
+pub nodesIn-flat : (ns : List Node) (ys : List ℕ) → nodesIn (flat ns ++ ys) ≡ ns ++ nodesIn ys
+unfolding flat nodesIn
+nodesIn-flat [] ys = refl
+nodesIn-flat (n ∷ ns) ys = ap (_∷_ n) (nodesIn-flat ns ys)
+
+take-first : (xs : List ℕ) (n : ℕ) → take n (nodesIn xs) ≡ nodesIn (take (first n) xs)
+unfolding first nodesIn
+take-first xs zero = refl
+take-first [] (suc n) = refl
+take-first (k ∷ []) (suc n) = refl
+take-first (k ∷ a ∷ []) (suc n) = refl
+take-first (k ∷ a ∷ b ∷ []) (suc n) = refl
+take-first (k ∷ a ∷ b ∷ c ∷ xs) (suc n) = ap (_∷_ (nodeOf k a b c)) (take-first xs n)
+
+drop-first : (xs : List ℕ) (n : ℕ) → drop n (nodesIn xs) ≡ nodesIn (drop (first n) xs)
+unfolding first nodesIn
+drop-first xs zero = refl
+drop-first [] (suc n) = refl
+drop-first (k ∷ []) (suc n) = refl
+drop-first (k ∷ a ∷ []) (suc n) = refl
+drop-first (k ∷ a ∷ b ∷ []) (suc n) = refl
+drop-first (k ∷ a ∷ b ∷ c ∷ xs) (suc n) = drop-first xs n
+
+-- the first n nodes, and those after them
+pub take-nodesIn : (xs : List ℕ) (n : ℕ) → take n (nodesIn xs) ≡ nodesIn (take (4 * n) xs)
+take-nodesIn xs n = rw (place-0 n) (take-first xs n)
+
+pub drop-nodesIn : (xs : List ℕ) (n : ℕ) → drop n (nodesIn xs) ≡ nodesIn (drop (4 * n) xs)
+drop-nodesIn xs n = rw (place-0 n) (drop-first xs n)
+
+flat-first : (xs : List ℕ) (n : ℕ) → first n ≤ length xs → flat (take n (nodesIn xs)) ≡ take (first n) xs
+unfolding first nodesIn flat
+flat-first xs zero h = refl
+flat-first [] (suc n) h = absurd (omega arith)
+flat-first (k ∷ []) (suc n) h = absurd (omega arith)
+flat-first (k ∷ a ∷ []) (suc n) h = absurd (omega arith)
+flat-first (k ∷ a ∷ b ∷ []) (suc n) h = absurd (omega arith)
+flat-first (k ∷ a ∷ b ∷ c ∷ xs) (suc n) h = rw (flat-first xs n (omega arith)) refl
+
+-- the numbers of the first n nodes
+pub flat-nodesIn : (xs : List ℕ) (n : ℕ) → 4 * n ≤ length xs → flat (take n (nodesIn xs)) ≡ take (4 * n) xs
+flat-nodesIn xs n h = rw (place-0 n) (flat-first xs n (rw (place-0 n) at h))
