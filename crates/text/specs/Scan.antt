@@ -13,8 +13,8 @@ use Rattle.text.specs.Bytes.{lf, tab}
 use Rattle.text.specs.Fields.{given, isDigit, valueAfter, numberUpTo}
 use Rattle.text.specs.Grammar.{Line, entryLine, nodeLine, upTo, nodeBy, entryFrom, lineOf, parts}
 use Rattle.text.specs.declared.fields.Said.{Said}
-use Rattle.text.specs.declared.lines.Line.{Line} as located
 use Rattle.text.specs.declared.lines.Operand.{Operand}
+use Rattle.text.specs.declared.lines.Scanned.{Scanned}
 pub mod Laws
 
 abbrev pub saidBy : Option ℕ → Said
@@ -78,18 +78,18 @@ operandAt true m at [] = Operand.Bad
 operandAt true m at (c ∷ cs) = pick (eqb c tab) (operandBy (numberUpTo m (fieldIn cs)) (at + 1 + length (fieldIn cs))) Operand.Bad
 
 -- a line that ends in LF, and the place after it
-abbrev pub located : Bool → Option Line → ℕ → located.Line
-located false l at = located.Line.Bad
-located true none at = located.Line.Bad
-located true (some (entryLine t)) at = located.Line.Entry t at
-located true (some (nodeLine n)) at = located.Line.Node n at
+abbrev pub located : Bool → Option Line → ℕ → Scanned
+located false l at = Scanned.Bad
+located true none at = Scanned.Bad
+located true (some (entryLine t)) at = Scanned.Entry t at
+located true (some (nodeLine n)) at = Scanned.Node n at
 
 -- a line, and its rest after the word `entry` or the word of a kind
-unfoldable pub lineAt : ℕ → List ℕ → located.Line
+unfoldable pub lineAt : ℕ → List ℕ → Scanned
 lineAt at cs = located (lineEnds cs) (lineOf (lineIn cs)) (at + length (lineIn cs) + 1)
 
-unfoldable pub entryAfter : ℕ → List ℕ → located.Line
+unfoldable pub entryAfter : ℕ → List ℕ → Scanned
 entryAfter at cs = located (lineEnds cs) (entryFrom (fieldsAfter cs)) (at + length (lineIn cs) + 1)
 
-unfoldable pub nodeAfter : ℕ → ℕ → List ℕ → located.Line
+unfoldable pub nodeAfter : ℕ → ℕ → List ℕ → Scanned
 nodeAfter k at cs = located (lineEnds cs) (nodeBy k (rowOf k) (fieldsAfter cs)) (at + length (lineIn cs) + 1)

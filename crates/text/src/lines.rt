@@ -22,7 +22,7 @@ use script::Node;
 use script::Script;
 
 // A line's entry or node, and the place after its LF; or not of the form.
-pub enum Line {
+pub enum Scanned {
     Entry(u32, usize),
     Node(Node, usize),
     Bad,
@@ -35,7 +35,7 @@ pub enum Operand {
 }
 
 // The operand after a tab, at most `limit`; 0 without looking where none is wanted.
-fn operand(text: &[u8], at: usize, limit: u32, wanted: bool) -> Operand
+fn operand_at(text: &[u8], at: usize, limit: u32, wanted: bool) -> Operand
     requires { ⌜ at ≤ length (now text) ⌝ }
     ensures { λ r. ⌜ r ≡ operandAt wanted limit at (drop at (now (text .entry))) ⌝ }
 {
@@ -64,51 +64,51 @@ fn largest(kind: u32) -> u32
 }
 
 // The rest of a node line after its word.
-fn node_line(text: &[u8], at: usize, kind: u32) -> Line
+fn node_line(text: &[u8], at: usize, kind: u32) -> Scanned
     requires { ⌜ at ≤ length (now text) ⌝ }
     requires { ⌜ fieldEnds (drop at (now text)) ≡ true ⌝ }
     ensures { λ r. ⌜ r ≡ nodeAfter kind at (drop at (now (text .entry))) ⌝ }
 {
     let count = operand_count(kind);
     let limit = largest(kind);
-    let Operand::Is(a, after_a) = operand(text, at, limit, 0 < count) else {
-        return Line::Bad;
+    let Operand::Is(a, after_a) = operand_at(text, at, limit, 0 < count) else {
+        return Scanned::Bad;
     };
-    let Operand::Is(b, after_b) = operand(text, after_a, limit, 1 < count) else {
-        return Line::Bad;
+    let Operand::Is(b, after_b) = operand_at(text, after_a, limit, 1 < count) else {
+        return Scanned::Bad;
     };
-    let Operand::Is(c, after_c) = operand(text, after_b, limit, 2 < count) else {
-        return Line::Bad;
+    let Operand::Is(c, after_c) = operand_at(text, after_b, limit, 2 < count) else {
+        return Scanned::Bad;
     };
     if !byte_is(text, after_c, LF) {
-        return Line::Bad;
+        return Scanned::Bad;
     }
-    Line::Node(Node { kind, a, b, c }, after_c + 1)
+    Scanned::Node(Node { kind, a, b, c }, after_c + 1)
 }
 
 // The rest of an entry line after its word.
-fn entry_line(text: &[u8], at: usize) -> Line
+fn entry_line(text: &[u8], at: usize) -> Scanned
     requires { ⌜ at ≤ length (now text) ⌝ }
     requires { ⌜ fieldEnds (drop at (now text)) ≡ true ⌝ }
     ensures { λ r. ⌜ r ≡ entryAfter at (drop at (now (text .entry))) ⌝ }
 {
     if !byte_is(text, at, TAB) {
-        return Line::Bad;
+        return Scanned::Bad;
     }
     let from = at + 1;
     let f = field(text, from);
     let end = from + f.len();
     if !byte_is(text, end, LF) {
-        return Line::Bad;
+        return Scanned::Bad;
     }
     match type_code(f) {
-        Said::Number(t) => Line::Entry(t, end + 1),
-        Said::Nothing => Line::Bad,
+        Said::Number(t) => Scanned::Entry(t, end + 1),
+        Said::Nothing => Scanned::Bad,
     }
 }
 
 // The line that starts at `at`.
-pub fn line(text: &[u8], at: usize) -> Line
+pub fn line_at(text: &[u8], at: usize) -> Scanned
     requires { ⌜ at ≤ length (now text) ⌝ }
     ensures { λ r. ⌜ r ≡ lineAt at (drop at (now (text .entry))) ⌝ }
 {
@@ -119,6 +119,6 @@ pub fn line(text: &[u8], at: usize) -> Line
     }
     match kind_of(w) {
         Said::Number(kind) => node_line(text, end, kind),
-        Said::Nothing => Line::Bad,
+        Said::Nothing => Scanned::Bad,
     }
 }

@@ -4,8 +4,11 @@ ghost use mathlib.Core.List.{List, [], _∷_};
 ghost use mathlib.Core.Path.{_≡_};
 ghost use Prim.Native.Nat.{_+_, _^_, _<_};
 ghost use lib.ListN.{length, set};
-ghost use Rattle.text.specs.Output.{Put};
+ghost use Rattle.text.specs.Output.{Put, wordOf};
 ghost use Rattle.text.specs.Writing.{digits, typeText};
+
+use crate::words::LENGTHS;
+use crate::words::WORDS;
 
 // One byte at place `at`.
 pub fn put(out: &mut [u8], at: usize, b: u8)
@@ -14,6 +17,35 @@ pub fn put(out: &mut [u8], at: usize, b: u8)
     if at < out.len() {
         out[at] = b;
     }
+}
+
+// Bytes from place `at` on.
+pub fn put_bytes(out: &mut [u8], at: usize, bytes: &[u8]) -> usize
+    requires { ⌜ at + length (now bytes) < 2 ^ 64 ⌝ }
+    ensures { λ r. ⌜ Put (now (bytes .entry)) at (now (out .entry)) r (now (out .exit)) ⌝ }
+{
+    let mut i = 0;
+    while i < bytes.len() {
+        put(out, at + i, bytes[i]);
+        i += 1;
+    }
+    at + bytes.len()
+}
+
+// The word of this kind, written from place `at` on.
+pub fn put_word(out: &mut [u8], at: usize, kind: u32) -> usize
+    requires { ⌜ kind < 15 ⌝ }
+    requires { ⌜ at + length (wordOf kind) < 2 ^ 64 ⌝ }
+    ensures { λ r. ⌜ Put (wordOf kind) at (now (out .entry)) r (now (out .exit)) ⌝ }
+{
+    let k = kind as usize;
+    let n = LENGTHS[k];
+    let mut i = 0;
+    while i < n {
+        put(out, at + i, WORDS[5 * k + i]);
+        i += 1;
+    }
+    at + n
 }
 
 // A number in decimal: its tens first, then its last digit.

@@ -1,22 +1,19 @@
 // The fifteen words: compared with fields in reading, copied out in writing.
 ghost use mathlib.Core.Path.{_≡_};
-ghost use Prim.Native.Nat.{_+_, _^_, _<_};
-ghost use lib.ListN.{length};
+ghost use Prim.Native.Nat.{_<_};
 ghost use Rattle.script.specs.Rows.{rowOf};
 ghost use Rattle.text.specs.Fields.{sameBytes, wordIs, kindOf};
-ghost use Rattle.text.specs.Output.{Put, wordOf};
 ghost use Rattle.text.specs.Scan.{saidBy};
 
 use crate::fields::Said;
-use crate::output::put;
 use script::table::KINDS;
 
 // The words in the order of the kinds, each in five places.
-const WORDS: [u8; 75] =
+pub const WORDS: [u8; 75] =
     *b"int  true falsevar  add  eq   not  and  if   let  ref  get  set  typedsym  ";
 
 // How long each word is.
-const LENGTHS: [usize; 15] = [3, 4, 5, 3, 3, 2, 3, 3, 2, 3, 3, 3, 3, 5, 3];
+pub const LENGTHS: [usize; 15] = [3, 4, 5, 3, 3, 2, 3, 3, 2, 3, 3, 3, 3, 5, 3];
 
 // Whether two byte strings are the same.
 pub fn same(a: &[u8], b: &[u8]) -> bool
@@ -66,20 +63,4 @@ pub fn kind_of(f: &[u8]) -> Said
         k += 1;
     }
     Said::Nothing
-}
-
-// The word of this kind, written from place `at` on.
-pub fn put_word(out: &mut [u8], at: usize, kind: u32) -> usize
-    requires { ⌜ kind < 15 ⌝ }
-    requires { ⌜ at + length (wordOf kind) < 2 ^ 64 ⌝ }
-    ensures { λ r. ⌜ Put (wordOf kind) at (now (out .entry)) r (now (out .exit)) ⌝ }
-{
-    let k = kind as usize;
-    let n = LENGTHS[k];
-    let mut i = 0;
-    while i < n {
-        put(out, at + i, WORDS[5 * k + i]);
-        i += 1;
-    }
-    at + n
 }
