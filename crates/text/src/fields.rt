@@ -1,11 +1,11 @@
 // The fields of a text and what they say: the tab splitter, numbers and types.
 ghost use mathlib.Core.Path.{_≡_};
-ghost use Prim.Native.Nat.{_≤_};
+ghost use Prim.Native.Nat.{_+_, _≤_};
 ghost use lib.ListN.{length, drop};
 ghost use mathlib.Core.List.{List, []};
 ghost use Rattle.script.specs.Limits.{typeLimit};
 ghost use Rattle.text.specs.Fields.{numberUpTo, typeOf, typeUpTo, lastLetter};
-ghost use Rattle.text.specs.Scan.{fieldIn, startsWith, numberAfter, saidBy};
+ghost use Rattle.text.specs.Scan.{endsField, fieldIn, startsWith, numberAfter, saidBy};
 
 pub const TAB: u8 = 9;
 
@@ -17,22 +17,37 @@ pub enum Said {
     Nothing,
 }
 
-// The field that starts at `from`: that part of the text up to the next tab, the line's end or the text's.
+// Whether a field ends at this byte.
+fn ends_field(c: u8) -> bool
+    ensures { λ r. ⌜ r ≡ endsField c ⌝ }
+{
+    if c == TAB {
+        return true;
+    }
+    c == LF
+}
+
+// Where the field that starts at `from` ends: at the next tab, the line's end or the text's.
+fn field_end(text: &[u8], from: usize) -> usize
+    requires { ⌜ from ≤ length (now text) ⌝ }
+    ensures { λ r. ⌜ r ≡ from + length (fieldIn (drop from (now (text .entry)))) ⌝ }
+{
+    let mut e = from;
+    while e < text.len() {
+        if ends_field(text[e]) {
+            return e;
+        }
+        e += 1;
+    }
+    e
+}
+
+// The field that starts at `from`, as that part of the text.
 pub fn field(text: &[u8], from: usize) -> &[u8]
     requires { ⌜ from ≤ length (now text) ⌝ }
     ensures { λ r. ⌜ now r ≡ fieldIn (drop from (now (text .entry))) ⌝ }
 {
-    let mut e = from;
-    while e < text.len() {
-        let c = text[e];
-        if c == TAB {
-            return &text[from..e];
-        }
-        if c == LF {
-            return &text[from..e];
-        }
-        e += 1;
-    }
+    let e = field_end(text, from);
     &text[from..e]
 }
 
@@ -77,10 +92,11 @@ pub fn number(f: &[u8], limit: u32) -> Said
     if f.len() == 0 {
         return Said::Nothing;
     }
-    if 1 < f.len() {
-        if f[0] == b'0' {
-            return Said::Nothing;
-        }
+    if f.len() == 1 {
+        return digits(f, limit);
+    }
+    if f[0] == b'0' {
+        return Said::Nothing;
     }
     digits(f, limit)
 }
@@ -103,7 +119,7 @@ fn last_letter(t: u32, c: u8) -> Said
 pub fn type_code(f: &[u8]) -> Said
     ensures { λ r. ⌜ r ≡ saidBy (typeOf (now (f .entry))) ⌝ }
 {
-    let mut t: u32 = 0;
+    let mut references: u32 = 0;
     let mut i = 0;
     while i < f.len() {
         let c = f[i];
@@ -112,12 +128,12 @@ pub fn type_code(f: &[u8]) -> Said
             if i < f.len() {
                 return Said::Nothing;
             }
-            return last_letter(t, c);
+            return last_letter(2 * references, c);
         }
-        if 30 <= t {
+        if 15 <= references {
             return Said::Nothing;
         }
-        t += 2;
+        references += 1;
     }
     Said::Nothing
 }
