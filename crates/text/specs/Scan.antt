@@ -16,6 +16,7 @@ use Rattle.text.specs.declared.fields.Said.{Said}
 use Rattle.text.specs.declared.lines.Operand.{Operand}
 use Rattle.text.specs.declared.lines.Scanned.{Scanned}
 pub mod Laws
+pub mod Lines
 
 abbrev pub saidBy : Option ℕ → Said
 saidBy none = Said.Nothing
