@@ -2,4 +2,5 @@ pub mod Bytes
 pub mod Fields
 pub mod Grammar
 pub mod Reading
+pub mod SameTable
 pub mod Writing
