@@ -56,15 +56,14 @@ type-written t h = let z : 0 + t ≡ t = omega arith in rw (type-after 0 t, z, l
 
 -- ---- an entry line, without its LF
 
-pub entryBytes : ℕ → List ℕ
+abbrev pub entryBytes : ℕ → List ℕ
 entryBytes t = entryWord ++ (tab ∷ typeText t)
 
 pub entry-free : (t : ℕ) → Free lf (entryBytes t)
-unfolding entryBytes
 entry-free t = free-append (is-free lf entryWord refl) (free-cons refl (type-free lf t (omega arith)))
 
 pub entry-line : (t : ℕ) → t ≤ typeLimit → lineOf (entryBytes t) ≡ some (entryLine t)
-unfolding entryBytes lineOf sameBytes
+unfolding lineOf sameBytes
 entry-line t h = rw (parts-cut (typeText t) (is-free tab entryWord refl), parts-free (type-free tab t (omega arith)), type-written t h) refl
 
 -- ---- operands
