@@ -3,23 +3,26 @@
 use mathlib.Core.Bool.{Bool, true, false, not}
 use mathlib.Core.List.{List, [], _∷_, _++_}
 use mathlib.Core.Option.{Option, none, some}
-use mathlib.Core.Path.{_≡_, refl, sym, ap, ap₂, _∙_}
+use mathlib.Core.Path.{_≡_, refl, sym, ap, _∙_}
 use Prim.Native.Nat.{ℕ, zero, suc, _+_, _≤_, _<_, pred}
 use native.Mathlib.Omega.{arith}
 use lib.Dec.{leb, ltb, eqb}
-use lib.ListN.{length, take, drop, getD}
-use borrow.Author.Tests.{leb-false, lt-ltb, eqb-true, not-false}
+use lib.ListN.{length, take, drop, getD, length-drop}
+use lib.Seq.{length-take-le, take-take, getD-take}
+use borrow.Author.Tests.{leb-false, le-leb, lt-ltb, eqb-true, not-false}
 use Rattle.script.specs.Answers.{numberOf}
 use Rattle.script.specs.Limits.{nodeLimit, entryLimit, byteLimit}
 use Rattle.script.specs.Rows.{rowOf}
 use Rattle.script.specs.Table.{rightNode, uses, tooDeep, treeTest}
-use Rattle.script.specs.Tests.{pick, lowest, need, needNone}
+use Rattle.script.specs.Tests.{pick, lowest, needNone}
 use Rattle.script.specs.Tests.Laws.{Lowest, lowest-some, lowest-none, some-not-none}
 use Rattle.script.specs.declared.Node.{Node}
+use Rattle.script.specs.declared.Reading.{Reading}
 use Rattle.script.specs.declared.Refusal.{Refusal}
 use Rattle.script.specs.declared.Refusal.the-variants.{BadLine, TooManyAt, BadOperand, NoNode, NotUsedOnce, TooDeep, TextTooLong}
 use Rattle.text.specs.Bytes.{lf}
 use Rattle.text.specs.Grammar.{parts, Line, entryLine, nodeLine, lineOf, Step, goOn, stop, admit, Meaning, means, refused, unless, atEnd, lastPart, after, linesFrom, meaningOf}
+use Rattle.text.specs.Reading as Reads
 use Rattle.text.specs.SameTable.Text.{Some, some-parts, parts-some}
 
 -- ---- what the places say
@@ -51,6 +54,15 @@ pub record RefusedLine (ps : List (List ℕ)) (i : ℕ) (r : Refusal) : Type 0 w
   pub before : taken 0 [] [] (take i ps) ≡ goOn entries nodes
   pub here : RefusedHere i entries nodes (drop i ps) r
 
+-- where the lines ps begin with line i, after es and ns, their line at j, numbered k, is taken
+pub record TakenLine (i : ℕ) (es : List ℕ) (ns : List Node) (ps : List (List ℕ)) (j k : ℕ) : Type 0 where
+  pub entries : List ℕ
+  pub nodes : List Node
+  pub entries′ : List ℕ
+  pub nodes′ : List Node
+  pub before : taken i es ns (take j ps) ≡ goOn entries nodes
+  pub here : admit k entries nodes (lineOf (getD ps j [])) ≡ goOn entries′ nodes′
+
 -- all lines are taken, and nothing follows the last LF
 pub record AllTaken (ps : List (List ℕ)) (ns : List Node) : Type 0 where
   pub entries : List ℕ
@@ -66,10 +78,16 @@ pub data LowestNode (ns : List Node) : Refusal → Type 0 where
   not-once : {i : ℕ} → Lowest (notOnce ns) (pred (length ns)) i → LowestNode ns (NotUsedOnce i)
   too-deep : {i : ℕ} → ((j : ℕ) → j < pred (length ns) → uses ns j ≡ 1) → Lowest (tooDeep ns) (length ns) i → LowestNode ns (TooDeep i)
 
+-- all lines are taken, and one of their nodes is refused
 pub record RefusedNode (ps : List (List ℕ)) (r : Refusal) : Type 0 where
   pub nodes : List Node
   pub taken-all : AllTaken ps nodes
   pub lowest-node : LowestNode nodes r
+
+-- the refusals whose place is a node
+pub data OfNode : Refusal → Type 0 where
+  used-once : {i : ℕ} → OfNode (NotUsedOnce i)
+  nested : {i : ℕ} → OfNode (TooDeep i)
 
 -- why a text is refused
 pub data Refuses (text : List ℕ) : Refusal → Type 0 where
@@ -204,10 +222,55 @@ by-line text bad-operand (at-node d) = let h = node-number (d .lowest-node) in a
 pub lowest-line : (text : List ℕ) (i : ℕ) (r : Refusal) → OfLine i r → meaningOf text ≡ refused r → RefusedLine (parts lf text) i r
 lowest-line text i r o e = by-line text o (why-refused text r e)
 
--- the refusals whose place is a node
-pub data OfNode : Refusal → Type 0 where
-  used-once : {i : ℕ} → OfNode (NotUsedOnce i)
-  nested : {i : ℕ} → OfNode (TooDeep i)
+-- ---- no line before it is refused
+
+taken-line : (i j k : ℕ) (es es′ : List ℕ) (ns ns′ : List Node) (ps : List (List ℕ)) → i + j ≡ k → j < length ps → taken i es ns ps ≡ goOn es′ ns′
+    → TakenLine i es ns ps j k
+unfolding taken
+taken-line i j k es es′ ns ns′ [] q h e = absurd (omega arith)
+taken-line i zero k es es′ ns ns′ (p ∷ ps) q h e = go (admit i es ns (lineOf p)) refl e
+  where
+    go : (s : Step) → admit i es ns (lineOf p) ≡ s → andThen s (λ es ns. taken (suc i) es ns ps) ≡ goOn es′ ns′ → TakenLine i es ns (p ∷ ps) 0 k
+    go (goOn es₁ ns₁) a e = let z : i ≡ k = omega arith in record { entries = es; nodes = ns; entries′ = es₁; nodes′ = ns₁; before = refl; here = rw z at a }
+    go (stop r) a e = let z : _≡_ {A = ℕ} 0 1 = cc in absurd (omega arith)
+taken-line i (suc j) k es es′ ns ns′ (p ∷ ps) q h e =
+    go (admit i es ns (lineOf p)) refl e (λ es₁ ns₁. taken-line (suc i) j k es₁ es′ ns₁ ns′ ps (omega arith) (omega arith))
+  where
+    go : (s : Step) → admit i es ns (lineOf p) ≡ s → andThen s (λ es ns. taken (suc i) es ns ps) ≡ goOn es′ ns′
+        → ((es₁ : List ℕ) (ns₁ : List Node) → taken (suc i) es₁ ns₁ ps ≡ goOn es′ ns′ → TakenLine (suc i) es₁ ns₁ ps j k) → TakenLine i es ns (p ∷ ps) (suc j) k
+    go (goOn es₁ ns₁) a e ih =
+        let t = ih es₁ ns₁ e in
+        record {
+          entries = t .entries;
+          nodes = t .nodes;
+          entries′ = t .entries′;
+          nodes′ = t .nodes′;
+          before = taken-more i es es₁ ns ns₁ p (take j ps) a ∙ t .before;
+          here = t .here;
+        }
+    go (stop r) a e ih = let z : _≡_ {A = ℕ} 0 1 = cc in absurd (omega arith)
+
+-- where a part is refused, there is one
+refused-part : {i : ℕ} {es : List ℕ} {ns : List Node} {ps : List (List ℕ)} {r : Refusal} → RefusedHere i es ns ps r → 1 ≤ length ps
+refused-part (line-refused e) = omega arith
+refused-part last-refused = omega arith
+
+-- so it is the lowest that is refused: each line before it is taken
+pub earlier-taken : (ps : List (List ℕ)) (i : ℕ) (r : Refusal) → RefusedLine ps i r → (j : ℕ) → j < i → TakenLine 0 [] [] ps j j
+earlier-taken ps i r l j h =
+    let d = length-drop i ps in
+    let p = refused-part (l .here) in
+    let t = taken-line 0 j j [] (l .entries) [] (l .nodes) (take i ps) (omega arith) (rw (length-take-le i ps (omega arith)) h) (l .before) in
+    record {
+      entries = t .entries;
+      nodes = t .nodes;
+      entries′ = t .entries′;
+      nodes′ = t .nodes′;
+      before = rw (take-take j i ps (omega arith)) at (t .before);
+      here = rw (getD-take i ps j [] h) at (t .here);
+    }
+
+-- ---- nodes
 
 by-node : (text : List ℕ) {r : Refusal} → OfNode r → Refuses text r → RefusedNode (parts lf text) r
 by-node text o (at-node d) = d
@@ -217,3 +280,15 @@ by-node text nested (at-line l h) = let n = line-number l in absurd (omega arith
 -- a refusal at a node: all lines are taken, and it is the lowest node that fails
 pub lowest-node : (text : List ℕ) (r : Refusal) → OfNode r → meaningOf text ≡ refused r → RefusedNode (parts lf text) r
 lowest-node text r o e = by-node text o (why-refused text r e)
+
+-- ---- whole calls
+
+-- a reading into a table that is large enough is refused as its text is
+pub reading-refused : (text : List ℕ) (n m : ℕ) (r : Refusal) → nodeLimit ≤ n → entryLimit ≤ m → Reads.reading text n m .answer ≡ Reading.Refused r
+    → meaningOf text ≡ refused r
+unfolding Reads.reading
+reading-refused text n m r h l e = go (meaningOf text) refl (rw (le-leb nodeLimit n h, le-leb entryLimit m l) at e)
+  where
+    go : (t : Meaning) → meaningOf text ≡ t → Reads.answerOf t ≡ Reading.Refused r → meaningOf text ≡ refused r
+    go (means es ns) q e = let z : _≡_ {A = ℕ} 0 1 = cc in absurd (omega arith)
+    go (refused s) q e = let z : s ≡ r = cc in q ∙ ap refused z

@@ -1,18 +1,18 @@
 -- Every script has one text (document 01, 'Script text'): a text that is read is the text of what it means, so that no two texts mean the same, and
 -- writing what a call of the reader read gives the same bytes back. The table that is read passes every test. Assumes nothing.
 use mathlib.Core.Bool.{Bool, true, false, not, _&&_}
-use mathlib.Core.List.{List, [], _∷_, _++_}
-use mathlib.Core.Option.{Option, none, some}
+use mathlib.Core.List.{List, [], _++_}
+use mathlib.Core.Option.{none}
 use mathlib.Core.Path.{_≡_, refl, sym, ap, ap₂, _∙_}
-use Prim.Native.Nat.{ℕ, _+_, _-_, _≤_, _<_, pred}
+use Prim.Native.Nat.{ℕ, _-_, _≤_}
 use native.Mathlib.Omega.{arith}
 use lib.Dec.{leb}
-use lib.ListN.{length, take, drop, replicate, getD, length-append, length-replicate}
+use lib.ListN.{length, take, drop, replicate, length-append, length-replicate}
 use lib.Seq.{take-at}
 use borrow.Author.Tests.{le-leb, leb-true}
 use Rattle.script.specs.Limits.{nodeLimit, entryLimit, byteLimit, sizeOf}
-use Rattle.script.specs.Table.{Table, nodesOf, entriesOf, unused, wellFormed, treeTest, nodesTest, tableTest}
-use Rattle.script.specs.Table.Laws.{Sound, Passes, nodesTest-sound, passes-none}
+use Rattle.script.specs.Table.{Table, unused, wellFormed, treeTest, nodesTest, tableTest}
+use Rattle.script.specs.Table.Laws.{Sound, nodesTest-sound, passes-none}
 use Rattle.script.specs.Tests.{pick, lowest}
 use Rattle.script.specs.Tests.Laws.{both-true, none-needNone, none-lowest}
 use Rattle.script.specs.declared.Node.{Node}
@@ -27,8 +27,8 @@ use Rattle.text.specs.Reading as Reads
 use Rattle.text.specs.SameTable.Text.{Some, some-parts, parts-some}
 use Rattle.text.specs.Writing.{entriesText, nodesText, textOf}
 use Rattle.text.specs.Writing as Writes
-use Lines.{joined, joined-parts}
-use Text.{Ended, Whole, whole, taken-text, Kept, kept-none, taken-kept}
+use Lines.{joined-parts}
+use Text.{Whole, whole, taken-text, kept-none, taken-kept}
 pub mod Fields
 pub mod Lines
 pub mod Numbers
@@ -124,12 +124,13 @@ write-read : (text out es : List ℕ) (ns : List Node) (n m : ℕ) → meaningOf
     → Writes.writing (tableRead es ns n m) out ≡ record { answer = Writing.Wrote (length text); bytes = text ++ drop (length text) out }
 unfolding Writes.writing
 write-read text out es ns n m e h l f =
-    rw
-    (read-passes text es ns e n m h l,
-    take-at ns (replicate (n - length ns) unused) (length ns) refl,
-    take-at es (replicate (m - length es) 0) (length es) refl,
-    read-written text es ns e,
-    le-leb (length text) (length out) f)
+    rw (
+      read-passes text es ns e n m h l,
+      take-at ns (replicate (n - length ns) unused) (length ns) refl,
+      take-at es (replicate (m - length es) 0) (length es) refl,
+      read-written text es ns e,
+      le-leb (length text) (length out) f,
+    )
     refl
 
 -- the table that a reading filled, with the counts that it gave

@@ -1,29 +1,28 @@
 -- What is written reads back as the same table (document 01, 'Script text'): for every table that passes its tests, its text is within the limit and
 -- means its entries and nodes, and reading what a call of the writer wrote fills a lent table with the same. Assumes nothing.
-use mathlib.Core.Bool.{Bool, true, false, not, _&&_}
-use mathlib.Core.List.{List, [], _∷_, _++_}
+use mathlib.Core.Bool.{Bool, true, false, not}
+use mathlib.Core.List.{List, [], _++_}
 use mathlib.Core.Option.{Option, none, some}
-use mathlib.Core.Path.{_≡_, refl, sym, ap, ap₂, _∙_}
-use Prim.Native.Nat.{ℕ, _+_, _*_, _≤_, _<_, _-_}
+use mathlib.Core.Path.{_≡_, refl, ap₂, _∙_}
+use Prim.Native.Nat.{ℕ, _≤_}
 use native.Mathlib.Omega.{arith}
-use lib.Dec.{leb, ltb}
-use lib.ListN.{length, take, drop, replicate, length-append}
+use lib.Dec.{leb}
+use lib.ListN.{length, take, drop, length-append}
 use lib.Seq.{take-at}
 use borrow.Author.Tests.{le-leb, lt-ltb}
 use Rattle.script.specs.Limits.{nodeLimit, entryLimit, byteLimit, typeLimit, sizeOf}
-use Rattle.script.specs.Table.{Table, nodesOf, entriesOf, unused, wellFormed, treeTest, nodesTest, tableTest}
-use Rattle.script.specs.Table.Laws.{Sound, Passes, passes, sound-nodesTest}
-use Rattle.script.specs.Tests.{pick, need, all, lowest}
+use Rattle.script.specs.Table.{Table, nodesOf, entriesOf, wellFormed, treeTest, nodesTest, tableTest}
+use Rattle.script.specs.Table.Laws.{passes, sound-nodesTest}
+use Rattle.script.specs.Tests.{pick, lowest}
 use Rattle.script.specs.Tests.Laws.{getD-all, needNone-none, true-both}
 use Rattle.script.specs.declared.Node.{Node}
 use Rattle.script.specs.declared.Reading.{Reading}
 use Rattle.script.specs.declared.Refusal.{Refusal}
 use Rattle.script.specs.declared.Refusal.the-variants.{BadOperand, OutputTooShort}
 use Rattle.script.specs.declared.Writing.{Writing}
-use Rattle.text.specs.Bytes.{lf}
-use Rattle.text.specs.Grammar.{parts, means, atEnd, linesFrom, meaningOf}
+use Rattle.text.specs.Grammar.{means, atEnd, meaningOf}
 use Rattle.text.specs.Reading as Reads
-use Rattle.text.specs.Writing.{textOf, entriesText, nodesText}
+use Rattle.text.specs.Writing.{textOf, nodesText}
 use Rattle.text.specs.Writing as Writes
 use Lines.{Each, all-each}
 use Most.{entries-most, nodes-most}

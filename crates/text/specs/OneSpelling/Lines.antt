@@ -1,11 +1,10 @@
 -- A line has one spelling: the fields put together again are the line, and a line that is read is as its entry or node is written. Assumes nothing.
 use mathlib.Core.Bool.{Bool, true, false}
-use mathlib.Core.List.{List, [], _∷_, _++_, map, append-nil}
+use mathlib.Core.List.{List, [], _∷_, _++_, append-nil}
 use mathlib.Core.Option.{Option, none, some}
 use mathlib.Core.Path.{_≡_, refl, sym, ap, ap₂, _∙_}
-use Prim.Native.Nat.{ℕ, zero, suc, _+_, _≤_, _<_}
-use native.Mathlib.Omega.{arith}
-use lib.Dec.{leb, eqb}
+use Prim.Native.Nat.{ℕ, suc, _≤_}
+use lib.Dec.{eqb}
 use lib.ListN.{length, take}
 use borrow.Author.Tests.{eqb-true}
 use Rattle.script.specs.Flat.{nodeOf}
@@ -16,12 +15,12 @@ use Rattle.script.specs.Table.{fields}
 use Rattle.script.specs.Tests.{pick}
 use Rattle.script.specs.Tests.Laws.{some-not-none}
 use Rattle.script.specs.declared.Node.{Node}
-use Rattle.text.specs.Bytes.{tab, lf, entryWord}
+use Rattle.text.specs.Bytes.{tab, entryWord}
 use Rattle.text.specs.Fields.{numberUpTo, typeOf, sameBytes, kindOf}
-use Rattle.text.specs.Grammar.{onFirst, parts, Line, entryLine, nodeLine, upTo, onNumbers, numbersUpTo, nodeWith, nodeBy, nodeFrom, entryFrom, entryWith, lineFrom, lineOf}
-use Rattle.text.specs.Writing.{digits, typeText, operandsText, nodeText, nodeTextBy}
-use Rattle.text.specs.OneSpelling.Fields.{TypeField, type-spelled, same-bytes, WordField, word-spelled}
-use Rattle.text.specs.OneSpelling.Numbers.{NumberField, number-spelled}
+use Rattle.text.specs.Grammar.{onFirst, parts, Line, entryLine, nodeLine, upTo, onNumbers, numbersUpTo, nodeWith, nodeFrom, entryFrom, entryWith, lineFrom, lineOf}
+use Rattle.text.specs.Writing.{operandsText}
+use Rattle.text.specs.OneSpelling.Fields.{type-spelled, same-bytes, word-spelled}
+use Rattle.text.specs.OneSpelling.Numbers.{number-spelled}
 use Rattle.text.specs.SameTable.Lines.{entryBytes, upTo-word}
 use Rattle.text.specs.SameTable.Text.{Some, some-parts, parts-some}
 

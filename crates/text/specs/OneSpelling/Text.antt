@@ -2,25 +2,25 @@
 use mathlib.Core.Bool.{Bool, true, false}
 use mathlib.Core.List.{List, [], _∷_, _++_, append-nil, append-assoc}
 use mathlib.Core.Option.{Option, none, some}
-use mathlib.Core.Path.{_≡_, refl, sym, ap, ap₂, _∙_, subst}
-use Prim.Native.Nat.{ℕ, zero, suc, _+_, _≤_, _<_}
+use mathlib.Core.Path.{_≡_, refl, _∙_}
+use Prim.Native.Nat.{ℕ, suc, _≤_, _<_}
 use native.Mathlib.Decide.{ℕ-discrete}
 use native.Mathlib.Omega.{arith}
-use lib.Dec.{leb, ltb}
-use lib.ListN.{length, take, getD, length-append, List·getD-append}
+use lib.Dec.{ltb}
+use lib.ListN.{length, getD, length-append, List·getD-append}
 use lib.Seq.{append-snoc, getD-at}
-use borrow.Author.Tests.{ltb-true, le-leb}
+use borrow.Author.Tests.{ltb-true}
 use Rattle.script.specs.Limits.{nodeLimit, entryLimit, typeLimit}
-use Rattle.script.specs.Rows.{Row, rowOf}
-use Rattle.script.specs.Table.{unused, nodeAt, fields, rightNode, wellFormed, treeTest}
-use Rattle.script.specs.Tests.{pick, all, need}
-use Rattle.script.specs.Tests.Laws.{some-not-none, need-none}
+use Rattle.script.specs.Rows.{rowOf}
+use Rattle.script.specs.Table.{unused, rightNode, wellFormed, treeTest}
+use Rattle.script.specs.Tests.{pick, need}
+use Rattle.script.specs.Tests.Laws.{need-none}
 use Rattle.script.specs.declared.Node.{Node}
 use Rattle.script.specs.declared.Refusal.{Refusal}
-use Rattle.script.specs.declared.Refusal.the-variants.{BadLine, TooManyAt, BadOperand, NoNode}
+use Rattle.script.specs.declared.Refusal.the-variants.{TooManyAt, BadOperand, NoNode}
 use Rattle.text.specs.Bytes.{lf}
-use Rattle.text.specs.Grammar.{Line, entryLine, nodeLine, lineOf, Step, goOn, stop, admit, Meaning, means, refused, unless, atEnd, lastPart, after, linesFrom}
-use Rattle.text.specs.Writing.{entryText, operandsText, nodeText, entriesText, nodesText, textOf}
+use Rattle.text.specs.Grammar.{Line, lineOf, Step, goOn, stop, admit, means, unless, atEnd, lastPart, after, linesFrom}
+use Rattle.text.specs.Writing.{nodeText, entriesText, nodesText, textOf}
 use Rattle.text.specs.OneSpelling.Lines.{led, joined, Spelled, entry-spelled, node-spelled, line-spelled}
 use Rattle.text.specs.SameTable.Lines.{entryBytes}
 

@@ -1,9 +1,9 @@
 -- A written line reads back as its entry or its node. Assumes nothing.
-use mathlib.Core.Bool.{Bool, true, false, not, _&&_}
+use mathlib.Core.Bool.{true}
 use mathlib.Core.List.{List, [], _∷_, _++_, map, append-nil}
 use mathlib.Core.Option.{Option, none, some}
 use mathlib.Core.Path.{_≡_, refl, sym, ap, ap₂, _∙_}
-use Prim.Native.Nat.{ℕ, zero, suc, _+_, _*_, _≤_, _<_}
+use Prim.Native.Nat.{ℕ, zero, suc, _+_, _≤_, _<_}
 use native.Mathlib.Omega.{arith}
 use lib.Dec.{leb, ltb, eqb}
 use lib.ListN.{length, take, drop, getD, length-map, length-take}
@@ -13,14 +13,14 @@ use Rattle.script.specs.Limits.{nodeLimit, wordLimit, typeLimit}
 use Rattle.script.specs.Rows.{Row, Form, rowOf, intForm, varForm, ifForm, letForm, typedForm, symForm, truthForm, unaryForm, binaryForm}
 use Rattle.script.specs.Rows as Rows
 use Rattle.script.specs.Table.{fields, rightOperands, rightNode}
-use Rattle.script.specs.Tests.{pick, all}
+use Rattle.script.specs.Tests.{all}
 use Rattle.script.specs.Tests.Laws.{both-true, all-getD}
 use Rattle.script.specs.declared.Node.{Node}
 use Rattle.text.specs.Bytes.{tab, lf, letter-r, entryWord}
-use Rattle.text.specs.Fields.{isDigit, numberUpTo, typeAfter, typeOf, sameBytes, kindOf}
-use Rattle.text.specs.Grammar.{parts, Line, entryLine, nodeLine, upTo, numbersUpTo, nodeWith, lineFrom, lineOf}
+use Rattle.text.specs.Fields.{isDigit, typeAfter, typeOf, sameBytes}
+use Rattle.text.specs.Grammar.{parts, entryLine, nodeLine, upTo, numbersUpTo, nodeWith, lineOf}
 use Rattle.text.specs.Writing.{digits, typeText, operandsText}
-use Rattle.text.specs.SameTable.Numbers.{Decimal, below-word, digits-decimal, number-digits}
+use Rattle.text.specs.SameTable.Numbers.{below-word, digits-decimal, number-digits}
 use Rattle.text.specs.SameTable.Parts.{Free, free-nil, free-cons, free-append, is-free, parts-free, parts-cut}
 use Rattle.text.specs.SameTable.Words.{word-kind, not-entry, word-tab, word-lf, row-most}
 
@@ -150,11 +150,12 @@ module _ (i : ℕ) (n : Node) (r : Row) (e : rowOf (n .kind) ≡ some r) (l : i 
   node-line =
       let m = upTo (Rows.numberUpTo (r .form)) in
       let w = upTo-word (r .form) in
-      rw
-      (operands-parts m w (r .word) (word-tab (n .kind) r e) operands-each,
-      not-entry (n .kind) r e,
-      word-kind (n .kind) r e,
-      e,
-      eq-eqb _ _ operands-count,
-      numbers-digits m w operands-each)
+      rw (
+        operands-parts m w (r .word) (word-tab (n .kind) r e) operands-each,
+        not-entry (n .kind) r e,
+        word-kind (n .kind) r e,
+        e,
+        eq-eqb _ _ operands-count,
+        numbers-digits m w operands-each,
+      )
       (node-with n (r .count) (row-most (n .kind) r e) (both-true (rightOperands (Rows.numberUpTo (r .form)) i (take (r .count) (fields n))) _ p .1))

@@ -1,8 +1,8 @@
 -- How long a written line can be: an entry's at most 23 bytes, a node's at most 15. Assumes nothing.
 use mathlib.Core.Bool.{true}
-use mathlib.Core.List.{List, [], _∷_, _++_}
+use mathlib.Core.List.{List}
 use mathlib.Core.Option.{Option, none, some}
-use mathlib.Core.Path.{_≡_, refl}
+use mathlib.Core.Path.{_≡_}
 use Prim.Native.Nat.{ℕ, zero, suc, _+_, _*_, _≤_, _<_}
 use native.Mathlib.Nat.{suc-mul}
 use native.Mathlib.Omega.{arith}
@@ -13,7 +13,7 @@ use Rattle.script.specs.Rows as Rows
 use Rattle.script.specs.Table.{fields, rightNode}
 use Rattle.script.specs.declared.Node.{Node}
 use Rattle.text.specs.Grammar.{upTo}
-use Rattle.text.specs.Writing.{digits, typeText, entryText, operandsText, nodeText, entriesText, nodesText}
+use Rattle.text.specs.Writing.{typeText, entryText, operandsText, nodeText, entriesText, nodesText}
 use Rattle.text.specs.SameTable.Lines.{Each, each-nil, each-cons, upTo-word, operands-each}
 use Rattle.text.specs.SameTable.Numbers.{tens, digits-most}
 use Rattle.text.specs.SameTable.Text.{Right, right-nil, right-cons}

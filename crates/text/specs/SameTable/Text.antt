@@ -1,22 +1,22 @@
 -- A written text reads back line by line: its entries, then its nodes, then what `atEnd` says of them. Assumes nothing.
 use mathlib.Core.Bool.{Bool, true, false}
 use mathlib.Core.List.{List, [], _∷_, _++_, append-nil, append-assoc}
-use mathlib.Core.Option.{Option, none, some}
-use mathlib.Core.Path.{_≡_, refl, sym, ap, ap₂, _∙_}
-use Prim.Native.Nat.{ℕ, zero, suc, _+_, _*_, _≤_, _<_}
+use mathlib.Core.Option.{some}
+use mathlib.Core.Path.{_≡_, refl}
+use Prim.Native.Nat.{ℕ, zero, suc, _+_, _≤_, _<_}
 use native.Mathlib.Omega.{arith}
-use lib.Dec.{leb, ltb, eqb}
+use lib.Dec.{eqb}
 use lib.ListN.{length, take, drop, length-append, drop-of-length-le}
-use lib.Seq.{append-snoc, drop-cons, drop-length}
+use lib.Seq.{append-snoc, drop-cons}
 use borrow.Author.Tests.{lt-ltb}
 use Rattle.script.specs.Limits.{nodeLimit, entryLimit, typeLimit}
 use Rattle.script.specs.Rows.{Row, rowOf}
-use Rattle.script.specs.Table.{unused, nodeAt, fields, rightNode, wellFormed}
-use Rattle.script.specs.Table.Laws.{FormedAt, formed-at}
+use Rattle.script.specs.Table.{unused, fields, rightNode, wellFormed}
+use Rattle.script.specs.Table.Laws.{formed-at}
 use Rattle.script.specs.Tests.{pick}
 use Rattle.script.specs.declared.Node.{Node}
 use Rattle.text.specs.Bytes.{lf}
-use Rattle.text.specs.Grammar.{onFirst, parts, Line, entryLine, nodeLine, lineOf, Step, goOn, stop, admit, Meaning, atEnd, after, linesFrom}
+use Rattle.text.specs.Grammar.{onFirst, parts, Line, entryLine, nodeLine, lineOf, goOn, admit, Meaning, atEnd, after, linesFrom}
 use Rattle.text.specs.Writing.{operandsText, nodeText, entriesText, nodesText}
 use Rattle.text.specs.SameTable.Lines.{Each, each-nil, each-cons, entryBytes, entry-free, entry-line, node-free, node-line}
 use Rattle.text.specs.SameTable.Parts.{Free, parts-cut}
@@ -53,10 +53,11 @@ pub entries-read : (i : ℕ) (es₀ : List ℕ) {es : List ℕ} (rest : List ℕ
 unfolding entriesText
 entries-read i es₀ rest m h each-nil k = rw append-nil at (k i)
 entries-read i es₀ rest m h (each-cons {o = t} {os = es} w e) k =
-    rw
-    (append-assoc,
-    line-read i es₀ [] (entryBytes t) (entriesText es ++ rest) (entryLine t) (entry-free t) (entry-line t w),
-    lt-ltb (length es₀) entryLimit (omega arith))
+    rw (
+      append-assoc,
+      line-read i es₀ [] (entryBytes t) (entriesText es ++ rest) (entryLine t) (entry-free t) (entry-line t w),
+      lt-ltb (length es₀) entryLimit (omega arith),
+    )
     (entries-read (suc i) (es₀ ++ (t ∷ [])) rest m (rw length-append (omega arith)) e (λ l. rw append-snoc (k l)))
 
 -- ---- nodes
@@ -86,8 +87,9 @@ pub nodes-read : (l i : ℕ) (es : List ℕ) (ns₀ : List Node) {ns : List Node
 unfolding nodesText nodeText parts linesFrom
 nodes-read l i es ns₀ q h right-nil = rw append-nil refl
 nodes-read l i es ns₀ q h (right-cons {n = n} {r = r} {ns = ns} e p w) =
-    rw
-    (e,
-    line-read l es ns₀ (r .word ++ operandsText (take (r .count) (fields n))) (nodesText ns) (nodeLine n) (node-free i n r e (omega arith) p) (node-line i n r e (omega arith) p),
-    admit-node l es ns₀ n (omega arith) (rw (q, e) p))
+    rw (
+      e,
+      line-read l es ns₀ (r .word ++ operandsText (take (r .count) (fields n))) (nodesText ns) (nodeLine n) (node-free i n r e (omega arith) p) (node-line i n r e (omega arith) p),
+      admit-node l es ns₀ n (omega arith) (rw (q, e) p),
+    )
     (rw append-snoc at (nodes-read (suc l) (suc i) es (ns₀ ++ (n ∷ [])) (rw length-append (omega arith)) (omega arith) w))

@@ -1,19 +1,17 @@
 -- The words of the rows: each is told apart from every other word and from `entry`, and has no separator in it. Assumes nothing.
-use mathlib.Core.Bool.{Bool, true, false, not, _&&_}
-use mathlib.Core.List.{List, [], _∷_, _++_}
+use mathlib.Core.Bool.{Bool, true, false, not}
 use mathlib.Core.Option.{Option, none, some}
-use mathlib.Core.Path.{_≡_, refl, sym, ap, _∙_}
-use Prim.Native.Nat.{ℕ, zero, suc, _+_, _*_, _≤_, _<_}
-use native.Mathlib.Omega.{arith}
+use mathlib.Core.Path.{_≡_, refl, ap}
+use Prim.Native.Nat.{ℕ, _+_, _*_, _≤_, _<_}
 use lib.Dec.{leb, eqb}
 use lib.ListN.{length}
 use borrow.Author.Tests.{not-true, not-false, eqb-true, leb-true}
 use Rattle.script.specs.Rows.{Row, rows, rowOf, numberUpTo}
 use Rattle.script.specs.Rows.Laws.{row-kind}
-use Rattle.script.specs.Tests.{all, lowest, lowestFrom}
+use Rattle.script.specs.Tests.{all, lowestFrom}
 use Rattle.script.specs.Tests.Laws.{all-getElem?, lowest-none, true-or-false}
 use Rattle.text.specs.Bytes.{tab, lf, entryWord}
-use Rattle.text.specs.Fields.{sameBytes, wordIs, kindOf}
+use Rattle.text.specs.Fields.{sameBytes, kindOf}
 use Rattle.text.specs.SameTable.Parts.{Free, isFree, is-free}
 
 -- ---- the kind of a word
