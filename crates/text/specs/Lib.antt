@@ -1,7 +1,10 @@
 pub mod Bytes
 pub mod Fields
 pub mod Grammar
+pub mod LowestPlace
+pub mod OneSpelling
 pub mod Output
 pub mod Reading
+pub mod SameTable
 pub mod Scan
 pub mod Writing
