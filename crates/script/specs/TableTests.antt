@@ -20,6 +20,7 @@ use Rattle.script.specs.declared.table.Tested.the-variants.{Passed, Refu
 pub mod Counts
 pub mod Laws
 pub mod Lowest
+pub mod Whole
 
 -- the code's answer
 abbrev pub testedBy : Option Refusal → Tested

@@ -1,6 +1,6 @@
 // A table in its flat form, four numbers a node: the operand counts of the kinds, the one door to a node, and the tests of a table.
 ghost use mathlib.Core.Path.{_≡_};
-ghost use mathlib.Core.List.{List, [], _∷_};
+ghost use mathlib.Core.List.{[], _∷_};
 ghost use Prim.Native.Nat.{_+_, _*_, _<_};
 ghost use lib.ListN.{length, getD};
 ghost use lib.Seq.{sets};

@@ -78,7 +78,7 @@ takes-at [] k = refl
 takes-at (r ∷ rs) zero = refl
 takes-at (r ∷ rs) (suc k) = takes-at rs k
 
-same-anywhere : {A : Type 0} (m : ℕ) (a : A) (k : ℕ) → getD (replicate m a) k a ≡ a
+pub same-anywhere : {A : Type 0} (m : ℕ) (a : A) (k : ℕ) → getD (replicate m a) k a ≡ a
 same-anywhere zero a k = refl
 same-anywhere (suc m) a zero = refl
 same-anywhere (suc m) a (suc k) = same-anywhere m a k

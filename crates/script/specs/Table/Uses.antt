@@ -2,15 +2,14 @@
 use mathlib.Core.Bool.{Bool, true, false}
 use mathlib.Core.List.{List, [], _∷_, _++_, map}
 use mathlib.Core.Option.{Option, none, some}
-use mathlib.Core.Path.{_≡_, refl, sym, ap, _∙_}
+use mathlib.Core.Path.{_≡_, refl, sym, _∙_}
 use Prim.Native.Nat.{ℕ, zero, suc, _+_, _*_, _-_, _≤_, _<_}
 use native.Mathlib.Omega.{arith}
-use lib.Dec.{leb, eqb, eqb·suc-zero, eqb·zero-suc, eqb·suc-suc}
+use lib.Dec.{eqb, eqb·suc-zero, eqb·zero-suc, eqb·suc-suc}
 use lib.ListN.{length, replicate, getElem?, take, drop, getD, List·getD-eq-default}
 use lib.Seq.{take-suc, drop-cons, length-take-le, getD-take}
-use borrow.Author.Tests.{eq-eqb}
 use Rattle.script.specs.Rows.{Row, rows, rowOf, isSym, numberUpTo, takesBy, takesIn, takesOf, countBy, operandCount, nodesOnly, nodeOperands}
-use Rattle.script.specs.Rows.Laws.{operands-most, node-operands-most}
+use Rattle.script.specs.Rows.Laws.{node-operands-most}
 use Rattle.script.specs.Table.{unused, nodeAt, fields, wellFormed, nodesAmong, operandsBy, operands, timesIn, uses, symBy, isSymNode, symsAround}
 use Rattle.script.specs.Table.Laws.{not-before}
 use Rattle.script.specs.Tests.{pick}

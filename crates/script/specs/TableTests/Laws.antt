@@ -1,27 +1,26 @@
 -- What the code's tests tell of the tests of a table: a loop's answers, a well-formed node by its three operands, and tests in a row.
 -- Assumes nothing.
 use mathlib.Core.Bool.{Bool, true, false, not, _&&_}
-use mathlib.Core.List.{List, [], _∷_, map}
+use mathlib.Core.List.{List, [], _∷_}
 use mathlib.Core.Option.{Option, none, some}
 use mathlib.Core.Path.{_≡_, refl, sym, ap, _∙_}
-use Prim.Native.Nat.{ℕ, zero, suc, _+_, _*_, _≤_, _<_, pred}
+use Prim.Native.Nat.{ℕ, zero, suc, _≤_, _<_, pred}
 use native.Mathlib.Omega.{arith}
 use lib.Dec.{leb, ltb, eqb}
-use lib.ListN.{length, take, drop, getD, getElem?}
+use lib.ListN.{length, take, drop}
 use lib.Seq.{getD-take, length-take-le}
-use borrow.Author.Tests.{lt-ltb, le-ltb, ltb-true, eq-eqb, ne-eqb}
+use borrow.Author.Tests.{lt-ltb, le-ltb}
 use Rattle.script.specs.Flat.{nodesIn}
 use Rattle.script.specs.Flat.Laws.{nodesIn-holds}
-use Rattle.script.specs.Rows.{Row, rows, rowOf, numberUpTo, isSym, takesBy, takesIn, takesOf, countBy, operandCount}
+use Rattle.script.specs.Rows.{Row, rowOf, numberUpTo, takesBy, takesIn, takesOf, countBy, operandCount}
 use Rattle.script.specs.Rows.Laws.{row-some, row-none}
-use Rattle.script.specs.Table.{unused, nodeAt, fields, rightOperands, rightNode, wellFormed, treeTest, nodesTest, tableTest}
+use Rattle.script.specs.Table.{unused, nodeAt, fields, rightOperands, rightNode, wellFormed, uses, treeTest, nodesTest}
 use Rattle.script.specs.TableTests.{testedBy, Lent, rightOperand, rightField, operandsTest, usesTest, depthsTest}
-use Rattle.script.specs.Tests.{pick, all, lowest, need, needNone}
-use Rattle.script.specs.Tests.Laws.{some-not-none}
+use Rattle.script.specs.Tests.{pick, all, lowest, needNone}
 use Rattle.script.specs.Tests.Loops.{Looked, look-found, look-none}
 use Rattle.script.specs.declared.Node.{Node}
 use Rattle.script.specs.declared.Refusal.{Refusal}
-use Rattle.script.specs.declared.Refusal.the-variants.{BadOperand, NotUsedOnce, TooDeep}
+use Rattle.script.specs.declared.Refusal.the-variants.{BadOperand, NotUsedOnce}
 use Rattle.script.specs.declared.table.Takes.{Takes}
 use Rattle.script.specs.declared.table.Takes.the-variants.{Number, Nodes}
 use Rattle.script.specs.declared.table.Tested.{Tested}
@@ -37,6 +36,11 @@ module _ (p : ℕ → Bool) (r : ℕ → Refusal) (n i : ℕ) (l : Looked p n i)
   passed-all h = rw (look-none p n i l h) refl
 
 -- ---- tests in a row
+
+-- nothing is refused where the answer is that all is passed
+pub passed-none : (o : Option Refusal) → testedBy o ≡ Passed → o ≡ none
+passed-none none e = refl
+passed-none (some r) e = let z : _≡_ {A = ℕ} 0 1 = cc in absurd (omega arith)
 
 module _ (o : Option ℕ) (r : ℕ → Refusal) (later : Option Refusal) (t : Tested) (e : t ≡ testedBy (needNone o r none)) where
   first-refused : (x : Refusal) → t ≡ Refused x → Refused x ≡ testedBy (needNone o r later)
@@ -55,20 +59,20 @@ module _ (o : Option ℕ) (r : ℕ → Refusal) (later : Option Refusal) (t : Te
 
 module _ (ns : List Node) (t : Tested) where
   pub tree-refused : t ≡ testedBy (usesTest ns) → (x : Refusal) → t ≡ Refused x → Refused x ≡ testedBy (treeTest ns)
-  unfolding usesTest treeTest
-  tree-refused e x f = first-refused _ NotUsedOnce _ t e x f
+  unfolding usesTest depthsTest treeTest
+  tree-refused e x f = first-refused (lowest (λ i. not (eqb (uses ns i) 1)) (pred (length ns))) NotUsedOnce (depthsTest ns) t e x f
 
   pub tree-passed : t ≡ testedBy (usesTest ns) → t ≡ Passed → testedBy (depthsTest ns) ≡ testedBy (treeTest ns)
   unfolding usesTest depthsTest treeTest
-  tree-passed e f = first-passed _ NotUsedOnce _ t e f
+  tree-passed e f = first-passed (lowest (λ i. not (eqb (uses ns i) 1)) (pred (length ns))) NotUsedOnce (depthsTest ns) t e f
 
   pub nodes-refused : t ≡ testedBy (operandsTest ns) → (x : Refusal) → t ≡ Refused x → Refused x ≡ testedBy (nodesTest ns)
   unfolding operandsTest nodesTest
-  nodes-refused e x f = first-refused _ BadOperand _ t e x f
+  nodes-refused e x f = first-refused (lowest (λ i. not (wellFormed ns i)) (length ns)) BadOperand (treeTest ns) t e x f
 
   pub nodes-passed : t ≡ testedBy (operandsTest ns) → t ≡ Passed → testedBy (treeTest ns) ≡ testedBy (nodesTest ns)
   unfolding operandsTest nodesTest
-  nodes-passed e f = first-passed _ BadOperand _ t e f
+  nodes-passed e f = first-passed (lowest (λ i. not (wellFormed ns i)) (length ns)) BadOperand (treeTest ns) t e f
 
 -- ---- the nodes that are lent
 
@@ -144,10 +148,10 @@ no-rest p (suc k) = refl
 -- one test for the first k of three, another for the rest
 split-three : (p q : ℕ → Bool) (a b c k : ℕ) → all p (take k (a ∷ b ∷ c ∷ [])) && all q (drop k (a ∷ b ∷ c ∷ [])) ≡ pick (ltb 0 k) (p a) (q a) && (pick (ltb 1 k) (p b) (q b) && pick (ltb 2 k) (p c) (q c))
 split-three p q a b c zero = simp and-true
-split-three p q a b c (suc zero) = simp (and-true, and-assoc)
+split-three p q a b c (suc zero) = simp and-true
 split-three p q a b c (suc (suc zero)) = simp (and-true, and-assoc)
 split-three p q a b c (suc (suc (suc k))) =
-    simp (lt-ltb 0 (suc (suc (suc k))) (omega arith), lt-ltb 1 (suc (suc (suc k))) (omega arith), lt-ltb 2 (suc (suc (suc k))) (omega arith), no-more p k, no-rest q k, and-true, and-assoc)
+    simp (lt-ltb 0 (suc (suc (suc k))) (omega arith), lt-ltb 1 (suc (suc (suc k))) (omega arith), lt-ltb 2 (suc (suc (suc k))) (omega arith), no-more p k, no-rest q k, and-true)
 
 module _ (i : ℕ) (n : Node) where
   -- by the count and by what the operands are

@@ -1,7 +1,7 @@
 -- The loops of the tests 33, 4, 5 and 13: what a turn tells, and the answer where one fails or all are passed. Assumes nothing.
 use mathlib.Core.Bool.{Bool, true, false, not}
 use mathlib.Core.List.{List}
-use mathlib.Core.Path.{_≡_, refl, sym, ap, _∙_}
+use mathlib.Core.Path.{_≡_, sym, ap, _∙_}
 use Prim.Native.Nat.{ℕ, zero, suc, _+_, _≤_, _<_, pred}
 use native.Mathlib.Omega.{arith}
 use lib.Dec.{leb, eqb}
@@ -15,7 +15,7 @@ use Rattle.script.specs.TableTests.{testedBy, Lent, operandsTest, counts
 use Rattle.script.specs.TableTests.Laws.{refused-at, passed-all, lent-length, same-node}
 use Rattle.script.specs.Tests.{all}
 use Rattle.script.specs.Tests.Laws.{getD-all, getD-not-all}
-use Rattle.script.specs.Tests.Loops.{Looked, look, look-on}
+use Rattle.script.specs.Tests.Loops.{Looked, look-on}
 use Rattle.script.specs.declared.Node.{Node}
 use Rattle.script.specs.declared.Refusal.the-variants.{BadOperand, NotUsedOnce, TooDeep}
 use Rattle.script.specs.declared.table.Tested.the-variants.{Passed, Refused}

@@ -1,6 +1,5 @@
 -- `script::tests::count_operands` meets its contract. The loop's invariant: the first k operands are counted. Assumes nothing.
 use borrow.Author.Needs.{needs}
-use mathlib.Core.Path.{_≡_}
 use Prim.Native.Nat.{_≤_, _-_}
 use native.Mathlib.Omega.{arith}
 use lib.ListN.{take}

@@ -1,37 +1,28 @@
+-- `script::tests::test_nesting` meets its contract: the depths that it tests are the numbers of `sym` around. Assumes nothing.
 use borrow.Author.Needs.{needs}
+use mathlib.Core.Path.{ap, _∙_}
+use lib.ListN.{take}
+use Rattle.script.specs.Flat.{nodesIn}
+use Rattle.script.specs.TableTests.{testedBy}
+use Rattle.script.specs.TableTests.Counts.{nesting-depths}
+use Rattle.script.specs.TableTests.Whole.{zeros-made}
 use Rattle.script.proofs.tests.test_nesting.Statement.{statement}
 use Rattle.script.proofs.tests.test_nesting.Tie as tie
-use Rattle.script.proofs.tests.test_nesting.Reads as reads
-use Rattle.script.proofs.tests.test_nesting.Lts as lts
-use Rattle.script.proofs.tests.note_depths.Reads as note-depths-reads
-use Rattle.script.proofs.tests.test_depths.Reads as test-depths-reads
 
--- src/tests.rt:222:31
-slice-aggregate-note-depths : tie.Need-slice-aggregate-note-depths
-slice-aggregate-note-depths c = search needs
-
--- src/tests.rt:222:5
 note-depths-requires : tie.Need-note-depths-requires
-note-depths-requires c κs = ?
+note-depths-requires c κs = (c .before .before .pre, zeros-made (c .before .before .args .nodes) (c .before .before .pre .most))
 
--- src/tests.rt:223:31
-slice-aggregate-test-depths : tie.Need-slice-aggregate-test-depths
-slice-aggregate-test-depths c = search needs
-
--- src/tests.rt:223:5
-test-depths-requires : tie.Need-test-depths-requires
-test-depths-requires c κs = search needs
-
--- src/tests.rt:217:1
 returns : tie.Need-returns
-returns c = ?
+returns c =
+    let a = c .before .before .before .before .before .before .args in
+    c .test-depths .ensures ∙ ap testedBy (nesting-depths (take (a .nodes) (nodesIn (a .table .now))) _ (c .before .before .before .note-depths .ensures))
 
 pub test-nesting-spec : {M : Type 1} → statement M
 test-nesting-spec =
     tie.close
     (tie.spec
-    slice-aggregate-note-depths
+    (λ c. search needs)
     note-depths-requires
-    slice-aggregate-test-depths
-    test-depths-requires
+    (λ c. search needs)
+    (λ c κs. search needs)
     returns)

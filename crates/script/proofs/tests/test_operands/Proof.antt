@@ -3,7 +3,6 @@ use borrow.Author.Needs.{needs}
 use mathlib.Core.Bool.{not}
 use mathlib.Core.Path.{_≡_, sym, ap, _∙_}
 use Prim.Native.Nat.{_-_}
-use native.Mathlib.Omega.{arith}
 use Rattle.script.specs.TableTests.Laws.{formed-is}
 use Rattle.script.specs.TableTests.Lowest.{malformed, operands-refused, operands-passed}
 use Rattle.script.specs.Tests.Loops.{Looked, look, look-on}

@@ -1,42 +1,34 @@
+-- `script::tests::test_table` meets its contract: 32 and 2, then the tests of what is used. Assumes nothing.
 use borrow.Author.Needs.{needs}
+use mathlib.Core.Path.{_∙_}
+use Rattle.script.specs.TableTests.Whole.{table-few-nodes, table-few-entries, table-too-many, table-within, table-lent}
 use Rattle.script.proofs.tests.test_table.Statement.{statement}
 use Rattle.script.proofs.tests.test_table.Tie as tie
-use Rattle.script.proofs.tests.test_table.Reads as reads
-use Rattle.script.proofs.tests.test_table.Lts as lts
-use Rattle.script.proofs.Script.of.Reads as of-reads
-use Rattle.script.proofs.tests.test_used.Reads as test-used-reads
 
--- src/tests.rt:268:9
 returns : tie.Need-returns
-returns c = ?
+returns c = let a = c .before .before .before .args in table-few-nodes (a .table .now) (a .nodes) (a .entries .now) (a .entry-count) (c .if1 .taken)
 
--- src/tests.rt:271:9
 returns-2 : tie.Need-returns-2
-returns-2 c = ?
+returns-2 c = let a = c .before .before .before .before .args in table-few-entries (a .table .now) (a .nodes) (a .entries .now) (a .entry-count) (c .before .if1 .left) (c .if2 .taken)
 
--- src/tests.rt:273:11
-of-requires : tie.Need-of-requires
-of-requires c κs = search needs
-
--- src/tests.rt:274:44
-enum-told : tie.Need-enum-told
-enum-told c = search needs
-
--- src/tests.rt:275:27
-enum-told-2 : tie.Need-enum-told-2
-enum-told-2 c = search needs
-
--- src/tests.rt:275:27
 test-used-requires : tie.Need-test-used-requires
-test-used-requires c κs = ?
+test-used-requires c κs =
+    let a = c .before .before .before .before .before .before .before .args in
+    let s = c .before .before .of in
+    table-lent (a .table .now) (a .nodes) (a .entries .now) (a .entry-count) (c .before .before .before .before .if1 .left) (c .before .before .before .if2 .left) (s .result) (s .ensures) _ (c .enum-told2 .given .1)
 
--- src/tests.rt:264:1
 returns-3 : tie.Need-returns-3
-returns-3 c = ?
+returns-3 c =
+    let a = c .before .before .before .before .before .before .before .args in
+    let s = c .before .before .of in
+    table-too-many (a .table .now) (a .nodes) (a .entries .now) (a .entry-count) (c .before .before .before .before .if1 .left) (c .before .before .before .if2 .left) (s .result) (s .ensures) (c .enum-told .given .1)
 
--- src/tests.rt:264:1
 returns-4 : tie.Need-returns-4
-returns-4 c = ?
+returns-4 c =
+    let a = c .before .before .before .before .before .before .before .before .args in
+    let s = c .before .before .before .of in
+    c .test-used .ensures
+    ∙ table-within (a .table .now) (a .nodes) (a .entries .now) (a .entry-count) (c .before .before .before .before .before .if1 .left) (c .before .before .before .before .if2 .left) (s .result) (s .ensures) _ (c .before .enum-told2 .given .1)
 
 pub test-table-spec : {M : Type 1} → statement M
 test-table-spec =
@@ -44,9 +36,9 @@ test-table-spec =
     (tie.spec
     returns
     returns-2
-    of-requires
-    enum-told
-    enum-told-2
+    (λ c κs. search needs)
+    (λ c. search needs)
+    (λ c. search needs)
     test-used-requires
     returns-3
     returns-4)

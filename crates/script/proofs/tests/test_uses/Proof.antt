@@ -1,37 +1,29 @@
+-- `script::tests::test_uses` meets its contract: the counts that it tests are those of the uses. Assumes nothing.
 use borrow.Author.Needs.{needs}
+use mathlib.Core.Path.{ap, _∙_}
+use lib.ListN.{take}
+use Rattle.script.specs.Flat.{nodesIn}
+use Rattle.script.specs.TableTests.{testedBy}
+use Rattle.script.specs.TableTests.Counts.{counts-uses, formed-length}
+use Rattle.script.specs.TableTests.Whole.{zeros-made}
 use Rattle.script.proofs.tests.test_uses.Statement.{statement}
 use Rattle.script.proofs.tests.test_uses.Tie as tie
-use Rattle.script.proofs.tests.test_uses.Reads as reads
-use Rattle.script.proofs.tests.test_uses.Lts as lts
-use Rattle.script.proofs.tests.count_uses.Reads as count-uses-reads
-use Rattle.script.proofs.tests.test_counts.Reads as test-counts-reads
 
--- src/tests.rt:212:30
-slice-aggregate-count-uses : tie.Need-slice-aggregate-count-uses
-slice-aggregate-count-uses c = search needs
-
--- src/tests.rt:212:5
 count-uses-requires : tie.Need-count-uses-requires
-count-uses-requires c κs = ?
+count-uses-requires c κs = (c .before .before .pre, zeros-made (c .before .before .args .nodes) (c .before .before .pre .most))
 
--- src/tests.rt:213:17
-slice-aggregate-test-counts : tie.Need-slice-aggregate-test-counts
-slice-aggregate-test-counts c = search needs
-
--- src/tests.rt:213:5
-test-counts-requires : tie.Need-test-counts-requires
-test-counts-requires c κs = search needs
-
--- src/tests.rt:207:1
 returns : tie.Need-returns
-returns c = ?
+returns c =
+    let a = c .before .before .before .before .before .before .args in
+    c .test-counts .ensures
+    ∙ ap testedBy (counts-uses (take (a .nodes) (nodesIn (a .table .now))) _ (a .nodes) (formed-length (a .table .now) (a .nodes) (c .before .before .before .before .before .before .pre)) (c .before .before .before .count-uses .ensures))
 
 pub test-uses-spec : {M : Type 1} → statement M
 test-uses-spec =
     tie.close
     (tie.spec
-    slice-aggregate-count-uses
+    (λ c. search needs)
     count-uses-requires
-    slice-aggregate-test-counts
-    test-counts-requires
+    (λ c. search needs)
+    (λ c κs. search needs)
     returns)
