@@ -279,4 +279,4 @@ module _ (text : List ℕ) (at : ℕ) where
   line-node k e f = line-fields at (drop at text) ∙ rw (e, f, rest-then) refl
 
   pub line-none : sameBytes entryWord wordThen ≡ false → kindOf wordThen ≡ none → lineAt at (drop at text) ≡ Scanned.Bad
-  line-none e f = line-fields at (drop at text) ∙ rw (e, f) (located-none _ _)
+  line-none e f = line-fields at (drop at text) ∙ rw (e, f) (located-none (lineEnds (restIn (drop at text))) (at + length wordThen + length (lineIn (restIn (drop at text))) + 1))

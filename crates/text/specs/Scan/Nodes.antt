@@ -154,3 +154,37 @@ largest-node k e = go (rowOf k) e
     go : (o : Option Row) → takesIn o ≡ Takes.Nodes → largestBy o ≡ 127
     go none e = refl
     go (some r) e = by-limit (Rows.numberUpTo (r .form)) e
+
+-- ---- the walk along a node line
+
+module _ (text : List ℕ) (k start count m : ℕ) where
+  -- the operands os have been read, the first j of three where they are wanted, and the line goes on at `at`
+  pub record Reached (os : List ℕ) (j at : ℕ) : Type 0 where
+    pub same : nodeAfter k start (drop start text) ≡ nodeRest k m os (count - j) at (drop at text)
+    pub most : at ≤ length text
+    pub ends : fieldEnds (drop at text) ≡ true
+
+  pub reach-start : k < 15 → start ≤ length text → fieldEnds (drop start text) ≡ true → count ≡ operandCount k → m ≡ largestBy (rowOf k) → Reached [] 0 start
+  reach-start h l f c e = record { same = rw (c, e) (node-start k start (drop start text) h); most = l; ends = f }
+
+  module _ {os : List ℕ} {j at : ℕ} (r : Reached os j at) where
+    pub reach-next : (x next : ℕ) → operandAt (ltb j count) m at (drop at text) ≡ Operand.Is x next → Reached (os ++ added j count x) (suc j) next
+    reach-next x next e =
+        let s = step text k m os count j at x next (r .most) (r .ends) e in
+        record { same = r .same ∙ s .same; most = s .most; ends = s .ends }
+
+    pub reach-unwanted : (x next : ℕ) → operandAt (ltb j count) m at (drop at text) ≡ Operand.Is x next → ltb j count ≡ false → x ≡ 0
+    reach-unwanted x next e = step text k m os count j at x next (r .most) (r .ends) e .unwanted
+
+    pub reach-bad : operandAt (ltb j count) m at (drop at text) ≡ Operand.Bad → nodeAfter k start (drop start text) ≡ Scanned.Bad
+    reach-bad e = r .same ∙ bad-step text k m os count j at e
+
+  module _ {os : List ℕ} {at : ℕ} (r : Reached os 3 at) (l : count ≤ 3) where
+    none-left : count - 3 ≡ 0
+    none-left = omega arith
+
+    pub reach-lf : startsWith lf (drop at text) ≡ true → nodeAfter k start (drop start text) ≡ located true (nodeWith k (some (os ++ []))) (at + 0 + 1)
+    reach-lf e = r .same ∙ rw none-left (rest-lf k m os at (drop at text) e)
+
+    pub reach-no-lf : startsWith lf (drop at text) ≡ false → nodeAfter k start (drop start text) ≡ Scanned.Bad
+    reach-no-lf e = r .same ∙ rw none-left (rest-no-lf k m os at (drop at text) (r .ends) e)
