@@ -39,13 +39,10 @@ pub fn put_word(out: &mut [u8], at: usize, kind: u32) -> usize
     ensures { λ r. ⌜ Put (wordOf kind) at (now (out .entry)) r (now (out .exit)) ⌝ }
 {
     let k = kind as usize;
-    let n = LENGTHS[k];
-    let mut i = 0;
-    while i < n {
-        put(out, at + i, WORDS[5 * k + i]);
-        i += 1;
-    }
-    at + n
+    let words = WORDS;
+    let from = 5 * k;
+    let end = from + LENGTHS[k];
+    put_bytes(out, at, &words[from..end])
 }
 
 // A number in decimal: its tens first, then its last digit.
@@ -53,10 +50,11 @@ pub fn put_number(out: &mut [u8], at: usize, n: u32) -> usize
     requires { ⌜ at + length (digits n) < 2 ^ 64 ⌝ }
     ensures { λ r. ⌜ Put (digits n) at (now (out .entry)) r (now (out .exit)) ⌝ }
 {
-    let mut last = at;
-    if 10 <= n {
-        last = put_number(out, at, n / 10);
+    if n < 10 {
+        put(out, at, b'0' + (n as u8));
+        return at + 1;
     }
+    let last = put_number(out, at, n / 10);
     put(out, last, b'0' + ((n % 10) as u8));
     last + 1
 }
