@@ -6,6 +6,7 @@ use Prim.Native.Nat.{ℕ, _+_}
 use lib.ListN.{length}
 use lib.Seq.{sets}
 use Rattle.script.specs.Rows.{Row, rowOf}
+pub mod Fields
 pub mod Laws
 
 -- the bytes are stored from place `at` on, as far as they fit, and the place after them is given

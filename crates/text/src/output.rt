@@ -73,8 +73,8 @@ pub fn put_type(out: &mut [u8], at: usize, code: u32) -> usize
     }
     if t == 0 {
         put(out, last, b'i');
-    } else {
-        put(out, last, b'b');
+        return last + 1;
     }
+    put(out, last, b'b');
     last + 1
 }
