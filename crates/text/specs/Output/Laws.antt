@@ -21,8 +21,8 @@ sets-append out at (x ∷ xs) ys =
 pub put-none : (at : ℕ) (out : List ℕ) → Put [] at out at out
 put-none at out = record { next-is = omega arith; bytes-are = refl }
 
-pub put-one : (at : ℕ) (out : List ℕ) (b : ℕ) → Put (b ∷ []) at out (at + 1) (set out at b)
-put-one at out b = record { next-is = refl; bytes-are = refl }
+pub put-one : {at b : ℕ} {out out′ : List ℕ} → out′ ≡ set out at b → Put (b ∷ []) at out (at + 1) out′
+put-one e = record { next-is = refl; bytes-are = e }
 
 pub put-then : {xs ys : List ℕ} {at m n : ℕ} {o₀ o₁ o₂ : List ℕ} → Put xs at o₀ m o₁ → Put ys m o₁ n o₂ → Put (xs ++ ys) at o₀ n o₂
 put-then {xs} {ys} {at} {m} {n} {o₀} {o₁} {o₂} p q =
@@ -64,7 +64,7 @@ module _ {bytes : List ℕ} {at : ℕ} {out : List ℕ} where
 
   -- one byte further
   pub remains-byte : {rest : List ℕ} {m b : ℕ} {o₁ o₂ : List ℕ} → Remains bytes at out (b ∷ rest) m o₁ → o₂ ≡ set o₁ m b → Remains bytes at out rest (m + 1) o₂
-  remains-byte {rest} {m} {b} {o₁} r e = rw e (remains-less {xs = b ∷ []} r (put-one m o₁ b))
+  remains-byte {b = b} r e = remains-less {xs = b ∷ []} r (put-one e)
 
 -- the same in a list by places
 pub remains-next : {bytes out o₁ o₂ : List ℕ} (i at : ℕ) → i < length bytes → Remains bytes at out (drop i bytes) (at + i) o₁ → o₂ ≡ set o₁ (at + i) (getD bytes i 0) → Remains bytes at out (drop (i + 1) bytes) (at + (i + 1)) o₂
