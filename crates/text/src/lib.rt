@@ -2,3 +2,4 @@ mod fields;
 mod lines;
 mod output;
 mod words;
+pub mod writer;

@@ -1,0 +1,96 @@
+// The writer: from a table in flat form to lent bytes.
+ghost use mathlib.Core.Bool.{Bool};
+ghost use mathlib.Core.Option.{none};
+ghost use mathlib.Core.Path.{_≡_};
+ghost use Prim.Native.Nat.{ℕ, _+_, _*_, _^_, _≤_, _<_};
+ghost use lib.Dec.{leb};
+ghost use lib.ListN.{length, take};
+ghost use Rattle.script.specs.Flat.{nodesIn, tableIn};
+ghost use Rattle.script.specs.Table.{nodeAt, tableTest};
+ghost use Rattle.text.specs.Output.{Put, operandIf, outcome, textIn};
+ghost use Rattle.text.specs.Writing.{entryText, nodeText, entriesText, nodesText, writing};
+
+use crate::fields::LF;
+use crate::fields::TAB;
+use crate::output::put;
+use crate::output::put_bytes;
+use crate::output::put_number;
+use crate::output::put_type;
+use crate::output::put_word;
+use script::table::node_at;
+use script::table::operand_count;
+use script::Node;
+use script::Refusal;
+use script::Script;
+use script::Writing;
+
+// An entry line.
+fn put_entry(out: &mut [u8], at: usize, t: u32) -> usize
+    requires { ⌜ at + length (entryText t) < 2 ^ 64 ⌝ }
+    ensures { λ r. ⌜ Put (entryText t) at (now (out .entry)) r (now (out .exit)) ⌝ }
+{
+    let after_word = put_bytes(out, at, b"entry\t");
+    let after_type = put_type(out, after_word, t);
+    put(out, after_type, LF);
+    after_type + 1
+}
+
+// An operand after a tab, where it is wanted.
+fn put_operand(out: &mut [u8], at: usize, o: u32, wanted: bool) -> usize
+    requires { ⌜ at + length (operandIf wanted o) < 2 ^ 64 ⌝ }
+    ensures { λ r. ⌜ Put (operandIf wanted o) at (now (out .entry)) r (now (out .exit)) ⌝ }
+{
+    if wanted {
+        put(out, at, TAB);
+        return put_number(out, at + 1, o);
+    }
+    at
+}
+
+// A node line.
+fn put_node_line(out: &mut [u8], at: usize, n: Node) -> usize
+    requires { ⌜ n .kind < 15 ⌝ }
+    requires { ⌜ at + length (nodeText n) < 2 ^ 64 ⌝ }
+    ensures { λ r. ⌜ Put (nodeText n) at (now (out .entry)) r (now (out .exit)) ⌝ }
+{
+    let kind = n.kind;
+    let count = operand_count(kind);
+    let after_word = put_word(out, at, kind);
+    let after_a = put_operand(out, after_word, n.a, 0 < count);
+    let after_b = put_operand(out, after_a, n.b, 1 < count);
+    let after_c = put_operand(out, after_b, n.c, 2 < count);
+    put(out, after_c, LF);
+    after_c + 1
+}
+
+// The lines of the first `count` entries.
+fn put_entries(out: &mut [u8], entries: &[u32], count: usize) -> usize
+    requires { ⌜ count ≤ length (now entries) ⌝ }
+    requires { ⌜ length (entriesText (take count (now entries))) < 2 ^ 64 ⌝ }
+    ensures { λ r. ⌜ Put (entriesText (take count (now (entries .entry)))) 0 (now (out .entry)) r (now (out .exit)) ⌝ }
+{
+    let mut at = 0;
+    let mut i = 0;
+    while i < count {
+        at = put_entry(out, at, entries[i]);
+        i += 1;
+    }
+    at
+}
+
+// The lines of the first `count` nodes, from place `from` on.
+fn put_nodes(out: &mut [u8], from: usize, table: &[u32], count: usize) -> usize
+    requires { ⌜ 4 * count ≤ length (now table) ⌝ }
+    requires { ⌜ ((i : ℕ) → i < count → nodeAt (nodesIn (now table)) i .kind < 15) ⌝ }
+    requires { ⌜ from + length (nodesText (take count (nodesIn (now table)))) < 2 ^ 64 ⌝ }
+    ensures { λ r. ⌜ Put (nodesText (take count (nodesIn (now (table .entry))))) from (now (out .entry)) r (now (out .exit)) ⌝ }
+{
+    let mut at = from;
+    let mut i = 0;
+    while i < count {
+        let n = node_at(table, i);
+        at = put_node_line(out, at, n);
+        i += 1;
+    }
+    at
+}
