@@ -1,24 +1,15 @@
 -- `text::writer::put_operand` meets its contract: nothing, or a tab and the number. Assumes nothing.
 use borrow.Author.Needs.{needs}
 use native.Mathlib.Omega.{arith}
-use mathlib.Core.Bool.{Bool, true}
-use mathlib.Core.Path.{_≡_}
-use Prim.Native.Nat.{ℕ, _+_, _^_, _<_}
-use lib.ListN.{length}
-use Rattle.text.specs.Output.{operandIf}
-use Rattle.text.specs.Writing.{digits}
 use Rattle.text.specs.Output.Laws.{put-none, put-one, put-then, put-length}
 use Rattle.text.proofs.writer.put_operand.Statement.{statement}
 use Rattle.text.proofs.writer.put_operand.Tie as tie
 
-wanted-length : {b : Bool} {at o : ℕ} → b ≡ true → at + length (operandIf b o) < 2 ^ 64 → at + (1 + length (digits o)) < 2 ^ 64
-wanted-length e h = let p = rw e at h in omega arith
-
 add-put-number : tie.Need-add-put-number
-add-put-number c = omega (arith, wanted-length (c .before .before .before .before .before .if1 .taken) (c .before .before .before .before .before .before .before .pre))
+add-put-number c = let p = rw (c .before .before .before .before .before .if1 .taken) at (c .before .before .before .before .before .before .before .pre) in omega arith
 
 put-number-requires : tie.Need-put-number-requires
-put-number-requires c κs = omega (arith, wanted-length (c .before .before .before .before .before .if1 .taken) (c .before .before .before .before .before .before .before .pre))
+put-number-requires c κs = let p = rw (c .before .before .before .before .before .if1 .taken) at (c .before .before .before .before .before .before .before .pre) in omega arith
 
 returns : tie.Need-returns
 returns c = rw (c .before .before .before .before .before .before .before .before .if1 .taken) (put-then (put-one (c .before .before .before .before .before .before .put .ensures)) (c .before .before .put-number .ensures))
