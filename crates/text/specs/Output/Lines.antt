@@ -7,7 +7,7 @@ use Prim.Native.Nat.{ℕ, zero, suc, _+_, _≤_, _<_}
 use native.Mathlib.Numerals.{add-one}
 use native.Mathlib.Omega.{arith}
 use lib.Dec.{ltb}
-use lib.ListN.{length, getD, getElem?, take, drop, length-take}
+use lib.ListN.{length, getD, getElem?, take, drop, length-append}
 use lib.Seq.{drop-cons, getD-take, drop-length, length-take-le}
 use Rattle.script.specs.Rows.{Row, rows, rowOf, countBy, operandCount}
 use Rattle.script.specs.Table.{nodeAt, unused}
@@ -39,10 +39,14 @@ in-range [] k h e = omega arith
 in-range (x ∷ xs) zero h e = some-not-none x e
 in-range (x ∷ xs) (suc k) h e = in-range xs k (omega arith) e
 
-pub node-parts : (n : Node) → n .kind < 15
-    → nodeText n ≡ wordOf (n .kind) ++ operandIf (ltb 0 (operandCount (n .kind))) (n .a) ++ operandIf (ltb 1 (operandCount (n .kind))) (n .b) ++ operandIf (ltb 2 (operandCount (n .kind))) (n .c) ++ (lf ∷ [])
-unfolding nodeText wordOf operandCount rowOf rows
-node-parts n h = node-parts-by (rowOf (n .kind)) n (in-range rows (n .kind) h) (λ r e. row-most (n .kind) r e)
+-- the parts of a node line, where the code knows the operand count as k
+module _ (n : Node) {k : ℕ} (h : n .kind < 15) (e : k ≡ operandCount (n .kind)) where
+  pub node-parts : nodeText n ≡ wordOf (n .kind) ++ operandIf (ltb 0 k) (n .a) ++ operandIf (ltb 1 k) (n .b) ++ operandIf (ltb 2 k) (n .c) ++ (lf ∷ [])
+  unfolding nodeText wordOf operandCount rowOf rows
+  node-parts = rw e (node-parts-by (rowOf (n .kind)) n (in-range rows (n .kind) h) (λ r q. row-most (n .kind) r q))
+
+  pub node-length : length (nodeText n) ≡ length (wordOf (n .kind)) + length (operandIf (ltb 0 k) (n .a)) + length (operandIf (ltb 1 k) (n .b)) + length (operandIf (ltb 2 k) (n .c)) + 1
+  node-length = ap length node-parts ∙ simp length-append
 
 -- ---- lines from a place on
 
