@@ -56,6 +56,10 @@ module _ {bytes : List ℕ} {at : ℕ} {out : List ℕ} where
         ; all-are = ap (λ (k : ℕ). sets o₂ k ys) a ∙ ap (λ (o : List ℕ). sets o (m + length xs) ys) (p .bytes-are) ∙ sym (sets-append o₁ m xs ys) ∙ r .all-are
         }
 
+  -- the next part ends where the bytes end, or before
+  pub remains-room : (xs ys : List ℕ) {m : ℕ} {o : List ℕ} → Remains bytes at out (xs ++ ys) m o → m + length xs ≤ at + length bytes
+  remains-room xs ys r = let e = rw (length-append xs ys) at (r .end-is) in omega arith
+
   pub remains-none : {n : ℕ} {o : List ℕ} → Remains bytes at out [] n o → Put bytes at out n o
   remains-none {n} r = record { next-is = let e = r .end-is in omega arith; bytes-are = r .all-are }
 
