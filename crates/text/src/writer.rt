@@ -94,3 +94,37 @@ fn put_nodes(out: &mut [u8], from: usize, table: &[u32], count: usize) -> usize
     }
     at
 }
+
+// The whole text of a table that passed its tests; its length is given also where it does not fit.
+fn put_text(
+    out: &mut [u8],
+    table: &[u32],
+    nodes: usize,
+    entries: &[u32],
+    entry_count: usize,
+) -> usize
+    requires { ⌜ tableTest (tableIn (now table) nodes (now entries) «entry_count») ≡ none ⌝ }
+    ensures { λ r. ⌜ Put (textIn (tableIn (now (table .entry)) nodes (now (entries .entry)) «entry_count»)) 0 (now (out .entry)) r (now (out .exit)) ⌝ }
+{
+    let after_entries = put_entries(out, entries, entry_count);
+    put_nodes(out, after_entries, table, nodes)
+}
+
+// Whether the text fits. It is measured in no bytes where the output is shorter than any text may be.
+fn fits(
+    out: &mut [u8],
+    table: &[u32],
+    nodes: usize,
+    entries: &[u32],
+    entry_count: usize,
+) -> bool
+    requires { ⌜ tableTest (tableIn (now table) nodes (now entries) «entry_count») ≡ none ⌝ }
+    ensures { λ r. ⌜ r ≡ leb (length (textIn (tableIn (now (table .entry)) nodes (now (entries .entry)) «entry_count»))) (length (now (out .entry))) ⌝ }
+    ensures { λ _. ⌜ now (out .exit) ≡ now (out .entry) ⌝ }
+{
+    if Script::BYTES <= out.len() {
+        return true;
+    }
+    let length = put_text(&mut out[..0], table, nodes, entries, entry_count);
+    length <= out.len()
+}

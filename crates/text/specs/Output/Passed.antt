@@ -1,0 +1,48 @@
+-- What the writer may count on after the tests: the used places are lent, every kind has a word, and the text is short; and from there to the
+-- outcome of a call. Assumes nothing.
+use mathlib.Core.Bool.{Bool, true, false}
+use mathlib.Core.List.{List, [], _∷_, _++_}
+use mathlib.Core.Option.{Option, none, some}
+use mathlib.Core.Path.{_≡_, refl, sym, ap, _∙_}
+use Prim.Native.Nat.{ℕ, _+_, _*_, _≤_, _<_}
+use native.Mathlib.Omega.{arith}
+use lib.Dec.{leb}
+use lib.ListN.{length, getD, take, drop, length-append}
+use lib.Seq.{getD-take}
+use borrow.Author.Tests.{leb-true}
+use Rattle.script.specs.Flat.{nodesIn, tableIn}
+use Rattle.script.specs.Flat.Laws.{length-nodesIn}
+use Rattle.script.specs.Rows.Laws.{row-kind}
+use Rattle.script.specs.Table.{Table, nodesOf, entriesOf, nodeAt, unused, tableTest}
+use Rattle.script.specs.Table.Laws.{passes, formed-at}
+use Rattle.script.specs.declared.Node.{Node}
+use Rattle.script.specs.declared.Refusal.{Refusal}
+use Rattle.script.specs.declared.Refusal.the-variants.{OutputTooShort}
+use Rattle.script.specs.declared.Writing.{Writing}
+use Rattle.text.specs.Output.{Put, textIn, outcome}
+use Rattle.text.specs.Output.Laws.{put-then, put-text}
+use Rattle.text.specs.SameTable.{text-most}
+use Rattle.text.specs.Writing.{textOf, entriesText, nodesText, outcomeOf, writing}
+
+module _ (xs : List ℕ) (n : ℕ) (es : List ℕ) (m : ℕ) (e : tableTest (tableIn xs n es m) ≡ none) where
+  pub entries-lent : m ≤ length es
+  entries-lent = let p = passes (tableIn xs n es m) e in omega arith
+
+  pub nodes-lent : 4 * n ≤ length xs
+  nodes-lent = let p = passes (tableIn xs n es m) e in let l = length-nodesIn xs in omega arith
+
+  pub kinds-known : (i : ℕ) → i < n → nodeAt (nodesIn xs) i .kind < 15
+  kinds-known i h =
+      let p = passes (tableIn xs n es m) e in
+      let l = p .nodesLength in
+      let f = formed-at (take n (nodesIn xs)) i (p .sound .formed i (omega arith)) in
+      rw (getD-take n (nodesIn xs) i unused h) at (row-kind _ (f .row) (f .is-row))
+
+  pub parts-most : length (entriesText (take m es)) + length (nodesText (take n (nodesIn xs))) ≤ 2288
+  unfolding textOf
+  parts-most = rw length-append at (text-most (tableIn xs n es m) e)
+
+-- the entry lines and then the node lines are the text
+pub put-parts : (t : Table) {k l : ℕ} {o₀ o₁ o₂ : List ℕ} → Put (entriesText (entriesOf t)) 0 o₀ k o₁ → Put (nodesText (nodesOf t)) k o₁ l o₂ → Put (textIn t) 0 o₀ l o₂
+unfolding textOf
+put-parts t p q = put-then p q
