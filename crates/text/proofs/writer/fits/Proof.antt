@@ -4,7 +4,9 @@ use borrow.Author.Tests.{le-leb}
 use mathlib.Core.Path.{refl, sym}
 use native.Mathlib.Nat.{zero-add}
 use native.Mathlib.Omega.{arith}
+use lib.ListN.{length}
 use Rattle.script.specs.Flat.{tableIn}
+use Rattle.text.specs.Output.{textIn}
 use Rattle.text.specs.Output.Laws.{put-empty}
 use Rattle.text.specs.SameTable.{text-most}
 use Rattle.text.proofs.writer.fits.Statement.{statement}
@@ -14,8 +16,9 @@ returns : tie.Need-returns
 returns c =
     let s = c .before .before .before .before in
     let a = s .args in
-    let m = text-most (tableIn (a .table .now) (a .nodes) (a .entries .now) (a .entry-count)) (s .pre) in
-    (sym (le-leb _ _ (omega arith)), refl)
+    let t = tableIn (a .table .now) (a .nodes) (a .entries .now) (a .entry-count) in
+    let m = text-most t (s .pre) in
+    (sym (le-leb (length (textIn t)) (length (a .out .now)) (omega arith)), refl)
 
 returns-2 : tie.Need-returns-2
 returns-2 c =
