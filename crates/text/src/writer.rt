@@ -128,3 +128,21 @@ fn fits(
     let length = put_text(&mut out[..0], table, nodes, entries, entry_count);
     length <= out.len()
 }
+
+// The text of a table that passed its tests, or 36.
+fn write_passed(
+    out: &mut [u8],
+    table: &[u32],
+    nodes: usize,
+    entries: &[u32],
+    entry_count: usize,
+) -> Writing
+    requires { ⌜ tableTest (tableIn (now table) nodes (now entries) «entry_count») ≡ none ⌝ }
+    ensures { λ r. ⌜ outcome r (now (out .exit)) ≡ writing (tableIn (now (table .entry)) nodes (now (entries .entry)) «entry_count») (now (out .entry)) ⌝ }
+{
+    if fits(out, table, nodes, entries, entry_count) {
+        let length = put_text(out, table, nodes, entries, entry_count);
+        return Writing::Wrote(length);
+    }
+    Writing::Refused(Refusal::OutputTooShort)
+}

@@ -5,6 +5,7 @@ use mathlib.Core.List.{List, [], _∷_, _++_}
 use mathlib.Core.Option.{Option, none, some}
 use mathlib.Core.Path.{_≡_, refl, sym, ap, _∙_}
 use Prim.Native.Nat.{ℕ, _+_, _*_, _≤_, _<_}
+use native.Mathlib.Nat.{zero-add}
 use native.Mathlib.Omega.{arith}
 use lib.Dec.{leb}
 use lib.ListN.{length, getD, take, drop, length-append}
@@ -46,3 +47,19 @@ module _ (xs : List ℕ) (n : ℕ) (es : List ℕ) (m : ℕ) (e : tableTest (tab
 pub put-parts : (t : Table) {k l : ℕ} {o₀ o₁ o₂ : List ℕ} → Put (entriesText (entriesOf t)) 0 o₀ k o₁ → Put (nodesText (nodesOf t)) k o₁ l o₂ → Put (textIn t) 0 o₀ l o₂
 unfolding textOf
 put-parts t p q = put-then p q
+
+-- ---- the outcome of a call
+
+module _ (t : Table) {out : List ℕ} where
+  pub wrote : {n : ℕ} {out′ : List ℕ} → tableTest t ≡ none → leb (length (textIn t)) (length out) ≡ true → Put (textIn t) 0 out n out′ → outcome (Writing.Wrote n) out′ ≡ writing t out
+  unfolding writing
+  wrote {n} {out′} e f p =
+      rw (e, f, put-text p (leb-true _ _ f), p .next-is, zero-add) refl
+
+  pub short : tableTest t ≡ none → leb (length (textIn t)) (length out) ≡ false → outcome (Writing.Refused OutputTooShort) out ≡ writing t out
+  unfolding writing
+  short e f = rw (e, f) refl
+
+  pub turned-down : {r : Refusal} → tableTest t ≡ some r → outcome (Writing.Refused r) out ≡ writing t out
+  unfolding writing
+  turned-down e = rw e refl
