@@ -9,7 +9,6 @@ ghost use Rattle.script.specs.Flat.{nodesIn, tableIn};
 ghost use Rattle.script.specs.Table.{nodeAt, tableTest};
 ghost use Rattle.text.specs.Output.{Put, operandIf, outcome, textIn};
 ghost use Rattle.text.specs.Writing.{entryText, nodeText, entriesText, nodesText, writing};
-
 use crate::fields::LF;
 use crate::fields::TAB;
 use crate::output::put;
@@ -17,12 +16,12 @@ use crate::output::put_bytes;
 use crate::output::put_number;
 use crate::output::put_type;
 use crate::output::put_word;
-use script::table::node_at;
-use script::table::operand_count;
 use script::Node;
 use script::Refusal;
 use script::Script;
 use script::Writing;
+use script::table::node_at;
+use script::table::operand_count;
 
 // An entry line.
 fn put_entry(out: &mut [u8], at: usize, t: u32) -> usize
@@ -111,13 +110,7 @@ fn put_text(
 }
 
 // Whether the text fits. It is measured in no bytes where the output is shorter than any text may be.
-fn fits(
-    out: &mut [u8],
-    table: &[u32],
-    nodes: usize,
-    entries: &[u32],
-    entry_count: usize,
-) -> bool
+fn fits(out: &mut [u8], table: &[u32], nodes: usize, entries: &[u32], entry_count: usize) -> bool
     requires { ⌜ tableTest (tableIn (now table) nodes (now entries) «entry_count») ≡ none ⌝ }
     ensures { λ r. ⌜ r ≡ leb (length (textIn (tableIn (now (table .entry)) nodes (now (entries .entry)) «entry_count»))) (length (now (out .entry))) ⌝ }
     ensures { λ _. ⌜ now (out .exit) ≡ now (out .entry) ⌝ }

@@ -28,10 +28,10 @@ pub put-then : {xs ys : List ℕ} {at m n : ℕ} {o₀ o₁ o₂ : List ℕ} →
 put-then {xs} {ys} {at} {m} {n} {o₀} {o₁} {o₂} p q =
     let a = p .next-is in
     let b = q .next-is in
-    record
-      { next-is = rw (length-append xs ys) (omega arith)
-      ; bytes-are = q .bytes-are ∙ ap (λ (k : ℕ). sets o₁ k ys) a ∙ ap (λ (o : List ℕ). sets o (at + length xs) ys) (p .bytes-are) ∙ sym (sets-append o₀ at xs ys)
-      }
+    record {
+      next-is = rw (length-append xs ys) (omega arith);
+      bytes-are = q .bytes-are ∙ ap (λ (k : ℕ). sets o₁ k ys) a ∙ ap (λ (o : List ℕ). sets o (at + length xs) ys) (p .bytes-are) ∙ sym (sets-append o₀ at xs ys);
+    }
 
 pub put-length : {xs : List ℕ} {at n : ℕ} {o₀ o₁ : List ℕ} → Put xs at o₀ n o₁ → length o₁ ≡ length o₀
 put-length {xs} {at} {n} {o₀} p = ap length (p .bytes-are) ∙ length-sets o₀ at xs
@@ -51,10 +51,10 @@ module _ {bytes : List ℕ} {at : ℕ} {out : List ℕ} where
   remains-less {xs} {ys} {m} {n} {o₁} {o₂} r p =
       let a = p .next-is in
       let b = rw (length-append xs ys) at (r .end-is) in
-      record
-        { end-is = omega arith
-        ; all-are = ap (λ (k : ℕ). sets o₂ k ys) a ∙ ap (λ (o : List ℕ). sets o (m + length xs) ys) (p .bytes-are) ∙ sym (sets-append o₁ m xs ys) ∙ r .all-are
-        }
+      record {
+        end-is = omega arith;
+        all-are = ap (λ (k : ℕ). sets o₂ k ys) a ∙ ap (λ (o : List ℕ). sets o (m + length xs) ys) (p .bytes-are) ∙ sym (sets-append o₁ m xs ys) ∙ r .all-are;
+      }
 
   -- the next part ends where the bytes end, or before
   pub remains-room : (xs ys : List ℕ) {m : ℕ} {o : List ℕ} → Remains bytes at out (xs ++ ys) m o → m + length xs ≤ at + length bytes
