@@ -22,6 +22,8 @@ use script::Script;
 use script::Writing;
 use script::table::node_at;
 use script::table::operand_count;
+use script::table::Tested;
+use script::tests::test_table;
 
 // An entry line.
 fn put_entry(out: &mut [u8], at: usize, t: u32) -> usize
@@ -138,4 +140,20 @@ fn write_passed(
         return Writing::Wrote(length);
     }
     Writing::Refused(Refusal::OutputTooShort)
+}
+
+// Writes the text of a table into lent bytes: the tests of the table, then 36. A refusal changes nothing lent.
+pub fn write(
+    table: &[u32],
+    nodes: usize,
+    entries: &[u32],
+    entry_count: usize,
+    out: &mut [u8],
+) -> Writing
+    ensures { λ r. ⌜ outcome r (now (out .exit)) ≡ writing (tableIn (now (table .entry)) nodes (now (entries .entry)) «entry_count») (now (out .entry)) ⌝ }
+{
+    match test_table(table, nodes, entries, entry_count) {
+        Tested::Passed => write_passed(out, table, nodes, entries, entry_count),
+        Tested::Refused(r) => Writing::Refused(r),
+    }
 }

@@ -16,10 +16,12 @@ use Rattle.script.specs.Flat.Laws.{length-nodesIn}
 use Rattle.script.specs.Rows.Laws.{row-kind}
 use Rattle.script.specs.Table.{Table, nodesOf, entriesOf, nodeAt, unused, tableTest}
 use Rattle.script.specs.Table.Laws.{passes, formed-at}
+use Rattle.script.specs.TableTests.{testedBy}
 use Rattle.script.specs.declared.Node.{Node}
 use Rattle.script.specs.declared.Refusal.{Refusal}
 use Rattle.script.specs.declared.Refusal.the-variants.{OutputTooShort}
 use Rattle.script.specs.declared.Writing.{Writing}
+use Rattle.script.specs.declared.table.Tested.{Tested}
 use Rattle.text.specs.Output.{Put, textIn, outcome}
 use Rattle.text.specs.Output.Laws.{put-then, put-text}
 use Rattle.text.specs.SameTable.{text-most}
@@ -50,6 +52,10 @@ put-parts t p q = put-then p q
 
 -- ---- the outcome of a call
 
+refused-some : (o : Option Refusal) (r : Refusal) → testedBy o ≡ Tested.Refused r → o ≡ some r
+refused-some none r e = let z : _≡_ {A = ℕ} 0 1 = cc in absurd (omega arith)
+refused-some (some q) r e = cc
+
 module _ (t : Table) {out : List ℕ} where
   pub wrote : {n : ℕ} {out′ : List ℕ} → tableTest t ≡ none → leb (length (textIn t)) (length out) ≡ true → Put (textIn t) 0 out n out′ → outcome (Writing.Wrote n) out′ ≡ writing t out
   unfolding writing
@@ -60,6 +66,6 @@ module _ (t : Table) {out : List ℕ} where
   unfolding writing
   short e f = rw (e, f) refl
 
-  pub turned-down : {r : Refusal} → tableTest t ≡ some r → outcome (Writing.Refused r) out ≡ writing t out
+  pub turned-down : (r : Refusal) → testedBy (tableTest t) ≡ Tested.Refused r → outcome (Writing.Refused r) out ≡ writing t out
   unfolding writing
-  turned-down e = rw e refl
+  turned-down r e = rw (refused-some (tableTest t) r e) refl
