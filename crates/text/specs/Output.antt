@@ -1,4 +1,4 @@
--- What a part of the writer does to the lent bytes, for the contracts of the writer's parts. Assumes nothing.
+-- What a part of the writer does to the lent bytes, which bytes a part is, and what a whole call gives: for the writer's contracts. Assumes nothing.
 use mathlib.Core.Bool.{Bool}
 use mathlib.Core.List.{List, [], _∷_}
 use mathlib.Core.Option.{Option, none, some}

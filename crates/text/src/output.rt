@@ -1,6 +1,5 @@
 // Bytes, numbers and types written from a place of the output on. What does not fit is left out, and the place after it is given all the same: so a text
 // is measured by writing it into no bytes.
-ghost use mathlib.Core.List.{List, [], _∷_};
 ghost use mathlib.Core.Path.{_≡_};
 ghost use Prim.Native.Nat.{_+_, _^_, _<_};
 ghost use lib.ListN.{length, set};

@@ -1,5 +1,4 @@
 // The writer: from a table in flat form to lent bytes.
-ghost use mathlib.Core.Bool.{Bool};
 ghost use mathlib.Core.Option.{none};
 ghost use mathlib.Core.Path.{_≡_};
 ghost use Prim.Native.Nat.{ℕ, _+_, _*_, _^_, _≤_, _<_};
@@ -20,9 +19,9 @@ use script::Node;
 use script::Refusal;
 use script::Script;
 use script::Writing;
+use script::table::Tested;
 use script::table::node_at;
 use script::table::operand_count;
-use script::table::Tested;
 use script::tests::test_table;
 
 // An entry line.
@@ -111,7 +110,7 @@ fn put_text(
     put_nodes(out, after_entries, table, nodes)
 }
 
-// Whether the text fits. It is measured in no bytes where the output is shorter than any text may be.
+// Whether the text fits. No text is longer than the limit; in a shorter output it is measured, by writing it into no bytes.
 fn fits(out: &mut [u8], table: &[u32], nodes: usize, entries: &[u32], entry_count: usize) -> bool
     requires { ⌜ tableTest (tableIn (now table) nodes (now entries) «entry_count») ≡ none ⌝ }
     ensures { λ r. ⌜ r ≡ leb (length (textIn (tableIn (now (table .entry)) nodes (now (entries .entry)) «entry_count»))) (length (now (out .entry))) ⌝ }

@@ -16,6 +16,11 @@ sets-append out at (x ∷ xs) ys =
     let e : at + suc (length xs) ≡ suc at + length xs = omega arith in
     rw e (sets-append (set out at x) (suc at) xs ys)
 
+-- what is stored after the bytes xs follows them
+after : {xs : List ℕ} {m n : ℕ} {o₁ o₂ : List ℕ} (ys : List ℕ) → Put xs m o₁ n o₂ → sets o₂ n ys ≡ sets o₁ m (xs ++ ys)
+after {xs} {m} {n} {o₁} {o₂} ys p =
+    ap (λ (k : ℕ). sets o₂ k ys) (p .next-is) ∙ ap (λ (o : List ℕ). sets o (m + length xs) ys) (p .bytes-are) ∙ sym (sets-append o₁ m xs ys)
+
 -- ---- parts in a row
 
 pub put-none : (at : ℕ) (out : List ℕ) → Put [] at out at out
@@ -25,13 +30,10 @@ pub put-one : {at b : ℕ} {out out′ : List ℕ} → out′ ≡ set out at b �
 put-one e = record { next-is = refl; bytes-are = e }
 
 pub put-then : {xs ys : List ℕ} {at m n : ℕ} {o₀ o₁ o₂ : List ℕ} → Put xs at o₀ m o₁ → Put ys m o₁ n o₂ → Put (xs ++ ys) at o₀ n o₂
-put-then {xs} {ys} {at} {m} {n} {o₀} {o₁} {o₂} p q =
+put-then {xs} {ys} p q =
     let a = p .next-is in
     let b = q .next-is in
-    record {
-      next-is = rw (length-append xs ys) (omega arith);
-      bytes-are = q .bytes-are ∙ ap (λ (k : ℕ). sets o₁ k ys) a ∙ ap (λ (o : List ℕ). sets o (at + length xs) ys) (p .bytes-are) ∙ sym (sets-append o₀ at xs ys);
-    }
+    record { next-is = rw (length-append xs ys) (omega arith); bytes-are = q .bytes-are ∙ after ys p }
 
 pub put-length : {xs : List ℕ} {at n : ℕ} {o₀ o₁ : List ℕ} → Put xs at o₀ n o₁ → length o₁ ≡ length o₀
 put-length {xs} {at} {n} {o₀} p = ap length (p .bytes-are) ∙ length-sets o₀ at xs
@@ -48,13 +50,10 @@ module _ {bytes : List ℕ} {at : ℕ} {out : List ℕ} where
   remains-all = record { end-is = refl; all-are = refl }
 
   pub remains-less : {xs ys : List ℕ} {m n : ℕ} {o₁ o₂ : List ℕ} → Remains bytes at out (xs ++ ys) m o₁ → Put xs m o₁ n o₂ → Remains bytes at out ys n o₂
-  remains-less {xs} {ys} {m} {n} {o₁} {o₂} r p =
+  remains-less {xs} {ys} r p =
       let a = p .next-is in
       let b = rw (length-append xs ys) at (r .end-is) in
-      record {
-        end-is = omega arith;
-        all-are = ap (λ (k : ℕ). sets o₂ k ys) a ∙ ap (λ (o : List ℕ). sets o (m + length xs) ys) (p .bytes-are) ∙ sym (sets-append o₁ m xs ys) ∙ r .all-are;
-      }
+      record { end-is = omega arith; all-are = after ys p ∙ r .all-are }
 
   -- the next part ends where the bytes end, or before
   pub remains-room : (xs ys : List ℕ) {m : ℕ} {o : List ℕ} → Remains bytes at out (xs ++ ys) m o → m + length xs ≤ at + length bytes

@@ -1,5 +1,4 @@
 -- The lines that the writer stores, by their parts: an operand, a node's word and operands, and the lines from a place on. Assumes nothing.
-use mathlib.Core.Bool.{Bool, true, false}
 use mathlib.Core.List.{List, [], _∷_, _++_, append-assoc, append-nil}
 use mathlib.Core.Option.{Option, none, some}
 use mathlib.Core.Path.{_≡_, refl, sym, ap, _∙_}

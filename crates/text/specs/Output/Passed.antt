@@ -1,14 +1,14 @@
 -- What the writer may count on after the tests: the used places are lent, every kind has a word, and the text is short; and from there to the
 -- outcome of a call. Assumes nothing.
-use mathlib.Core.Bool.{Bool, true, false}
-use mathlib.Core.List.{List, [], _∷_, _++_}
+use mathlib.Core.Bool.{true, false}
+use mathlib.Core.List.{List}
 use mathlib.Core.Option.{Option, none, some}
-use mathlib.Core.Path.{_≡_, refl, sym, ap, _∙_}
+use mathlib.Core.Path.{_≡_, refl}
 use Prim.Native.Nat.{ℕ, _+_, _*_, _≤_, _<_}
 use native.Mathlib.Nat.{zero-add}
 use native.Mathlib.Omega.{arith}
 use lib.Dec.{leb}
-use lib.ListN.{length, getD, take, drop, length-append}
+use lib.ListN.{length, take, length-append}
 use lib.Seq.{getD-take}
 use borrow.Author.Tests.{leb-true}
 use Rattle.script.specs.Flat.{nodesIn, tableIn}
@@ -17,7 +17,6 @@ use Rattle.script.specs.Rows.Laws.{row-kind}
 use Rattle.script.specs.Table.{Table, nodesOf, entriesOf, nodeAt, unused, tableTest}
 use Rattle.script.specs.Table.Laws.{passes, formed-at}
 use Rattle.script.specs.TableTests.{testedBy}
-use Rattle.script.specs.declared.Node.{Node}
 use Rattle.script.specs.declared.Refusal.{Refusal}
 use Rattle.script.specs.declared.Refusal.the-variants.{OutputTooShort}
 use Rattle.script.specs.declared.Writing.{Writing}
@@ -25,7 +24,7 @@ use Rattle.script.specs.declared.table.Tested.{Tested}
 use Rattle.text.specs.Output.{Put, textIn, outcome}
 use Rattle.text.specs.Output.Laws.{put-then, put-text}
 use Rattle.text.specs.SameTable.{text-most}
-use Rattle.text.specs.Writing.{textOf, entriesText, nodesText, outcomeOf, writing}
+use Rattle.text.specs.Writing.{textOf, entriesText, nodesText, writing}
 
 module _ (xs : List ℕ) (n : ℕ) (es : List ℕ) (m : ℕ) (e : tableTest (tableIn xs n es m) ≡ none) where
   pub entries-lent : m ≤ length es

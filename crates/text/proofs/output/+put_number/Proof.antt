@@ -1,13 +1,13 @@
 -- `text::output::put_number` meets its contract: the number falls with each call, to its tens. Assumes nothing.
 use borrow.Author.Needs.{needs}
-use mathlib.Core.Path.{_≡_, ap}
+use borrow.Fn.Kinds.{In}
+use borrow.Fn.PlainCycle.{Measures, is, falls, and}
+use mathlib.Core.Path.{ap}
+use Prim.Native.Nat.{ℕ, _+_, _^_, _<_}
 use native.Mathlib.Omega.{arith}
 use lib.ListN.{length, length-append}
 use Rattle.text.specs.Output.Fields.{digits-last, digits-tens}
 use Rattle.text.specs.Output.Laws.{put-one, put-then, put-length}
-use Prim.Native.Nat.{ℕ, _+_, _^_, _<_}
-use borrow.Fn.Kinds.{In}
-use borrow.Fn.PlainCycle.{Measures, is, falls, and}
 use Rattle.text.specs.Writing.{digits}
 use Rattle.text.proofs.output.put_number.Reads as put-number
 use Rattle.text.proofs.output.put_number.Kinds as put-number-kinds

@@ -9,9 +9,6 @@ use lib.Seq.{drop-length}
 use Rattle.text.specs.Output.Laws.{Remains, remains-all, remains-next, remains-none, remains-length}
 use Rattle.text.proofs.output.put_bytes.Statement.{statement}
 use Rattle.text.proofs.output.put_bytes.Tie as tie
-use Rattle.text.proofs.output.put_bytes.Reads as reads
-use Rattle.text.proofs.output.put_bytes.Lts as lts
-use Rattle.text.proofs.output.put.Reads as put-reads
 
 abbrev Inv-loop : tie.InvT-loop
 Inv-loop out₀ at bytes i₀ out i = (i ≤ length bytes) × Remains bytes at out₀ (drop i bytes) (at + i) out

@@ -9,9 +9,6 @@ use Rattle.text.specs.Output.Fields.{type-more}
 use Rattle.text.specs.Writing.{typeText}
 use Rattle.text.proofs.output.put_type.Statement.{statement}
 use Rattle.text.proofs.output.put_type.Tie as tie
-use Rattle.text.proofs.output.put_type.Reads as reads
-use Rattle.text.proofs.output.put_type.Lts as lts
-use Rattle.text.proofs.output.put.Reads as put-reads
 
 abbrev Inv-loop : tie.InvT-loop
 Inv-loop out₀ at code t₀ last₀ out t last = Remains (typeText code) at out₀ (typeText t) last out

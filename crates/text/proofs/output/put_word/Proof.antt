@@ -4,9 +4,6 @@ use native.Mathlib.Omega.{arith}
 use Rattle.text.specs.Output.Fields.{word-most, word-part}
 use Rattle.text.proofs.output.put_word.Statement.{statement}
 use Rattle.text.proofs.output.put_word.Tie as tie
-use Rattle.text.proofs.output.put_word.Reads as reads
-use Rattle.text.proofs.output.put_word.Lts as lts
-use Rattle.text.proofs.output.put_bytes.Reads as put-bytes-reads
 
 add-end : tie.Need-add-end
 add-end c = omega (arith, word-most (c .before .args .kind))

@@ -18,9 +18,10 @@ put-nodes-requires c κs =
     let s = c .before .before .before .before .before .before .before .before in
     let a = s .args in
     let m = parts-most (a .table .now) (a .nodes) (a .entries .now) (a .entry-count) (s .pre) in
-    let k = c .before .before .before .put-entries .ensures .next-is in
-    (nodes-lent (a .table .now) (a .nodes) (a .entries .now) (a .entry-count) (s .pre),
-    (kinds-known (a .table .now) (a .nodes) (a .entries .now) (a .entry-count) (s .pre), omega arith))
+    let k = c .before .before .before .put-entries .ensures .next-is in (
+      nodes-lent (a .table .now) (a .nodes) (a .entries .now) (a .entry-count) (s .pre),
+      (kinds-known (a .table .now) (a .nodes) (a .entries .now) (a .entry-count) (s .pre), omega arith),
+    )
 
 returns : tie.Need-returns
 returns c =
