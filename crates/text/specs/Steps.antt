@@ -24,6 +24,7 @@ use Rattle.text.specs.Reading.{answerOf, nodesRead, entriesRead}
 use Rattle.text.specs.Scan.{lineIn, lineEnds}
 use Rattle.text.specs.declared.reader.Step.{Step}
 pub mod Laws
+pub mod Taken
 
 -- the nodes and entries that a script's counts tell among the lent numbers
 abbrev pub nodesBy : Script → List ℕ → List Node
