@@ -136,7 +136,7 @@ fn note_depths(table: &[u32], nodes: usize, depths: &mut [u32])
     }
 }
 
-// A `sym` with d around it is too deep.
+// The node is a `sym`, and d `sym` around it are too many.
 fn too_deep(n: Node, d: u32) -> bool
     ensures { λ r. ⌜ r ≡ deepAt n d ⌝ }
 {
