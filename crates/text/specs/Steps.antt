@@ -27,6 +27,7 @@ pub mod Clearing
 pub mod Laws
 pub mod Taken
 pub mod Walk
+pub mod Whole
 
 -- the nodes and entries that a script's counts tell among the lent numbers
 abbrev pub nodesBy : Script → List ℕ → List Node

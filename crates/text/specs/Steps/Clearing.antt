@@ -35,8 +35,8 @@ module _ {A : Type 0} (v : A) (xs : List A) (from : ℕ) where
       let n : suc i - from ≡ suc (i - from) = omega arith in
       rw (drop-cons xs i v l, n)
       (set-at (take from xs ++ replicate (i - from) v) _ (drop (suc i) xs) v i p
-        ∙ append-assoc (take from xs) (replicate (i - from) v) (v ∷ drop (suc i) xs)
-        ∙ rw (one-more (i - from) (drop (suc i) xs)) (sym (append-assoc (take from xs) (replicate (suc (i - from)) v) (drop (suc i) xs))))
+      ∙ append-assoc (take from xs) (replicate (i - from) v) (v ∷ drop (suc i) xs)
+      ∙ rw (one-more (i - from) (drop (suc i) xs)) (sym (append-assoc (take from xs) (replicate (suc (i - from)) v) (drop (suc i) xs))))
 
   pub fill-end : filledTo (length xs) ≡ take from xs ++ replicate (length xs - from) v
   fill-end = rw (drop-length xs, append-nil (take from xs ++ replicate (length xs - from) v)) refl
