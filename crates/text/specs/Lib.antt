@@ -1,4 +1,5 @@
 pub mod Bytes
+pub mod Cases
 pub mod Fields
 pub mod Grammar
 pub mod LowestPlace
