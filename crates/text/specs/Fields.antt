@@ -10,6 +10,7 @@ use Rattle.script.specs.Rows.{Row, rows, rowOf}
 use Rattle.script.specs.Tests.{pick, all, lowest}
 use Rattle.text.specs.Bytes.{digit0, digit9, letter-b, letter-i, letter-r}
 pub mod Laws
+pub mod Words
 
 -- what is said where a test passes
 abbrev pub given : Bool → ℕ → Option ℕ

@@ -1,8 +1,6 @@
 // The fifteen words: compared with fields in reading, copied out in writing.
 ghost use mathlib.Core.Path.{_≡_};
-ghost use Prim.Native.Nat.{_<_};
-ghost use Rattle.script.specs.Rows.{rowOf};
-ghost use Rattle.text.specs.Fields.{sameBytes, wordIs, kindOf};
+ghost use Rattle.text.specs.Fields.{sameBytes, kindOf};
 ghost use Rattle.text.specs.Scan.{saidBy};
 use crate::fields::Said;
 use script::table::KINDS;
@@ -31,32 +29,17 @@ pub fn same(a: &[u8], b: &[u8]) -> bool
     true
 }
 
-// Whether the field is the word of this kind.
-fn is_word(kind: u32, f: &[u8]) -> bool
-    requires { ⌜ kind < 15 ⌝ }
-    ensures { λ r. ⌜ r ≡ wordIs (rowOf kind) (now (f .entry)) ⌝ }
-{
-    let k = kind as usize;
-    if LENGTHS[k] != f.len() {
-        return false;
-    }
-    let mut i = 0;
-    while i < f.len() {
-        if WORDS[5 * k + i] != f[i] {
-            return false;
-        }
-        i += 1;
-    }
-    true
-}
-
 // The kind whose word the field is.
 pub fn kind_of(f: &[u8]) -> Said
     ensures { λ r. ⌜ r ≡ saidBy (kindOf (now (f .entry))) ⌝ }
 {
+    let words = WORDS;
+    let lengths = LENGTHS;
     let mut k: u32 = 0;
     while k < KINDS {
-        if is_word(k, f) {
+        let from = 5 * (k as usize);
+        let end = from + lengths[k as usize];
+        if same(&words[from..end], f) {
             return Said::Number(k);
         }
         k += 1;

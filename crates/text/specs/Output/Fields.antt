@@ -1,5 +1,4 @@
--- The fields that the writer stores, as the code makes them: a word by its places in the table of all words, a number by its tens and
--- its last digit, a type by its first letter. Assumes nothing.
+-- The fields that the writer stores, as the code makes them: a number by its tens and its last digit, a type by its first letter. Assumes nothing.
 use mathlib.Core.Bool.{true}
 use mathlib.Core.List.{List, [], _∷_, _++_}
 use mathlib.Core.Path.{_≡_, refl, sym, ap, _∙_}
@@ -15,55 +14,6 @@ use Rattle.text.specs.Bytes.{digit0, letter-r}
 use Rattle.text.specs.Output.{wordBy, wordOf}
 use Rattle.text.specs.SameTable.Numbers.{Below, oneDigit, moreDigits, below-tens, digits-one, digits-more}
 use Rattle.text.specs.Writing.{digitsIn, digits, typeText}
-
--- ---- words
-
--- the words in the order of the kinds, each in five places
-abbrev letters : List ℕ
-letters =
-    105 ∷ 110 ∷ 116 ∷ 32 ∷ 32 ∷ 116 ∷ 114 ∷ 117 ∷ 101 ∷ 32 ∷ 102 ∷ 97 ∷ 108 ∷ 115 ∷ 101 ∷ 118 ∷ 97 ∷ 114 ∷ 32 ∷ 32
-    ∷ 97 ∷ 100 ∷ 100 ∷ 32 ∷ 32 ∷ 101 ∷ 113 ∷ 32 ∷ 32 ∷ 32 ∷ 110 ∷ 111 ∷ 116 ∷ 32 ∷ 32 ∷ 97 ∷ 110 ∷ 100 ∷ 32 ∷ 32
-    ∷ 105 ∷ 102 ∷ 32 ∷ 32 ∷ 32 ∷ 108 ∷ 101 ∷ 116 ∷ 32 ∷ 32 ∷ 114 ∷ 101 ∷ 102 ∷ 32 ∷ 32 ∷ 103 ∷ 101 ∷ 116 ∷ 32 ∷ 32
-    ∷ 115 ∷ 101 ∷ 116 ∷ 32 ∷ 32 ∷ 116 ∷ 121 ∷ 112 ∷ 101 ∷ 100 ∷ 115 ∷ 121 ∷ 109 ∷ 32 ∷ 32 ∷ []
-
--- how long each word is
-abbrev lengths : List ℕ
-lengths = 3 ∷ 4 ∷ 5 ∷ 3 ∷ 3 ∷ 2 ∷ 3 ∷ 3 ∷ 2 ∷ 3 ∷ 3 ∷ 3 ∷ 3 ∷ 5 ∷ 3 ∷ []
-
--- the rows' words have these lengths and stand in these places
-data Spelled : List Row → List ℕ → List ℕ → Type 0 where
-  end : {ws : List ℕ} → Spelled [] [] ws
-  next : {r : Row} {rs : List Row} {l : ℕ} {ls ws : List ℕ} → r .word ≡ take l ws → leb l 5 ≡ true → Spelled rs ls (drop 5 ws) → Spelled (r ∷ rs) (l ∷ ls) ws
-
-all-spelled : Spelled rows lengths letters
-unfolding rows
-all-spelled =
-    next refl refl (next refl refl (next refl refl (next refl refl (next refl refl (
-    next refl refl (next refl refl (next refl refl (next refl refl (next refl refl (
-    next refl refl (next refl refl (next refl refl (next refl refl (next refl refl (
-    end)))))))))))))))
-
-spelled-at : {rs : List Row} {ls ws : List ℕ} → Spelled rs ls ws → (k : ℕ) → wordBy (getElem? rs k) ≡ take (getD ls k 0) (drop (5 * k) ws)
-spelled-at end k = refl
-spelled-at (next e h s) zero = e
-spelled-at (next {ls = ls} {ws = ws} e h s) (suc k) =
-    let n : 5 * suc k ≡ 5 + 5 * k = omega arith in
-    spelled-at s k ∙ ap (take (getD ls k 0)) (drop-drop (5 * k) 5 ws ∙ ap (λ (m : ℕ). drop m ws) (sym n))
-
-spelled-most : {rs : List Row} {ls ws : List ℕ} → Spelled rs ls ws → (k : ℕ) → getD ls k 0 ≤ 5
-spelled-most end k = omega arith
-spelled-most (next {l = l} e h s) zero = leb-true l 5 h
-spelled-most (next e h s) (suc k) = spelled-most s k
-
-pub word-most : (k : ℕ) → getD lengths k 0 ≤ 5
-word-most k = spelled-most all-spelled k
-
--- the word of a kind, from its start to its end
-pub word-part : (k : ℕ) → wordOf k ≡ take (5 * k + getD lengths k 0 - 5 * k) (drop (5 * k) letters)
-unfolding wordOf rowOf
-word-part k =
-    let n : 5 * k + getD lengths k 0 - 5 * k ≡ getD lengths k 0 = omega arith in
-    rw n (spelled-at all-spelled k)
 
 -- ---- numbers
 

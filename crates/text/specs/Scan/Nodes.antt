@@ -12,12 +12,11 @@ use borrow.Author.Tests.{ltb-true, ltb-false}
 use Rattle.script.specs.Flat.{nodeOf}
 use Rattle.script.specs.Rows.{Row, rows, rowOf, operandCount, takesIn, takesOf}
 use Rattle.script.specs.Rows as Rows
-use Rattle.script.specs.Rows.Laws.{countOf, row-count}
+use Rattle.script.specs.Rows.Laws.{row-some}
 use Rattle.script.specs.Tests.{pick}
 use Rattle.script.specs.Tests.Laws.{true-or-false}
 use Rattle.script.specs.declared.table.Takes.{Takes}
 use Rattle.text.specs.Bytes.{lf, tab}
-use Rattle.text.specs.Fields.Laws.{every, every-below, has, all-have}
 use Rattle.text.specs.Grammar.{nodeWith, nodeBy, upTo}
 use Rattle.text.specs.Scan.{startsWith, fieldIn, fieldEnds, fieldsAfter, lineIn, lineEnds, operandAt, located, nodeAfter, largestBy}
 use Rattle.text.specs.Scan.Lines.{FoundOperand, found-operand, nodeRest, rest-operand, rest-bad, rest-lf, rest-no-lf, exactly, behind, node-exactly, rest-at, starts-then, then-most, then-ends}
@@ -82,43 +81,20 @@ module _ (text : List ℕ) (k m : ℕ) where
 
 -- ---- from the word to the line's end
 
--- a kind below 15 has a row
-row-below : (k : ℕ) → k < 15 → (o : Option Row) → rowOf k ≡ o → has o ≡ true
-row-below k h o e = rw (← e) (every-below (λ k. has (rowOf k)) 15 all-have k h)
-
 behind-none : (o : Option (List ℕ)) → behind [] o ≡ o
 behind-none none = refl
 behind-none (some os) = refl
 
 pub node-start : (k at : ℕ) (cs : List ℕ) → k < 15 → nodeAfter k at cs ≡ nodeRest k (largestBy (rowOf k)) [] (operandCount k - 0) at cs
 unfolding nodeAfter nodeRest operandCount
-node-start k at cs h = go (rowOf k) (row-below k h (rowOf k) refl)
+node-start k at cs h = go (rowOf k) refl
   where
-    go : (o : Option Row) → has o ≡ true → located (lineEnds cs) (nodeBy k o (fieldsAfter cs)) (at + length (lineIn cs) + 1) ≡ located (lineEnds cs) (nodeWith k (behind [] (exactly (Rows.countBy o - 0) (largestBy o) (fieldsAfter cs)))) (at + length (lineIn cs) + 1)
-    go none e = absurd (true-or-false false e refl)
+    go : (o : Option Row) → rowOf k ≡ o → located (lineEnds cs) (nodeBy k o (fieldsAfter cs)) (at + length (lineIn cs) + 1) ≡ located (lineEnds cs) (nodeWith k (behind [] (exactly (Rows.countBy o - 0) (largestBy o) (fieldsAfter cs)))) (at + length (lineIn cs) + 1)
+    go none e = absurd (row-some k h e)
     go (some r) e =
         let z : r .count - 0 ≡ r .count = omega arith in
         let f = behind-none (exactly (r .count) (upTo (Rows.numberUpTo (r .form))) (fieldsAfter cs)) in
         rw (z, f, node-exactly k r (fieldsAfter cs)) refl
-
-pub count-most : (k : ℕ) → operandCount k ≤ 3
-unfolding operandCount
-count-most k = go (rowOf k) refl
-  where
-    by-form : (f : Rows.Form) → countOf f ≤ 3
-    by-form Rows.intForm = omega arith
-    by-form Rows.varForm = omega arith
-    by-form Rows.ifForm = omega arith
-    by-form Rows.letForm = omega arith
-    by-form Rows.typedForm = omega arith
-    by-form Rows.symForm = omega arith
-    by-form (Rows.truthForm b) = omega arith
-    by-form (Rows.unaryForm o) = omega arith
-    by-form (Rows.binaryForm o) = omega arith
-
-    go : (o : Option Row) → rowOf k ≡ o → Rows.countBy o ≤ 3
-    go none e = omega arith
-    go (some r) e = rw (row-count k r e) (by-form (r .form))
 
 -- the node of the three operands, of which the unwanted ones are 0
 pub node-made : (k count a b c at : ℕ) → count ≤ 3 → (ltb 0 count ≡ false → a ≡ 0) → (ltb 1 count ≡ false → b ≡ 0) → (ltb 2 count ≡ false → c ≡ 0)

@@ -6,7 +6,7 @@ use Prim.Native.Nat.{_+_, _≤_}
 use native.Mathlib.Omega.{arith}
 use lib.ListN.{length, drop}
 use Rattle.text.specs.Fields.{kindOf}
-use Rattle.text.specs.Fields.Laws.{kind-below}
+use Rattle.text.specs.Fields.Words.{kind-below}
 use Rattle.text.specs.Scan.{fieldIn}
 use Rattle.text.specs.Scan.Laws.{said-number, said-nothing}
 use Rattle.text.specs.Scan.Lines.{line-entry, line-node, line-none, word-most, word-ends}

@@ -6,8 +6,9 @@ use mathlib.Core.Path.{_≡_, sym, ap, _∙_}
 use Prim.Native.Nat.{_+_, _≤_}
 use native.Mathlib.Omega.{arith}
 use lib.ListN.{length, drop}
+use Rattle.script.specs.Rows.Laws.{operands-most}
 use Rattle.text.specs.Scan.Lines.{starts-within}
-use Rattle.text.specs.Scan.Nodes.{count-most, node-made, reach-start, reach-next, reach-unwanted, reach-bad, reach-lf, reach-no-lf}
+use Rattle.text.specs.Scan.Nodes.{node-made, reach-start, reach-next, reach-unwanted, reach-bad, reach-lf, reach-no-lf}
 use Rattle.text.proofs.lines.node_line.Statement.{statement}
 use Rattle.text.proofs.lines.node_line.Tie as tie
 use Rattle.text.proofs.lines.node_line.Reads as reads
@@ -77,7 +78,7 @@ returns-4 c =
     let r2 = reach-next (a .text .now) (a .kind) (a .at) n m r1 (c .before .before .before .before .before .before .before .b .given .0 .0) (c .before .before .before .before .before .before .before .b .given .0 .1 .0) e2 in
     let e3 = sym (c .before .before .before .before .before .operand-at3 .ensures) ∙ c .before .before .before .c .given .1 in
     let r3 = reach-next (a .text .now) (a .kind) (a .at) n m r2 (c .before .before .before .c .given .0 .0) (c .before .before .before .c .given .0 .1 .0) e3 in
-    let l : n ≤ 3 = rw (c .before .before .before .before .before .before .before .before .before .before .before .before .before .before .before .operand-count .ensures) (count-most (a .kind)) in
+    let l : n ≤ 3 = rw (c .before .before .before .before .before .before .before .before .before .before .before .before .before .before .before .operand-count .ensures) (operands-most (a .kind)) in
     sym (reach-no-lf (a .text .now) (a .kind) (a .at) n m r3 l (sym (c .before .byte-is .ensures) ∙ not-true _ (c .if1 .taken)))
 
 add-end : tie.Need-add-t18
@@ -97,7 +98,7 @@ returns-5 c =
     let r2 = reach-next (a .text .now) (a .kind) (a .at) n m r1 (c .before .before .before .before .before .before .before .b .given .0 .0) (c .before .before .before .before .before .before .before .b .given .0 .1 .0) e2 in
     let e3 = sym (c .before .before .before .before .before .operand-at3 .ensures) ∙ c .before .before .before .c .given .1 in
     let r3 = reach-next (a .text .now) (a .kind) (a .at) n m r2 (c .before .before .before .c .given .0 .0) (c .before .before .before .c .given .0 .1 .0) e3 in
-    let l : n ≤ 3 = rw (c .before .before .before .before .before .before .before .before .before .before .before .before .before .before .before .operand-count .ensures) (count-most (a .kind)) in
+    let l : n ≤ 3 = rw (c .before .before .before .before .before .before .before .before .before .before .before .before .before .before .before .operand-count .ensures) (operands-most (a .kind)) in
     let u1 = reach-unwanted (a .text .now) (a .kind) (a .at) n m r0 (c .before .before .before .before .before .before .before .before .before .before .before .a .given .0 .0) (c .before .before .before .before .before .before .before .before .before .before .before .a .given .0 .1 .0) e1 in
     let u2 = reach-unwanted (a .text .now) (a .kind) (a .at) n m r1 (c .before .before .before .before .before .before .before .b .given .0 .0) (c .before .before .before .before .before .before .before .b .given .0 .1 .0) e2 in
     let u3 = reach-unwanted (a .text .now) (a .kind) (a .at) n m r2 (c .before .before .before .c .given .0 .0) (c .before .before .before .c .given .0 .1 .0) e3 in

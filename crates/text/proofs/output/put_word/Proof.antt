@@ -1,7 +1,7 @@
 -- `text::output::put_word` meets its contract: the word of a kind is its part of the table of words. Assumes nothing.
 use borrow.Author.Needs.{needs}
 use native.Mathlib.Omega.{arith}
-use Rattle.text.specs.Output.Fields.{word-most, word-part}
+use Rattle.text.specs.Fields.Words.{word-most, word-part}
 use Rattle.text.proofs.output.put_word.Statement.{statement}
 use Rattle.text.proofs.output.put_word.Tie as tie
 
