@@ -95,3 +95,11 @@ takesIn (some r) = takesBy (numberUpTo (r .form))
 
 unfoldable pub takesOf : ℕ → Takes
 takesOf k = takesIn (rowOf k)
+
+abbrev pub nodesOnly : Takes → ℕ → ℕ
+nodesOnly (Number m) c = 0
+nodesOnly Nodes c = c
+
+-- how many operands of a kind are nodes
+unfoldable pub nodeOperands : ℕ → ℕ
+nodeOperands k = nodesOnly (takesOf k) (operandCount k)

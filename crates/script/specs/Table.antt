@@ -14,6 +14,7 @@ use Rattle.script.specs.declared.Refusal.{Refusal}
 use Rattle.script.specs.declared.Refusal.the-variants.{TableTooSmall, TooMany, NoNode, BadTypeCode, BadOperand, NotUsedOnce, TooDeep}
 pub mod Cases
 pub mod Laws
+pub mod Uses
 
 -- all places that are lent, and how many of them are used
 pub record Table : Type 0 where

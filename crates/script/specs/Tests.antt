@@ -4,6 +4,7 @@ use mathlib.Core.List.{List, [], _∷_}
 use mathlib.Core.Option.{Option, none, some}
 use Prim.Native.Nat.{ℕ, zero, suc}
 pub mod Laws
+pub mod Loops
 
 module _ {A : Type 0} where
   -- one of two, by a test

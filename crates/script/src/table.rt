@@ -1,13 +1,14 @@
 // A table in its flat form, four numbers a node: the operand counts of the kinds, the one door to a node, and the tests of a table.
 ghost use mathlib.Core.Path.{_≡_};
-ghost use mathlib.Core.List.{List, [], _∷_};
+ghost use mathlib.Core.List.{[], _∷_};
 ghost use Prim.Native.Nat.{_+_, _*_, _<_};
-ghost use lib.ListN.{length};
+ghost use lib.ListN.{length, getD};
 ghost use lib.Seq.{sets};
 ghost use Rattle.script.specs.Flat.{nodesIn};
-ghost use Rattle.script.specs.Rows.{operandCount, takesOf};
-ghost use Rattle.script.specs.Table.{nodeAt};
+ghost use Rattle.script.specs.Rows.{operandCount, takesOf, nodeOperands};
+ghost use Rattle.script.specs.Table.{nodeAt, fields};
 use crate::Node;
+use crate::Refusal;
 use crate::Script;
 
 // How many kinds of node there are.
@@ -20,6 +21,12 @@ const COUNTS: [u32; 15] = [1, 0, 0, 1, 2, 2, 1, 2, 3, 2, 1, 1, 2, 1, 1];
 pub enum Takes {
     Number(u32),
     Nodes,
+}
+
+// A table passes its tests, or is turned down.
+pub enum Tested {
+    Passed,
+    Refused(Refusal),
 }
 
 // How many operands a kind takes.
@@ -40,6 +47,28 @@ pub fn kind_takes(kind: u32) -> Takes
         0 => Takes::Number(4294967295),
         3 => Takes::Number(Script::VARIABLE),
         _ => Takes::Nodes,
+    }
+}
+
+// How many operands of a kind are nodes: all or none.
+pub fn node_operands(kind: u32) -> u32
+    ensures { λ r. ⌜ r ≡ nodeOperands kind ⌝ }
+{
+    match kind_takes(kind) {
+        Takes::Number(_) => 0,
+        Takes::Nodes => operand_count(kind),
+    }
+}
+
+// The operand of a node at place k, 0 to 2.
+pub fn operand_at(n: Node, k: u32) -> u32
+    ensures { λ r. ⌜ r ≡ getD (fields n) k 0 ⌝ }
+{
+    match k {
+        0 => n.a,
+        1 => n.b,
+        2 => n.c,
+        _ => 0,
     }
 }
 

@@ -1,11 +1,11 @@
 -- What the flat form tells: the node at a place by its four numbers, a node stored, how many nodes there are, and the way there and back.
 -- Assumes nothing.
 use mathlib.Core.List.{List, [], _∷_, _++_}
-use mathlib.Core.Path.{_≡_, refl, sym, ap, _∙_}
+use mathlib.Core.Path.{_≡_, refl, sym, ap}
 use Prim.Native.Nat.{ℕ, zero, suc, _+_, _*_, _/_, _≤_, _<_}
 use native.Mathlib.Omega.{arith}
 use lib.ListN.{length, getD, take, drop, set}
-use lib.Seq.{sets, take-nil, drop-nil}
+use lib.Seq.{sets}
 use Rattle.script.specs.Flat.{nodeOf, flat, nodesIn}
 use Rattle.script.specs.Table.{nodeAt}
 use Rattle.script.specs.declared.Node.{Node}

@@ -1,16 +1,18 @@
 -- What every row of the table of words has: the operand count of its form, and a kind below 15; the rows as the code has
 -- them. Assumes nothing.
+use mathlib.Core.Bool.{true}
 use mathlib.Core.List.{List, [], _∷_, map}
-use mathlib.Core.Option.{some}
+use mathlib.Core.Option.{Option, none, some}
 use mathlib.Core.Path.{_≡_, refl, sym, _∙_}
 use Prim.Native.Nat.{ℕ, zero, suc, _≤_, _<_}
 use native.Mathlib.Omega.{arith}
-use lib.Dec.{eqb}
+use lib.Dec.{leb, eqb}
 use lib.ListN.{getElem?, length, getD, drop, replicate, List·getD-eq-default}
-use borrow.Author.Tests.{eqb-true}
+use borrow.Author.Tests.{eqb-true, leb-true}
 use Rattle.script.specs.Limits.{variableLimit, wordLimit}
-use Rattle.script.specs.Rows.{Row, Form, rows, rowOf, countBy, operandCount, takesIn, takesOf, intForm, varForm, ifForm, letForm, typedForm, symForm, truthForm, unaryForm, binaryForm}
+use Rattle.script.specs.Rows.{Row, Form, rows, rowOf, countBy, operandCount, takesIn, takesOf, nodesOnly, nodeOperands, intForm, varForm, ifForm, letForm, typedForm, symForm, truthForm, unaryForm, binaryForm}
 use Rattle.script.specs.Tests.Laws.{all-getElem?, some-not-none}
+use Rattle.script.specs.declared.table.Takes.{Takes}
 use Rattle.script.specs.declared.table.Takes.the-variants.{Number, Nodes}
 
 -- how many operands a form takes
@@ -39,6 +41,23 @@ pub row-kind : (k : ℕ) (r : Row) → rowOf k ≡ some r → k < 15
 unfolding rowOf rows
 row-kind k r e = place-below rows k r e
 
+place-some : {A : Type 0} (xs : List A) (k : ℕ) → k < length xs → getElem? xs k ≡ none → ⊥
+place-some [] k h e = omega arith
+place-some (x ∷ xs) zero h e = some-not-none x e
+place-some (x ∷ xs) (suc k) h e = place-some xs k (omega arith) e
+
+-- each kind below 15 has a word
+pub row-some : (k : ℕ) → k < 15 → rowOf k ≡ none → ⊥
+unfolding rowOf rows
+row-some k h e = place-some rows k h e
+
+pub row-none : (k : ℕ) → 15 ≤ k → rowOf k ≡ none
+row-none k h = go (rowOf k) refl
+  where
+    go : (o : Option Row) → rowOf k ≡ o → rowOf k ≡ none
+    go none e = e
+    go (some r) e = let l = row-kind k r e in absurd (omega arith)
+
 -- ---- the operand counts and what operands are, as the code has them
 
 counts-at : (rs : List Row) (k : ℕ) → countBy (getElem? rs k) ≡ getD (map (λ (r : Row). r .count) rs) k 0
@@ -59,7 +78,7 @@ takes-at [] k = refl
 takes-at (r ∷ rs) zero = refl
 takes-at (r ∷ rs) (suc k) = takes-at rs k
 
-same-anywhere : {A : Type 0} (m : ℕ) (a : A) (k : ℕ) → getD (replicate m a) k a ≡ a
+pub same-anywhere : {A : Type 0} (m : ℕ) (a : A) (k : ℕ) → getD (replicate m a) k a ≡ a
 same-anywhere zero a k = refl
 same-anywhere (suc m) a zero = refl
 same-anywhere (suc m) a (suc k) = same-anywhere m a k
@@ -80,3 +99,32 @@ takes-nodes (suc zero) n m = refl
 takes-nodes (suc (suc zero)) n m = refl
 takes-nodes (suc (suc (suc zero))) n m = absurd (m refl)
 takes-nodes (suc (suc (suc (suc k)))) n m = takes-at (drop 4 rows) k ∙ same-anywhere 11 Nodes k
+
+most-three : (k : ℕ) (r : Row) → rowOf k ≡ some r → leb (r .count) 3 ≡ true
+unfolding rowOf rows
+most-three k r e = all-getElem? (λ (r : Row). leb (r .count) 3) rows refl k r e
+
+-- a kind takes at most three operands
+pub operands-most : (k : ℕ) → operandCount k ≤ 3
+unfolding operandCount
+operands-most k = go (rowOf k) refl
+  where
+    go : (o : Option Row) → rowOf k ≡ o → countBy o ≤ 3
+    go none e = omega arith
+    go (some r) e = leb-true (r .count) 3 (most-three k r e)
+
+pub node-operands-most : (k : ℕ) → nodeOperands k ≤ 3
+unfolding nodeOperands
+node-operands-most k = go (takesOf k) (operandCount k) (operands-most k)
+  where
+    go : (t : Takes) (c : ℕ) → c ≤ 3 → nodesOnly t c ≤ 3
+    go (Number m) c h = omega arith
+    go Nodes c h = h
+
+pub numbers-no-nodes : (k m : ℕ) (t : Takes) → t ≡ takesOf k → t ≡ Number m → 0 ≡ nodeOperands k
+unfolding nodeOperands
+numbers-no-nodes k m t e f = rw (sym e ∙ f) refl
+
+pub all-nodes : (k c : ℕ) (t : Takes) → t ≡ takesOf k → t ≡ Nodes → c ≡ operandCount k → c ≡ nodeOperands k
+unfolding nodeOperands
+all-nodes k c t e f g = rw (sym e ∙ f) g
