@@ -12,7 +12,7 @@ pub enum Frame {
 }
 
 // A number and where the next field starts; or not of the form.
-pub enum Field {
+pub enum Number {
     Is(usize, usize),
     Bad,
 }
@@ -30,37 +30,37 @@ fn digit(b: u8) -> usize
 }
 
 // The number at `at`, of one to seven digits, with the byte `stop` after it.
-fn field(input: &[u8], at: usize, stop: u8) -> Field {
+fn number_until(input: &[u8], at: usize, stop: u8) -> Number {
     let mut value: usize = 0;
     let mut i = at;
     while i < input.len() {
         let b = input[i];
         if b == stop {
             if i == at {
-                return Field::Bad;
+                return Number::Bad;
             }
-            return Field::Is(value, i + 1);
+            return Number::Is(value, i + 1);
         }
         let d = digit(b);
         if d == 10 {
-            return Field::Bad;
+            return Number::Bad;
         }
         if 999999 < value {
-            return Field::Bad;
+            return Number::Bad;
         }
         value = value * 10 + d;
         i += 1;
     }
-    Field::Bad
+    Number::Bad
 }
 
 // The header at `at`.
 pub fn frame_at(input: &[u8], at: usize) -> Frame {
-    match field(input, at, b'\t') {
-        Field::Is(length, next) => match field(input, next, b'\n') {
-            Field::Is(lent, from) => Frame::Text { from, length, lent },
-            Field::Bad => Frame::Bad,
+    match number_until(input, at, b'\t') {
+        Number::Is(length, next) => match number_until(input, next, b'\n') {
+            Number::Is(lent, from) => Frame::Text { from, length, lent },
+            Number::Bad => Frame::Bad,
         },
-        Field::Bad => Frame::Bad,
+        Number::Bad => Frame::Bad,
     }
 }

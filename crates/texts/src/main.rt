@@ -4,13 +4,19 @@ mod frames;
 mod slices;
 mod trial;
 
-use frames::frame_at;
 use frames::Frame;
+use frames::frame_at;
 use trial::say;
 use trial::try_text;
 
 // Tries the frame at `at`, with `out` to lend from, and answers where the next one starts; 0 after a malformed one.
-fn try_frame(input: &[u8], at: usize, table: &mut [u32], entries: &mut [u32], out: &mut [u8]) -> usize {
+fn try_frame(
+    input: &[u8],
+    at: usize,
+    table: &mut [u32],
+    entries: &mut [u32],
+    out: &mut [u8],
+) -> usize {
     match frame_at(input, at) {
         Frame::Text { from, length, lent } => {
             if from <= input.len() {
@@ -19,6 +25,7 @@ fn try_frame(input: &[u8], at: usize, table: &mut [u32], entries: &mut [u32], ou
                     if input[end] == b'\n' {
                         if lent <= out.len() {
                             try_text(&input[from..end], table, entries, &mut out[..lent]);
+                            say(b"\n");
                             return end + 1;
                         }
                     }
@@ -50,6 +57,6 @@ fn main() {
     let n = io::read_full(libc::STDIN_FILENO, &mut input);
     let mut table = [0u32; 512];
     let mut entries = [0u32; 16];
-    let mut out = [0u8; 16384];
+    let mut out = [0u8; 8193];
     try_all(&input[..n], &mut table, &mut entries, &mut out);
 }

@@ -1,6 +1,6 @@
 // Filling and comparing slices.
-use script::table::node_at;
 use script::Node;
+use script::table::node_at;
 
 // Puts `w` into every place.
 pub fn fill_words(s: &mut [u32], w: u32) {

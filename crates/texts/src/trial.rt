@@ -1,4 +1,4 @@
-// One text's trial: it is read, written again if it could be read, and what came of it is printed in one line.
+// One text's trial: it is read, written again if it could be read, and what came of it is printed.
 use crate::slices::all_bytes;
 use crate::slices::entries_clear;
 use crate::slices::fill_bytes;
@@ -78,7 +78,14 @@ fn say_same(text: &[u8], out: &[u8], length: usize) {
 }
 
 // Writes a table that was read from `text`, and prints what came of it.
-fn try_writer(text: &[u8], table: &[u32], nodes: usize, entries: &[u32], used: usize, out: &mut [u8]) {
+fn try_writer(
+    text: &[u8],
+    table: &[u32],
+    nodes: usize,
+    entries: &[u32],
+    used: usize,
+    out: &mut [u8],
+) {
     fill_bytes(out, BLANK);
     say(b"\t");
     match text::writer::write(table, nodes, entries, used, out) {
@@ -95,7 +102,7 @@ fn try_writer(text: &[u8], table: &[u32], nodes: usize, entries: &[u32], used: u
     }
 }
 
-// Reads a text into a table that holds other numbers, prints what came of it, and goes on to the writer.
+// Reads a text into a table that holds other numbers, prints what came of it, and goes on to the writer. The line is left open.
 pub fn try_text(text: &[u8], table: &mut [u32], entries: &mut [u32], out: &mut [u8]) {
     fill_words(table, STALE);
     fill_words(entries, STALE);
@@ -108,11 +115,12 @@ pub fn try_text(text: &[u8], table: &mut [u32], entries: &mut [u32], out: &mut [
             say_number(used as u64);
             say_clean(table, nodes, entries, used);
             try_writer(text, table, nodes, entries, used, out);
+            return;
         }
         Reading::Refused(r) => {
             say_refusal(r);
             say_clean(table, 0, entries, 0);
+            return;
         }
     }
-    say(b"\n");
 }
