@@ -7,4 +7,5 @@ pub mod Output
 pub mod Reading
 pub mod SameTable
 pub mod Scan
+pub mod Steps
 pub mod Writing

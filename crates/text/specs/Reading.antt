@@ -3,9 +3,10 @@
 -- Assumes nothing.
 use mathlib.Core.Bool.{_&&_}
 use mathlib.Core.List.{List, [], _∷_, _++_}
-use Prim.Native.Nat.{ℕ, _-_}
+use Prim.Native.Nat.{ℕ, _*_, _-_}
 use lib.Dec.{leb}
-use lib.ListN.{length, replicate}
+use lib.ListN.{length, drop, replicate}
+use Rattle.script.specs.Flat.{flat, nodesIn}
 use Rattle.script.specs.Limits.{nodeLimit, entryLimit, sizeOf}
 use Rattle.script.specs.Table.{unused}
 use Rattle.script.specs.Tests.{pick}
@@ -40,5 +41,26 @@ module _ {A : Type 0} where
 abbrev pub outcomeOf : Meaning → ℕ → ℕ → Outcome
 outcomeOf t n m = record { answer = answerOf t; lentNodes = filled (nodesRead t) n unused; lentEntries = filled (entriesRead t) m 0 }
 
+-- 32, then what the text means
+abbrev pub tried : List ℕ → ℕ → ℕ → Meaning
+tried text n m = pick (leb nodeLimit n && leb entryLimit m) (meaningOf text) (refused TableTooSmall)
+
 unfoldable pub reading : List ℕ → ℕ → ℕ → Outcome
-reading text n m = outcomeOf (pick (leb nodeLimit n && leb entryLimit m) (meaningOf text) (refused TableTooSmall)) n m
+reading text n m = outcomeOf (tried text n m) n m
+
+-- ---- the table in flat form
+
+-- the answer, and what every lent number then holds; numbers after the last whole node stay as they were
+pub record Left : Type 0 where
+  pub answer : Reading
+  pub table : List ℕ
+  pub entries : List ℕ
+
+abbrev pub leaves : Reading → List ℕ → List ℕ → Left
+leaves r xs es = record { answer = r; table = xs; entries = es }
+
+abbrev pub leftBy : Outcome → List ℕ → Left
+leftBy o rest = leaves (o .answer) (flat (o .lentNodes) ++ rest) (o .lentEntries)
+
+unfoldable pub readingIn : List ℕ → List ℕ → List ℕ → Left
+readingIn text xs es = leftBy (reading text (length (nodesIn xs)) (length es)) (drop (4 * length (nodesIn xs)) xs)

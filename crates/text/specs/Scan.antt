@@ -17,6 +17,7 @@ use Rattle.text.specs.declared.lines.Operand.{Operand}
 use Rattle.text.specs.declared.lines.Scanned.{Scanned}
 pub mod Laws
 pub mod Lines
+pub mod Nodes
 
 abbrev pub saidBy : Option ℕ → Said
 saidBy none = Said.Nothing

@@ -1,7 +1,7 @@
 // A line of a text: an entry line or a node line, and where the next line starts.
 ghost use mathlib.Core.Path.{_≡_};
 ghost use mathlib.Core.Bool.{true};
-ghost use Prim.Native.Nat.{_≤_};
+ghost use Prim.Native.Nat.{_≤_, _<_};
 ghost use lib.ListN.{length, drop};
 ghost use Rattle.script.specs.Rows.{rowOf};
 ghost use Rattle.text.specs.Scan.{fieldEnds, largestBy, operandAt, entryAfter, nodeAfter, lineAt};
@@ -67,6 +67,7 @@ fn largest(kind: u32) -> u32
 fn node_line(text: &[u8], at: usize, kind: u32) -> Scanned
     requires { ⌜ at ≤ length (now text) ⌝ }
     requires { ⌜ fieldEnds (drop at (now text)) ≡ true ⌝ }
+    requires { ⌜ kind < 15 ⌝ }
     ensures { λ r. ⌜ r ≡ nodeAfter kind at (drop at (now (text .entry))) ⌝ }
 {
     let count = operand_count(kind);

@@ -1,12 +1,10 @@
 // Bytes, numbers and types written from a place of the output on. What does not fit is left out, and the place after it is given all the same: so a text
 // is measured by writing it into no bytes.
-ghost use mathlib.Core.List.{List, [], _∷_};
 ghost use mathlib.Core.Path.{_≡_};
 ghost use Prim.Native.Nat.{_+_, _^_, _<_};
 ghost use lib.ListN.{length, set};
 ghost use Rattle.text.specs.Output.{Put, wordOf};
 ghost use Rattle.text.specs.Writing.{digits, typeText};
-
 use crate::words::LENGTHS;
 use crate::words::WORDS;
 
@@ -39,13 +37,10 @@ pub fn put_word(out: &mut [u8], at: usize, kind: u32) -> usize
     ensures { λ r. ⌜ Put (wordOf kind) at (now (out .entry)) r (now (out .exit)) ⌝ }
 {
     let k = kind as usize;
-    let n = LENGTHS[k];
-    let mut i = 0;
-    while i < n {
-        put(out, at + i, WORDS[5 * k + i]);
-        i += 1;
-    }
-    at + n
+    let words = WORDS;
+    let from = 5 * k;
+    let end = from + LENGTHS[k];
+    put_bytes(out, at, &words[from..end])
 }
 
 // A number in decimal: its tens first, then its last digit.
@@ -53,10 +48,11 @@ pub fn put_number(out: &mut [u8], at: usize, n: u32) -> usize
     requires { ⌜ at + length (digits n) < 2 ^ 64 ⌝ }
     ensures { λ r. ⌜ Put (digits n) at (now (out .entry)) r (now (out .exit)) ⌝ }
 {
-    let mut last = at;
-    if 10 <= n {
-        last = put_number(out, at, n / 10);
+    if n < 10 {
+        put(out, at, b'0' + (n as u8));
+        return at + 1;
     }
+    let last = put_number(out, at, n / 10);
     put(out, last, b'0' + ((n % 10) as u8));
     last + 1
 }
@@ -75,8 +71,8 @@ pub fn put_type(out: &mut [u8], at: usize, code: u32) -> usize
     }
     if t == 0 {
         put(out, last, b'i');
-    } else {
-        put(out, last, b'b');
+        return last + 1;
     }
+    put(out, last, b'b');
     last + 1
 }

@@ -13,7 +13,7 @@ use lib.Seq.{drop-cons, drop-length}
 use borrow.Author.Tests.{leb-true, eqb-true, eq-eqb, ne-eqb}
 use Rattle.script.specs.Rows.{Row, rows, rowOf}
 use Rattle.script.specs.Tests.{lowestFrom}
-use Rattle.script.specs.Tests.Laws.{both-true, true-or-false, lowestFrom-here, lowestFrom-next, lowestFrom-zero}
+use Rattle.script.specs.Tests.Laws.{both-true, true-or-false, lowestFrom-here, lowestFrom-next, lowestFrom-zero, lowest-some}
 use Rattle.text.specs.Fields.{sameBytes, wordIs, kindOf}
 use Rattle.text.specs.Output.{wordBy, wordOf}
 
@@ -47,11 +47,11 @@ same-end a b e = rw (drop-length a, e, drop-length b) refl
 -- ---- the words as the code keeps them, five places a word
 
 -- every number below n passes the test
-abbrev every : (ℕ → Bool) → ℕ → Bool
+abbrev pub every : (ℕ → Bool) → ℕ → Bool
 every p zero = true
 every p (suc n) = p n && every p n
 
-every-below : (p : ℕ → Bool) (n : ℕ) → every p n ≡ true → (k : ℕ) → k < n → p k ≡ true
+pub every-below : (p : ℕ → Bool) (n : ℕ) → every p n ≡ true → (k : ℕ) → k < n → p k ≡ true
 every-below p zero e k h = absurd (omega arith)
 every-below p (suc n) e k h = go (both-true (p n) (every p n) e) (every-below p n) (ℕ-discrete k n)
   where
@@ -83,11 +83,11 @@ pub word-most : (k : ℕ) → k < 15 → length (wordOf k) ≤ 5
 unfolding wordOf rowOf rows
 word-most k h = leb-true (length (wordOf k)) 5 (every-below (λ k. leb (length (wordOf k)) 5) 15 refl k h)
 
-abbrev has : Option Row → Bool
+abbrev pub has : Option Row → Bool
 has none = false
 has (some r) = true
 
-all-have : every (λ k. has (rowOf k)) 15 ≡ true
+pub all-have : every (λ k. has (rowOf k)) 15 ≡ true
 unfolding rowOf rows
 all-have = refl
 
@@ -127,3 +127,7 @@ module _ (f : List ℕ) where
   pub kind-end : kindFrom f 15 ≡ none
   unfolding kindFrom
   kind-end = lowestFrom-zero (λ k. wordIs (rowOf k) f) 15
+
+pub kind-below : (f : List ℕ) (k : ℕ) → kindOf f ≡ some k → k < 15
+unfolding kindOf rows
+kind-below f k e = lowest-some (λ k. wordIs (rowOf k) f) 15 k e .below

@@ -15,7 +15,8 @@ use Rattle.script.specs.Tests.Laws.{true-or-false}
 use Rattle.text.specs.Bytes.{lf, tab}
 use Rattle.text.specs.Fields.{given, isDigit, decimal, valueAfter, numberUpTo, lastLetter, typeAfter, typeUpTo}
 use Rattle.text.specs.Grammar.{parts}
-use Rattle.text.specs.Scan.{endsField, startsWith, fieldIn, fieldEnds, lineIn, lineEnds, fieldsAfter, numberAfter}
+use Rattle.text.specs.Scan.{endsField, startsWith, fieldIn, fieldEnds, lineIn, lineEnds, fieldsAfter, numberAfter, saidBy}
+use Rattle.text.specs.declared.fields.Said.{Said}
 
 -- ---- fields
 
@@ -180,3 +181,13 @@ module _ (t : ℕ) (f : List ℕ) (i : ℕ) (h : i < length f) where
 pub type-end : (t : ℕ) → typeAfter t [] ≡ none
 unfolding typeAfter
 type-end t = refl
+
+-- ---- what a field says
+
+pub said-number : (o : Option ℕ) (n : ℕ) → saidBy o ≡ Said.Number n → o ≡ some n
+said-number none n e = let z : _≡_ {A = ℕ} 0 1 = cc in absurd (omega arith)
+said-number (some m) n e = cc
+
+pub said-nothing : (o : Option ℕ) → saidBy o ≡ Said.Nothing → o ≡ none
+said-nothing none e = refl
+said-nothing (some m) e = let z : _≡_ {A = ℕ} 0 1 = cc in absurd (omega arith)

@@ -4,10 +4,11 @@ use mathlib.Core.List.{List, [], _∷_, _++_, append-assoc}
 use mathlib.Core.Option.{Option, none, some}
 use mathlib.Core.Path.{_≡_, refl, sym, ap, _∙_}
 use Prim.Native.Nat.{ℕ, zero, suc, _+_, _-_, _≤_, _<_}
+use native.Mathlib.Numerals.{add-one}
 use native.Mathlib.Omega.{arith}
 use lib.Dec.{ltb, eqb}
-use lib.ListN.{length, take, drop, length-append, length-drop}
-use lib.Seq.{drop-drop}
+use lib.ListN.{length, take, drop, getD, length-append, length-drop}
+use lib.Seq.{drop-drop, drop-cons}
 use borrow.Author.Tests.{eqb-true, eq-eqb, ne-eqb, ltb-true, lt-ltb, le-ltb}
 use Rattle.script.specs.Flat.{nodeOf}
 use Rattle.script.specs.Rows.{Row, rowOf}
@@ -72,7 +73,7 @@ exactly-is (suc n) m (f ∷ fs) = rw (eqb-suc (length fs) n) (ap (onNumbers (num
     go false none = refl
     go false (some x) = refl
 
-node-exactly : (k : ℕ) (r : Row) (fs : List (List ℕ)) → nodeBy k (some r) fs ≡ nodeWith k (exactly (r .count) (upTo (Rows.numberUpTo (r .form))) fs)
+pub node-exactly : (k : ℕ) (r : Row) (fs : List (List ℕ)) → nodeBy k (some r) fs ≡ nodeWith k (exactly (r .count) (upTo (Rows.numberUpTo (r .form))) fs)
 node-exactly k r fs = rw (exactly-is (r .count) (upTo (Rows.numberUpTo (r .form))) fs) (go (eqb (length fs) (r .count)) (numbersUpTo (upTo (Rows.numberUpTo (r .form))) fs))
   where
     go : (b : Bool) (o : Option (List ℕ)) → pick b (nodeWith k o) none ≡ nodeWith k (pick b o none)
@@ -159,3 +160,123 @@ rest-no-lf k m os at (c ∷ ds) f e = go (eqb c tab) refl
     go : (b : Bool) → eqb c tab ≡ b → nodeRest k m os 0 at (c ∷ ds) ≡ Scanned.Bad
     go true t = rw (t, goes-on ds .fields-are) (located-none (pick (eqb c lf) true (lineEnds ds)) (at + length (pick (eqb c lf) [] (c ∷ lineIn ds)) + 1))
     go false t = absurd (true-or-false (eqb c tab || eqb c lf) f (rw (t, e) refl))
+
+-- ---- at a place of a text
+
+pub rest-at : (text : List ℕ) (at n : ℕ) → drop n (drop at text) ≡ drop (at + n) text
+rest-at text at n = drop-drop n at text
+
+pub starts-within : (b : ℕ) (text : List ℕ) (at : ℕ) → startsWith b (drop at text) ≡ true → at < length text
+starts-within b text at e = go (drop at text) refl e
+  where
+    go : (cs : List ℕ) → drop at text ≡ cs → startsWith b cs ≡ true → at < length text
+    go [] d e = absurd (true-or-false false e refl)
+    go (c ∷ cs) d e = let l = sym (length-drop at text) ∙ ap length d in omega arith
+
+-- what follows the byte
+pub starts-then : (b : ℕ) (text : List ℕ) (at : ℕ) → startsWith b (drop at text) ≡ true → drop at text ≡ b ∷ drop (at + 1) text
+starts-then b text at e =
+    let h = starts-within b text at e in
+    let d = drop-cons text at 0 h in
+    rw d (rw (add-one at) (ap (λ c. c ∷ drop (suc at) text) (eqb-true (getD text at 0) b (rw d at e))))
+
+pub operand-no-tab : (m at : ℕ) (cs : List ℕ) → startsWith tab cs ≡ false → operandAt true m at cs ≡ Operand.Bad
+operand-no-tab m at [] e = refl
+operand-no-tab m at (c ∷ cs) e = rw e refl
+
+module _ (text : List ℕ) (at : ℕ) (e : startsWith tab (drop at text) ≡ true) where
+  -- the field after the tab, and its end
+  abbrev fieldThen : List ℕ
+  fieldThen = fieldIn (drop (at + 1) text)
+
+  pub operand-tab : (m : ℕ) → operandAt true m at (drop at text) ≡ operandBy (numberUpTo m fieldThen) (at + 1 + length fieldThen)
+  operand-tab m = rw (starts-then tab text at e) refl
+
+  pub then-most : at + 1 + length fieldThen ≤ length text
+  then-most =
+      let h = starts-within tab text at e in
+      let l = field-most (drop (at + 1) text) in
+      let d = length-drop (at + 1) text in
+      omega arith
+
+  pub then-ends : fieldEnds (drop (at + 1 + length fieldThen) text) ≡ true
+  then-ends = rw (← rest-at text (at + 1) (length fieldThen)) (field-ends (drop (at + 1) text))
+
+-- ---- an entry line after its word
+
+pub entry-no-tab : (at : ℕ) (cs : List ℕ) → startsWith tab cs ≡ false → entryAfter at cs ≡ Scanned.Bad
+unfolding entryAfter
+entry-no-tab at [] e = located-none (lineEnds []) (at + length (lineIn []) + 1)
+entry-no-tab at (c ∷ cs) e = rw e (located-none (lineEnds (c ∷ cs)) (at + length (lineIn (c ∷ cs)) + 1))
+
+-- the rest of the line after the type's field
+module _ (at : ℕ) (ds : List ℕ) where
+  entry-tab : entryAfter at (tab ∷ ds) ≡ located (lineEnds (restIn ds)) (entryFrom (fieldIn ds ∷ fieldsAfter (restIn ds))) (at + 1 + length (fieldIn ds) + length (lineIn (restIn ds)) + 1)
+  unfolding entryAfter lineEnds lineIn
+  entry-tab =
+      let h = goes-on ds in
+      let l : length (lineIn ds) ≡ length (fieldIn ds) + length (lineIn (restIn ds)) = ap length (h .line-is) ∙ length-append (fieldIn ds) (lineIn (restIn ds)) in
+      let p : at + suc (length (lineIn ds)) + 1 ≡ at + 1 + length (fieldIn ds) + length (lineIn (restIn ds)) + 1 = omega arith in
+      rw (p, h .fields-are, h .ends-is) refl
+
+  entry-end : (rs : List ℕ) → restIn ds ≡ rs → startsWith lf rs ≡ true → entryAfter at (tab ∷ ds) ≡ located true (entryWith (typeOf (fieldIn ds))) (at + 1 + length (fieldIn ds) + 1)
+  unfolding lineEnds lineIn
+  entry-end [] r e = absurd (true-or-false false e refl)
+  entry-end (c ∷ rs) r e =
+      let l = eqb-true c lf e in
+      let z : at + 1 + length (fieldIn ds) + 0 + 1 ≡ at + 1 + length (fieldIn ds) + 1 = omega arith in
+      entry-tab ∙ rw (r, l, z) refl
+
+  entry-not-end : (rs : List ℕ) → restIn ds ≡ rs → fieldEnds rs ≡ true → startsWith lf rs ≡ false → entryAfter at (tab ∷ ds) ≡ Scanned.Bad
+  unfolding lineEnds
+  entry-not-end [] r f e = entry-tab ∙ rw r refl
+  entry-not-end (c ∷ rs) r f e = entry-tab ∙ rw r (go (eqb c tab) refl)
+    where
+      go : (b : Bool) → eqb c tab ≡ b → located (lineEnds (c ∷ rs)) (entryFrom (fieldIn ds ∷ fieldsAfter (c ∷ rs))) (at + 1 + length (fieldIn ds) + length (lineIn (c ∷ rs)) + 1) ≡ Scanned.Bad
+      go true t = rw (t, goes-on rs .fields-are) (located-none (lineEnds (c ∷ rs)) (at + 1 + length (fieldIn ds) + length (lineIn (c ∷ rs)) + 1))
+      go false t = absurd (true-or-false (eqb c tab || eqb c lf) f (rw (t, e) refl))
+
+module _ (text : List ℕ) (at : ℕ) (e : startsWith tab (drop at text) ≡ true) where
+  pub entry-lf : startsWith lf (drop (at + 1 + length (fieldThen text at e)) text) ≡ true → entryAfter at (drop at text) ≡ located true (entryWith (typeOf (fieldThen text at e))) (at + 1 + length (fieldThen text at e) + 1)
+  entry-lf f = rw (starts-then tab text at e) (entry-end at (drop (at + 1) text) (drop (at + 1 + length (fieldThen text at e)) text) (rest-at text (at + 1) (length (fieldThen text at e))) f)
+
+  pub entry-no-lf : startsWith lf (drop (at + 1 + length (fieldThen text at e)) text) ≡ false → entryAfter at (drop at text) ≡ Scanned.Bad
+  entry-no-lf f = rw (starts-then tab text at e) (entry-not-end at (drop (at + 1) text) (drop (at + 1 + length (fieldThen text at e)) text) (rest-at text (at + 1) (length (fieldThen text at e))) (then-ends text at e) f)
+
+-- ---- a line and its word
+
+-- the fields of the line that starts here
+line-fields : (at : ℕ) (cs : List ℕ) → lineAt at cs ≡ located (lineEnds (restIn cs)) (lineFrom (fieldIn cs ∷ fieldsAfter (restIn cs))) (at + length (fieldIn cs) + length (lineIn (restIn cs)) + 1)
+unfolding lineAt lineOf
+line-fields at cs =
+    let h = goes-on cs in
+    let l : length (lineIn cs) ≡ length (fieldIn cs) + length (lineIn (restIn cs)) = ap length (h .line-is) ∙ length-append (fieldIn cs) (lineIn (restIn cs)) in
+    let p : at + length (lineIn cs) + 1 ≡ at + length (fieldIn cs) + length (lineIn (restIn cs)) + 1 = omega arith in
+    rw (p, h .fields-are, h .ends-is) refl
+
+module _ (text : List ℕ) (at : ℕ) where
+  abbrev wordThen : List ℕ
+  wordThen = fieldIn (drop at text)
+
+  rest-then : restIn (drop at text) ≡ drop (at + length wordThen) text
+  rest-then = rest-at text at (length wordThen)
+
+  pub word-most : at ≤ length text → at + length wordThen ≤ length text
+  word-most h =
+      let l = field-most (drop at text) in
+      let d = length-drop at text in
+      omega arith
+
+  pub word-ends : fieldEnds (drop (at + length wordThen) text) ≡ true
+  word-ends = rw (← rest-then) (field-ends (drop at text))
+
+  pub line-entry : sameBytes entryWord wordThen ≡ true → lineAt at (drop at text) ≡ entryAfter (at + length wordThen) (drop (at + length wordThen) text)
+  unfolding entryAfter
+  line-entry e = line-fields at (drop at text) ∙ rw (e, rest-then) refl
+
+  pub line-node : (k : ℕ) → sameBytes entryWord wordThen ≡ false → kindOf wordThen ≡ some k → lineAt at (drop at text) ≡ nodeAfter k (at + length wordThen) (drop (at + length wordThen) text)
+  unfolding nodeAfter
+  line-node k e f = line-fields at (drop at text) ∙ rw (e, f, rest-then) refl
+
+  pub line-none : sameBytes entryWord wordThen ≡ false → kindOf wordThen ≡ none → lineAt at (drop at text) ≡ Scanned.Bad
+  line-none e f = line-fields at (drop at text) ∙ rw (e, f) (located-none (lineEnds (restIn (drop at text))) (at + length wordThen + length (lineIn (restIn (drop at text))) + 1))

@@ -1,78 +1,78 @@
+-- `text::lines::entry_line` meets its contract. Assumes nothing.
 use borrow.Author.Needs.{needs}
+use borrow.Author.Tests.{not-true, not-false}
+use mathlib.Core.Bool.{true, false}
+use mathlib.Core.Path.{_≡_, refl, sym, ap, _∙_}
+use Prim.Native.Nat.{_+_}
+use native.Mathlib.Omega.{arith}
+use lib.ListN.{length, drop}
+use Rattle.text.specs.Fields.{typeOf}
+use Rattle.text.specs.Scan.{startsWith, fieldIn}
+use Rattle.text.specs.Scan.Laws.{said-number, said-nothing}
+use Rattle.text.specs.Scan.Lines.{entry-no-tab, entry-lf, entry-no-lf, starts-within, then-most}
 use Rattle.text.proofs.lines.entry_line.Statement.{statement}
 use Rattle.text.proofs.lines.entry_line.Tie as tie
 use Rattle.text.proofs.lines.entry_line.Reads as reads
 use Rattle.text.proofs.lines.entry_line.Lts as lts
-use Rattle.text.proofs.fields.byte_is.Reads as byte-is-reads
-use Rattle.text.proofs.fields.field.Reads as field-reads
-use Rattle.text.proofs.fields.type_code.Reads as type-code-reads
 
--- src/lines.rt:95:9
-byte-is-requires : tie.Need-byte-is-requires
-byte-is-requires c κs = search needs
-
--- src/lines.rt:96:9
 returns : tie.Need-returns
-returns c = ?
+returns c =
+    let a = c .before .before .before .args in
+    sym (entry-no-tab (a .at) (drop (a .at) (a .text .now)) (sym (c .before .byte-is .ensures) ∙ not-true _ (c .if1 .taken)))
 
--- src/lines.rt:98:16
-add-from : tie.Need-add-from
-add-from c = search needs
-
--- src/lines.rt:99:9
 field-requires : tie.Need-field-requires
-field-requires c κs = ?
+field-requires c κs =
+    let a = c .before .before .before .args in
+    let h = starts-within 9 (a .text .now) (a .at) (sym (c .before .byte-is .ensures) ∙ not-false _ (c .if1 .left)) in
+    omega arith
 
--- src/lines.rt:100:15
-add-end : tie.Need-add-end
-add-end c = search needs
-
--- src/lines.rt:101:9
-byte-is-requires-2 : tie.Need-byte-is-requires-2
-byte-is-requires-2 c κs = search needs
-
--- src/lines.rt:102:9
 returns-2 : tie.Need-returns-2
-returns-2 c = ?
+returns-2 c =
+    let a = c .before .before .before .before .before .before .args in
+    let t = sym (c .before .before .before .before .byte-is .ensures) ∙ not-false _ (c .before .before .before .if1 .left) in
+    let f = c .before .before .field .ensures in
+    let l = sym (c .before .byte-is2 .ensures) ∙ not-true _ (c .if2 .taken) in
+    sym (entry-no-lf (a .text .now) (a .at) t (rw f at l))
 
--- src/lines.rt:104:11
-type-code-requires : tie.Need-type-code-requires
-type-code-requires c κs = search needs
+add-end : tie.Need-add-t12
+add-end c =
+    let a = c .before .before .before .before .before .before .before .before .before .before .args in
+    let l = sym (c .before .before .before .before .before .byte-is2 .ensures) ∙ not-false _ (c .before .before .before .before .if2 .left) in
+    let h = starts-within 10 (a .text .now) (a .at + 1 + length (c .before .before .before .before .before .before .field .result .now)) l in
+    search needs
 
--- src/lines.rt:105:22
-enum-known-t : tie.Need-enum-known-t
-enum-known-t c = search needs
-
--- src/lines.rt:105:46
-add-t12 : tie.Need-add-t12
-add-t12 c = ?
-
--- src/lines.rt:106:26
-enum-told : tie.Need-enum-told
-enum-told c = search needs
-
--- src/lines.rt:90:1
 returns-3 : tie.Need-returns-3
-returns-3 c = ?
+returns-3 c =
+    let a = c .before .before .before .before .before .before .before .before .before .before .args in
+    let t = sym (c .before .before .before .before .before .before .before .before .byte-is .ensures) ∙ not-false _ (c .before .before .before .before .before .before .before .if1 .left) in
+    let f = c .before .before .before .before .before .before .field .ensures in
+    let l = sym (c .before .before .before .before .before .byte-is2 .ensures) ∙ not-false _ (c .before .before .before .before .if2 .left) in
+    let n = said-number (typeOf (c .before .before .before .before .before .before .field .result .now)) (c .before .t .given .0 .0) (sym (c .before .before .before .type-code .ensures) ∙ c .before .t .given .1) in
+    rw (entry-lf (a .text .now) (a .at) t (rw f at l), ← f, n) refl
 
--- src/lines.rt:90:1
 returns-4 : tie.Need-returns-4
-returns-4 c = ?
+returns-4 c =
+    let a = c .before .before .before .before .before .before .before .before .before .args in
+    let t = sym (c .before .before .before .before .before .before .before .byte-is .ensures) ∙ not-false _ (c .before .before .before .before .before .before .if1 .left) in
+    let f = c .before .before .before .before .before .field .ensures in
+    let l = sym (c .before .before .before .before .byte-is2 .ensures) ∙ not-false _ (c .before .before .before .if2 .left) in
+    let n = said-nothing (typeOf (c .before .before .before .before .before .field .result .now)) (sym (c .before .before .type-code .ensures) ∙ c .enum-told .given .1) in
+    rw (entry-lf (a .text .now) (a .at) t (rw f at l), ← f, n) refl
 
 pub entry-line-spec : {M : Type 1} → statement M
 entry-line-spec =
     tie.close
     (tie.spec
-    byte-is-requires
+    (λ c κs. search needs)
     returns
-    add-from
+    (λ c. search needs)
     field-requires
-    add-end
-    byte-is-requires-2
+    (λ c. search needs)
+    (λ c κs. search needs)
     returns-2
-    type-code-requires
-    enum-known-t
-    add-t12
-    enum-told
+    (λ c κs. search needs)
+    (λ c. search needs)
+    add-end
+    (λ c. search needs)
     returns-3
     returns-4)

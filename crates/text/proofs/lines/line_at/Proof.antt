@@ -1,75 +1,80 @@
+-- `text::lines::line_at` meets its contract. Assumes nothing.
 use borrow.Author.Needs.{needs}
+use mathlib.Core.Bool.{true, false}
+use mathlib.Core.Path.{_≡_, refl, sym, ap, _∙_}
+use Prim.Native.Nat.{_+_, _≤_}
+use native.Mathlib.Omega.{arith}
+use lib.ListN.{length, drop}
+use Rattle.text.specs.Fields.{kindOf}
+use Rattle.text.specs.Fields.Laws.{kind-below}
+use Rattle.text.specs.Scan.{fieldIn}
+use Rattle.text.specs.Scan.Laws.{said-number, said-nothing}
+use Rattle.text.specs.Scan.Lines.{line-entry, line-node, line-none, word-most, word-ends}
 use Rattle.text.proofs.lines.line_at.Statement.{statement}
 use Rattle.text.proofs.lines.line_at.Tie as tie
 use Rattle.text.proofs.lines.line_at.Reads as reads
 use Rattle.text.proofs.lines.line_at.Lts as lts
-use Rattle.text.proofs.fields.field.Reads as field-reads
-use Rattle.text.proofs.lines.entry_line.Reads as entry-line-reads
-use Rattle.text.proofs.lines.node_line.Reads as node-line-reads
-use Rattle.text.proofs.words.kind_of.Reads as kind-of-reads
-use Rattle.text.proofs.words.same.Reads as same-reads
 
--- src/lines.rt:115:9
-field-requires : tie.Need-field-requires
-field-requires c κs = search needs
-
--- src/lines.rt:116:15
 add-end : tie.Need-add-end
-add-end c = search needs
+add-end c =
+    let a = c .before .before .args in
+    let l = ap length (c .field .ensures) in
+    let h = word-most (a .text .now) (a .at) (omega arith) in
+    search needs
 
--- src/lines.rt:117:13
 slice-aggregate-same : tie.Need-slice-aggregate-same
 slice-aggregate-same c = search needs
 
--- src/lines.rt:117:8
-same-requires : tie.Need-same-requires
-same-requires c κs = search needs
-
--- src/lines.rt:118:9
 entry-line-requires : tie.Need-entry-line-requires
-entry-line-requires c κs = ?
+entry-line-requires c κs =
+    let a = c .before .before .before .before .before .args in
+    let f = c .before .before .before .field .ensures in
+    (rw f (word-most (a .text .now) (a .at) (omega arith)), rw f (word-ends (a .text .now) (a .at)))
 
--- src/lines.rt:118:9
 returns : tie.Need-returns
-returns c = ?
+returns c =
+    let a = c .before .before .before .before .before .before .args in
+    let f = c .before .before .before .before .field .ensures in
+    let w = sym (c .before .before .same .ensures) ∙ c .before .if1 .taken in
+    sym (line-entry (a .text .now) (a .at) (rw f at w) ∙ rw (← f) (sym (c .entry-line .ensures)))
 
--- src/lines.rt:120:11
-kind-of-requires : tie.Need-kind-of-requires
-kind-of-requires c κs = search needs
-
--- src/lines.rt:121:22
-enum-known-kind : tie.Need-enum-known-kind
-enum-known-kind c = search needs
-
--- src/lines.rt:121:31
 node-line-requires : tie.Need-node-line-requires
-node-line-requires c κs = ?
+node-line-requires c κs =
+    let a = c .before .before .before .before .before .before .before .before .before .args in
+    let f = c .before .before .before .before .before .before .before .field .ensures in
+    let k = said-number (kindOf (c .before .before .before .before .before .before .before .field .result .now)) (c .before .kind .given .0 .0) (sym (c .before .before .before .kind-of .ensures) ∙ c .before .kind .given .1) in
+    (rw f (word-most (a .text .now) (a .at) (omega arith)),
+      (rw f (word-ends (a .text .now) (a .at)), kind-below (c .before .before .before .before .before .before .before .field .result .now) (c .before .kind .given .0 .0) k))
 
--- src/lines.rt:122:26
-enum-told : tie.Need-enum-told
-enum-told c = search needs
-
--- src/lines.rt:111:1
 returns-2 : tie.Need-returns-2
-returns-2 c = ?
+returns-2 c =
+    let a = c .before .before .before .before .before .before .before .before .before .before .args in
+    let f = c .before .before .before .before .before .before .before .before .field .ensures in
+    let w = sym (c .before .before .before .before .before .before .same .ensures) ∙ c .before .before .before .before .before .if1 .left in
+    let k = said-number (kindOf (c .before .before .before .before .before .before .before .before .field .result .now)) (c .before .before .kind .given .0 .0) (sym (c .before .before .before .before .kind-of .ensures) ∙ c .before .before .kind .given .1) in
+    sym (line-node (a .text .now) (a .at) (c .before .before .kind .given .0 .0) (rw f at w) (rw f at k) ∙ rw (← f) (sym (c .node-line .ensures)))
 
--- src/lines.rt:111:1
 returns-3 : tie.Need-returns-3
-returns-3 c = ?
+returns-3 c =
+    let a = c .before .before .before .before .before .before .before .before .args in
+    let f = c .before .before .before .before .before .before .field .ensures in
+    let w = sym (c .before .before .before .before .same .ensures) ∙ c .before .before .before .if1 .left in
+    let k = said-nothing (kindOf (c .before .before .before .before .before .before .field .result .now)) (sym (c .before .before .kind-of .ensures) ∙ c .enum-told .given .1) in
+    sym (line-none (a .text .now) (a .at) (rw f at w) (rw f at k))
 
 pub line-at-spec : {M : Type 1} → statement M
 line-at-spec =
     tie.close
     (tie.spec
-    field-requires
+    (λ c κs. search needs)
     add-end
     slice-aggregate-same
-    same-requires
+    (λ c κs. search needs)
     entry-line-requires
     returns
-    kind-of-requires
-    enum-known-kind
+    (λ c κs. search needs)
+    (λ c. search needs)
     node-line-requires
-    enum-told
+    (λ c. search needs)
     returns-2
     returns-3)

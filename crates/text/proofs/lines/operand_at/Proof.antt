@@ -1,68 +1,63 @@
+-- `text::lines::operand_at` meets its contract. Assumes nothing.
 use borrow.Author.Needs.{needs}
+use borrow.Author.Tests.{not-true, not-false}
+use mathlib.Core.Bool.{true, false}
+use mathlib.Core.Path.{_≡_, refl, sym, ap, _∙_}
+use Prim.Native.Nat.{_+_}
+use native.Mathlib.Omega.{arith}
+use lib.ListN.{length, drop}
+use Rattle.text.specs.Fields.{numberUpTo}
+use Rattle.text.specs.Scan.{startsWith, fieldIn, operandBy}
+use Rattle.text.specs.Scan.Laws.{said-number, said-nothing}
+use Rattle.text.specs.Scan.Lines.{operand-no-tab, operand-tab, starts-within, then-most}
 use Rattle.text.proofs.lines.operand_at.Statement.{statement}
 use Rattle.text.proofs.lines.operand_at.Tie as tie
 use Rattle.text.proofs.lines.operand_at.Reads as reads
 use Rattle.text.proofs.lines.operand_at.Lts as lts
-use Rattle.text.proofs.fields.byte_is.Reads as byte-is-reads
-use Rattle.text.proofs.fields.field.Reads as field-reads
-use Rattle.text.proofs.fields.number.Reads as number-reads
 
--- src/lines.rt:43:9
 returns : tie.Need-returns
-returns c = ?
+returns c = rw (not-true (c .before .before .args .wanted) (c .if1 .taken)) refl
 
--- src/lines.rt:45:9
-byte-is-requires : tie.Need-byte-is-requires
-byte-is-requires c κs = search needs
-
--- src/lines.rt:46:9
 returns-2 : tie.Need-returns-2
-returns-2 c = ?
+returns-2 c =
+    let a = c .before .before .before .before .args in
+    let b = sym (c .before .byte-is .ensures) ∙ not-true _ (c .if2 .taken) in
+    rw (not-false (a .wanted) (c .before .before .if1 .left)) (sym (operand-no-tab (a .limit) (a .at) (drop (a .at) (a .text .now)) b))
 
--- src/lines.rt:48:16
-add-from : tie.Need-add-from
-add-from c = search needs
-
--- src/lines.rt:49:9
 field-requires : tie.Need-field-requires
-field-requires c κs = ?
+field-requires c κs =
+    let a = c .before .before .before .before .args in
+    let h = starts-within 9 (a .text .now) (a .at) (sym (c .before .byte-is .ensures) ∙ not-false _ (c .if2 .left)) in
+    omega arith
 
--- src/lines.rt:50:11
-number-requires : tie.Need-number-requires
-number-requires c κs = search needs
-
--- src/lines.rt:51:22
-enum-known-n : tie.Need-enum-known-n
-enum-known-n c = search needs
-
--- src/lines.rt:51:43
-add-t13 : tie.Need-add-t13
-add-t13 c = search needs
-
--- src/lines.rt:52:26
-enum-told : tie.Need-enum-told
-enum-told c = search needs
-
--- src/lines.rt:38:1
 returns-3 : tie.Need-returns-3
-returns-3 c = ?
+returns-3 c =
+    let a = c .before .before .before .before .before .before .before .before .before .args in
+    let t = sym (c .before .before .before .before .before .before .byte-is .ensures) ∙ not-false _ (c .before .before .before .before .before .if2 .left) in
+    let f = c .before .before .before .before .field .ensures in
+    let n = said-number (numberUpTo (a .limit) (c .before .before .before .before .field .result .now)) (c .before .n .given .0 .0) (sym (c .before .before .before .number .ensures) ∙ c .before .n .given .1) in
+    rw (not-false (a .wanted) (c .before .before .before .before .before .before .before .if1 .left), operand-tab (a .text .now) (a .at) t (a .limit), ← f, n) refl
 
--- src/lines.rt:38:1
 returns-4 : tie.Need-returns-4
-returns-4 c = ?
+returns-4 c =
+    let a = c .before .before .before .before .before .before .before .before .args in
+    let t = sym (c .before .before .before .before .before .byte-is .ensures) ∙ not-false _ (c .before .before .before .before .if2 .left) in
+    let f = c .before .before .before .field .ensures in
+    let n = said-nothing (numberUpTo (a .limit) (c .before .before .before .field .result .now)) (sym (c .before .before .number .ensures) ∙ c .enum-told .given .1) in
+    rw (not-false (a .wanted) (c .before .before .before .before .before .before .if1 .left), operand-tab (a .text .now) (a .at) t (a .limit), ← f, n) refl
 
 pub operand-at-spec : {M : Type 1} → statement M
 operand-at-spec =
     tie.close
     (tie.spec
     returns
-    byte-is-requires
+    (λ c κs. search needs)
     returns-2
-    add-from
+    (λ c. search needs)
     field-requires
-    number-requires
-    enum-known-n
-    add-t13
-    enum-told
+    (λ c κs. search needs)
+    (λ c. search needs)
+    (λ c. search needs)
+    (λ c. search needs)
     returns-3
     returns-4)
