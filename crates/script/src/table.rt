@@ -1,18 +1,22 @@
-// A table in its flat form, four numbers a node: the operand counts of the kinds, the one door to a node, and the tests of a table.
+// A table in its flat form, four numbers a node: the operand counts of the kinds, a well-formed node, and the one door to a node.
 ghost use mathlib.Core.Path.{_≡_};
 ghost use mathlib.Core.List.{[], _∷_};
 ghost use Prim.Native.Nat.{_+_, _*_, _<_};
 ghost use lib.ListN.{length, getD};
 ghost use lib.Seq.{sets};
 ghost use Rattle.script.specs.Flat.{nodesIn};
-ghost use Rattle.script.specs.Rows.{operandCount, takesOf, nodeOperands};
-ghost use Rattle.script.specs.Table.{nodeAt, fields};
+ghost use Rattle.script.specs.Rows.{rowOf, operandCount, takesOf, nodeOperands};
+ghost use Rattle.script.specs.Table.{nodeAt, fields, rightNode, isSymNode};
+ghost use Rattle.script.specs.TableTests.{rightField};
 use crate::Node;
 use crate::Refusal;
 use crate::Script;
 
 // How many kinds of node there are.
 pub const KINDS: u32 = 15;
+
+// The kind of `sym`.
+pub const SYM: u32 = 14;
 
 // How many operands each kind takes: the one table of operand counts, for the reader, the writer and the tests of a table.
 const COUNTS: [u32; 15] = [1, 0, 0, 1, 2, 2, 1, 2, 3, 2, 1, 1, 2, 1, 1];
@@ -70,6 +74,41 @@ pub fn operand_at(n: Node, k: u32) -> u32
         2 => n.c,
         _ => 0,
     }
+}
+
+// The node is a `sym`.
+pub fn is_sym(n: Node) -> bool
+    ensures { λ r. ⌜ r ≡ isSymNode n ⌝ }
+{
+    n.kind == SYM
+}
+
+// The operand o at place k of a node with number i: an earlier node or a number in its range where the kind takes it, else 0.
+fn right_field(kind: u32, k: u32, o: u32, i: usize) -> bool
+    ensures { λ r. ⌜ r ≡ rightField (rowOf kind) k o i ⌝ }
+{
+    if kind < KINDS {
+        if k < operand_count(kind) {
+            return match kind_takes(kind) {
+                Takes::Number(most) => o <= most,
+                Takes::Nodes => (o as usize) < i,
+            };
+        }
+        return o == 0;
+    }
+    false
+}
+
+// Node i is well formed: 4.
+pub fn well_formed(n: Node, i: usize) -> bool
+    ensures { λ r. ⌜ r ≡ rightNode (rowOf (n .kind)) i n ⌝ }
+{
+    if right_field(n.kind, 0, n.a, i) {
+        if right_field(n.kind, 1, n.b, i) {
+            return right_field(n.kind, 2, n.c, i);
+        }
+    }
+    false
 }
 
 // The node at place i of a table.

@@ -5,28 +5,22 @@ ghost use lib.Dec.{leb};
 ghost use lib.ListN.{length, take};
 ghost use Rattle.script.specs.Flat.{nodesIn, tableIn};
 ghost use Rattle.script.specs.Limits.{nodeLimit, typeLimit, wordLimit};
-ghost use Rattle.script.specs.Rows.{rowOf};
-ghost use Rattle.script.specs.Table.{rightNode, isSymNode, operands, treeTest, nodesTest, tableTest};
-ghost use Rattle.script.specs.TableTests.{testedBy, usesTest, depthsTest, usedTest, Lent, FormedNodes, rightField, operandsTest, Zeros, Within, Small, Counted, Spread, UseCounts, Nestings, countsTest, deepAt, nestingTest};
+ghost use Rattle.script.specs.Table.{isSymNode, operands, treeTest, nodesTest, tableTest};
+ghost use Rattle.script.specs.TableTests.{testedBy, usesTest, depthsTest, usedTest, Lent, FormedNodes, operandsTest, Zeros, Within, Small, Counted, Spread, UseCounts, Nestings, countsTest, deepAt, nestingTest};
 ghost use Rattle.script.specs.Tests.{all, pick};
 use crate::Node;
 use crate::Refusal;
 use crate::Script;
 use crate::Sized;
-use crate::table::KINDS;
-use crate::table::Takes;
 use crate::table::Tested;
-use crate::table::kind_takes;
+use crate::table::is_sym;
 use crate::table::node_at;
 use crate::table::node_operands;
 use crate::table::operand_at;
-use crate::table::operand_count;
+use crate::table::well_formed;
 
 // The largest code of a type: 15 references to a truth.
 pub const TYPE: u32 = 31;
-
-// The kind of `sym`.
-pub const SYM: u32 = 14;
 
 // All codes of the first `count` entries are types.
 fn right_codes(entries: &[u32], count: usize) -> bool
@@ -41,34 +35,6 @@ fn right_codes(entries: &[u32], count: usize) -> bool
         i += 1;
     }
     true
-}
-
-// The operand o at place k of a node with number i: an earlier node or a number in its range where the kind takes it, else 0.
-fn right_field(kind: u32, k: u32, o: u32, i: usize) -> bool
-    ensures { λ r. ⌜ r ≡ rightField (rowOf kind) k o i ⌝ }
-{
-    if kind < KINDS {
-        if k < operand_count(kind) {
-            return match kind_takes(kind) {
-                Takes::Number(most) => o <= most,
-                Takes::Nodes => (o as usize) < i,
-            };
-        }
-        return o == 0;
-    }
-    false
-}
-
-// Node i is well formed: 4.
-pub fn well_formed(n: Node, i: usize) -> bool
-    ensures { λ r. ⌜ r ≡ rightNode (rowOf (n .kind)) i n ⌝ }
-{
-    if right_field(n.kind, 0, n.a, i) {
-        if right_field(n.kind, 1, n.b, i) {
-            return right_field(n.kind, 2, n.c, i);
-        }
-    }
-    false
 }
 
 // 4 of the first `nodes` nodes.
@@ -144,13 +110,6 @@ fn spread(depths: &mut [u32], n: Node, v: u32)
     }
 }
 
-// The node is a `sym`.
-pub fn is_sym(n: Node) -> bool
-    ensures { λ r. ⌜ r ≡ isSymNode n ⌝ }
-{
-    n.kind == SYM
-}
-
 // How many `sym` are around the operands of a node that has d around it.
 fn depth_inside(n: Node, d: u32) -> u32
     requires { ⌜ d < wordLimit ⌝ }
@@ -177,7 +136,7 @@ fn note_depths(table: &[u32], nodes: usize, depths: &mut [u32])
     }
 }
 
-// A `sym` with d around it is too deep.
+// The node is a `sym`, and d `sym` around it are too many.
 fn too_deep(n: Node, d: u32) -> bool
     ensures { λ r. ⌜ r ≡ deepAt n d ⌝ }
 {

@@ -13,7 +13,7 @@ use lib.Seq.{sets, length-sets, length-take-le, take-suc-set, drop-set-lt, getD-
 use borrow.Author.Tests.{eqb-true, eqb-false, ltb-true, lt-ltb}
 use Rattle.script.specs.Flat.{nodesIn}
 use Rattle.script.specs.Flat.Laws.{length-nodesIn, nodesIn-sets}
-use Rattle.script.specs.Limits.{nodeLimit, entryLimit, sizeOf}
+use Rattle.script.specs.Limits.{nodeLimit, entryLimit, sizeOf, pickSized}
 use Rattle.script.specs.Rows.{rowOf}
 use Rattle.script.specs.Table.{unused, nodeAt, rightNode, wellFormed}
 use Rattle.script.specs.Tests.{pick}
@@ -21,6 +21,7 @@ use Rattle.script.specs.Tests.Laws.{true-or-false}
 use Rattle.script.specs.declared.Node.{Node}
 use Rattle.script.specs.declared.Refusal.the-variants.{BadLine, TooManyAt, BadOperand}
 use Rattle.script.specs.declared.Script.{Script}
+use Rattle.script.specs.declared.Sized.{Sized}
 use Rattle.text.specs.Grammar.{Line, entryLine, nodeLine, goOn, stop, admit, lineOf}
 use Rattle.text.specs.Scan.{lineIn, lineEnds, located, lineAt}
 use Rattle.text.specs.Steps.{nodesBy, entriesBy, Kept, Framed, entryStep, entryStored, nodeStep, nodeStored, lineHere, stepOf, GoesTo, goes-next, refused, Took}
@@ -55,21 +56,31 @@ module _ (at : ℕ) (cs : List ℕ) where
   located-bad true (some (entryLine u)) n e = let z : _≡_ {A = ℕ} 0 1 = cc in absurd (omega arith)
   located-bad true (some (nodeLine k)) n e = let z : _≡_ {A = ℕ} 0 1 = cc in absurd (omega arith)
 
-  here-entry : (t next : ℕ) → lineAt at cs ≡ Scanned.Entry t next → Here (entryLine t) at next cs
+  pub here-entry : (t next : ℕ) → lineAt at cs ≡ Scanned.Entry t next → Here (entryLine t) at next cs
   unfolding lineAt
   here-entry t next e =
       let l = located-entry (lineEnds cs) (lineOf (lineIn cs)) t next (at + length (lineIn cs) + 1) e in
       record { line-is = rw (l .0) (l .1); next-is = l .2; ends = l .0 }
 
-  here-node : (n : Node) (next : ℕ) → lineAt at cs ≡ Scanned.Node n next → Here (nodeLine n) at next cs
+  pub here-node : (n : Node) (next : ℕ) → lineAt at cs ≡ Scanned.Node n next → Here (nodeLine n) at next cs
   unfolding lineAt
   here-node n next e =
       let l = located-node (lineEnds cs) (lineOf (lineIn cs)) n next (at + length (lineIn cs) + 1) e in
       record { line-is = rw (l .0) (l .1); next-is = l .2; ends = l .0 }
 
-  here-bad : lineAt at cs ≡ Scanned.Bad → lineHere cs ≡ none
+  pub here-bad : lineAt at cs ≡ Scanned.Bad → lineHere cs ≡ none
   unfolding lineAt
   here-bad e = located-bad (lineEnds cs) (lineOf (lineIn cs)) (at + length (lineIn cs) + 1) e
+
+-- ---- one more node or entry, or one too many
+
+pub sized-fits : (b : Bool) (s t : Script) → pickSized b (Sized.Fits s) ≡ Sized.Fits t → (b ≡ true) × (t ≡ s)
+sized-fits true s t e = (refl, cc)
+sized-fits false s t e = let z : _≡_ {A = ℕ} 0 1 = cc in absurd (omega arith)
+
+pub sized-large : (b : Bool) (s : Script) → pickSized b (Sized.Fits s) ≡ Sized.TooLarge → b ≡ false
+sized-large true s e = let z : _≡_ {A = ℕ} 0 1 = cc in absurd (omega arith)
+sized-large false s e = refl
 
 -- ---- frames
 

@@ -8,6 +8,6 @@ pub kind-takes-spec : {M : Type 1} → statement M
 kind-takes-spec =
     tie.close
     (tie.spec
-    (λ c. simp (c .match .keys1, takes-int))
-    (λ c. simp (c .match .keys2, takes-var))
+    (λ c. rw (c .match .keys1) (sym takes-int))
+    (λ c. rw (c .match .keys2) (sym takes-var))
     (λ c. sym (takes-nodes (c .before .args .kind) (c .match .rest .0 .1) (c .match .rest .1))))

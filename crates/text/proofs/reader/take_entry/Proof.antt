@@ -1,56 +1,51 @@
+-- `text::reader::take_entry` meets its contract. Assumes nothing.
 use borrow.Author.Needs.{needs}
+use mathlib.Core.Path.{_≡_, refl, sym, ap, _∙_}
+use borrow.Author.Tests.{eq-eqb, ne-eqb, ltb-true}
+use Prim.Native.Nat.{_+_}
+use native.Mathlib.Omega.{arith}
+use lib.Dec.{ltb}
+use Rattle.script.specs.Limits.{entryLimit, sizeOf}
+use Rattle.text.specs.Steps.Taken.{sized-fits, sized-large}
 use Rattle.text.proofs.reader.take_entry.Statement.{statement}
 use Rattle.text.proofs.reader.take_entry.Tie as tie
 use Rattle.text.proofs.reader.take_entry.Reads as reads
 use Rattle.text.proofs.reader.take_entry.Lts as lts
-use Rattle.script.proofs.Script.with_entry.Reads as with-entry-reads
 
--- src/reader.rt:42:9
 returns : tie.Need-returns
-returns c = ?
+returns c = let e = ne-eqb (c .before .before .before .args .script .nodes) 0 (c .if1 .taken) in (rw e refl, rw e refl)
 
--- src/reader.rt:44:11
-with-entry-requires : tie.Need-with-entry-requires
-with-entry-requires c κs = search needs
-
--- src/reader.rt:45:21
-enum-known-more : tie.Need-enum-known-more
-enum-known-more c = search needs
-
--- src/reader.rt:47:13
-mul-entries : tie.Need-mul-entries
-mul-entries c = ?
-
--- src/reader.rt:47:13
 slice-write-entries : tie.Need-slice-write-entries
-slice-write-entries c = ?
+slice-write-entries c =
+    let s = c .before .before .before .before .before .before .before .args .script in
+    let f = sized-fits (ltb (s .entries) entryLimit) (sizeOf (s .nodes) (s .entries + 1)) (c .before .more .given .0 .0) (sym (c .before .before .before .with-entry .ensures) ∙ c .before .more .given .1) in
+    let m = ltb-true (s .entries) entryLimit (f .0) in
+    omega (arith, c .before .before .before .before .before .before .before .pre)
 
--- src/reader.rt:48:13
-same-length : tie.Need-same-length
-same-length c = search needs
-
--- src/reader.rt:48:13
 returns-2 : tie.Need-returns-2
-returns-2 c = ?
+returns-2 c =
+    let s = c .before .before .before .before .before .before .before .args .script in
+    let f = sized-fits (ltb (s .entries) entryLimit) (sizeOf (s .nodes) (s .entries + 1)) (c .before .more .given .0 .0) (sym (c .before .before .before .with-entry .ensures) ∙ c .before .more .given .1) in
+    let e = eq-eqb (s .nodes) 0 (c .before .before .before .before .if1 .left) in
+    (rw (e, f .0, f .1) refl, rw (e, f .0) refl)
 
--- src/reader.rt:51:34
-enum-told : tie.Need-enum-told
-enum-told c = search needs
-
--- src/reader.rt:51:13
 returns-3 : tie.Need-returns-3
-returns-3 c = ?
+returns-3 c =
+    let s = c .before .before .before .before .before .before .args .script in
+    let f = sized-large (ltb (s .entries) entryLimit) (sizeOf (s .nodes) (s .entries + 1)) (sym (c .before .before .with-entry .ensures) ∙ c .enum-told .given .1) in
+    let e = eq-eqb (s .nodes) 0 (c .before .before .before .if1 .left) in
+    (rw (e, f) refl, rw (e, f) refl)
 
 pub take-entry-spec : {M : Type 1} → statement M
 take-entry-spec =
     tie.close
     (tie.spec
     returns
-    with-entry-requires
-    enum-known-more
-    mul-entries
+    (λ c κs. search needs)
+    (λ c. search needs)
+    (λ c. search needs)
     slice-write-entries
-    same-length
+    (λ c. search needs)
     returns-2
-    enum-told
+    (λ c. search needs)
     returns-3)

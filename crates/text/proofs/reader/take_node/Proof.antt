@@ -1,58 +1,59 @@
+-- `text::reader::take_node` meets its contract. Assumes nothing.
 use borrow.Author.Needs.{needs}
+use mathlib.Core.Path.{_≡_, refl, sym, ap, _∙_}
+use borrow.Author.Tests.{not-true, not-false, ltb-true}
+use Prim.Native.Nat.{_+_}
+use native.Mathlib.Omega.{arith}
+use lib.Dec.{ltb}
+use lib.ListN.{length}
+use lib.Seq.{length-sets}
+use Rattle.script.specs.Limits.{nodeLimit, sizeOf}
+use Rattle.text.specs.Steps.Taken.{sized-fits, sized-large}
 use Rattle.text.proofs.reader.take_node.Statement.{statement}
 use Rattle.text.proofs.reader.take_node.Tie as tie
 use Rattle.text.proofs.reader.take_node.Reads as reads
 use Rattle.text.proofs.reader.take_node.Lts as lts
-use Rattle.script.proofs.Script.with_node.Reads as with-node-reads
-use Rattle.script.proofs.table.put_node.Reads as put-node-reads
-use Rattle.script.proofs.tests.well_formed.Reads as well-formed-reads
 
--- src/reader.rt:61:11
-with-node-requires : tie.Need-with-node-requires
-with-node-requires c κs = search needs
-
--- src/reader.rt:62:21
-enum-known-more : tie.Need-enum-known-more
-enum-known-more c = search needs
-
--- src/reader.rt:64:17
-well-formed-requires : tie.Need-well-formed-requires
-well-formed-requires c κs = search needs
-
--- src/reader.rt:65:17
 returns : tie.Need-returns
-returns c = ?
+returns c =
+    let s = c .before .before .before .before .before .before .before .args .script in
+    let f = sized-fits (ltb (s .nodes) nodeLimit) (sizeOf (s .nodes + 1) (s .entries)) (c .before .before .before .more .given .0 .0) (sym (c .before .before .before .before .before .with-node .ensures) ∙ c .before .before .before .more .given .1) in
+    let w = sym (c .before .well-formed .ensures) ∙ not-true (c .before .well-formed .result) (c .if1 .taken) in
+    (rw (f .0, w) refl, rw (f .0, w) refl)
 
--- src/reader.rt:67:13
 put-node-requires : tie.Need-put-node-requires
-put-node-requires c κs = ?
+put-node-requires c κs =
+    let s = c .before .before .before .before .before .before .before .before .args .script in
+    let f = sized-fits (ltb (s .nodes) nodeLimit) (sizeOf (s .nodes + 1) (s .entries)) (c .before .before .before .before .more .given .0 .0) (sym (c .before .before .before .before .before .before .with-node .ensures) ∙ c .before .before .before .before .more .given .1) in
+    let m = ltb-true (s .nodes) nodeLimit (f .0) in
+    omega (arith, c .before .before .before .before .before .before .before .before .pre)
 
--- src/reader.rt:68:13
 same-length : tie.Need-same-length
-same-length c = search needs
+same-length c = ap length (c .before .before .put-node .ensures) ∙ length-sets _ _ _
 
--- src/reader.rt:68:13
 returns-2 : tie.Need-returns-2
-returns-2 c = ?
+returns-2 c =
+    let s = c .before .before .before .before .before .before .before .before .before .before .before .args .script in
+    let f = sized-fits (ltb (s .nodes) nodeLimit) (sizeOf (s .nodes + 1) (s .entries)) (c .before .before .before .before .before .before .before .more .given .0 .0) (sym (c .before .before .before .before .before .before .before .before .before .with-node .ensures) ∙ c .before .before .before .before .before .before .before .more .given .1) in
+    let w = sym (c .before .before .before .before .before .well-formed .ensures) ∙ not-false (c .before .before .before .before .before .well-formed .result) (c .before .before .before .before .if1 .left) in
+    (rw (f .0, w, f .1) refl, rw (f .0, w) (c .before .before .put-node .ensures))
 
--- src/reader.rt:71:34
-enum-told : tie.Need-enum-told
-enum-told c = search needs
-
--- src/reader.rt:71:13
 returns-3 : tie.Need-returns-3
-returns-3 c = ?
+returns-3 c =
+    let s = c .before .before .before .before .args .script in
+    let f = sized-large (ltb (s .nodes) nodeLimit) (sizeOf (s .nodes + 1) (s .entries)) (sym (c .before .before .with-node .ensures) ∙ c .enum-told .given .1) in
+    (rw f refl, rw f refl)
 
 pub take-node-spec : {M : Type 1} → statement M
 take-node-spec =
     tie.close
     (tie.spec
-    with-node-requires
-    enum-known-more
-    well-formed-requires
+    (λ c κs. search needs)
+    (λ c. search needs)
+    (λ c κs. search needs)
     returns
     put-node-requires
     same-length
     returns-2
-    enum-told
+    (λ c. search needs)
     returns-3)
