@@ -25,6 +25,7 @@ use Rattle.text.specs.Scan.{lineIn, lineEnds}
 use Rattle.text.specs.declared.reader.Step.{Step}
 pub mod Laws
 pub mod Taken
+pub mod Walk
 
 -- the nodes and entries that a script's counts tell among the lent numbers
 abbrev pub nodesBy : Script → List ℕ → List Node

@@ -20,7 +20,7 @@ use crate::lines::Scanned;
 use script::table::put_node;
 use script::table::Tested;
 use script::tests::test_tree;
-use script::tests::well_formed;
+use script::table::well_formed;
 use script::Node;
 use script::Reading;
 use script::Refusal;

@@ -42,6 +42,10 @@ pub passed-none : (o : Option Refusal) → testedBy o ≡ Passed → o ≡ none
 passed-none none e = refl
 passed-none (some r) e = let z : _≡_ {A = ℕ} 0 1 = cc in absurd (omega arith)
 
+pub refused-some : (o : Option Refusal) (r : Refusal) → testedBy o ≡ Refused r → o ≡ some r
+refused-some none r e = let z : _≡_ {A = ℕ} 0 1 = cc in absurd (omega arith)
+refused-some (some x) r e = cc
+
 module _ (o : Option ℕ) (r : ℕ → Refusal) (later : Option Refusal) (t : Tested) (e : t ≡ testedBy (needNone o r none)) where
   first-refused : (x : Refusal) → t ≡ Refused x → Refused x ≡ testedBy (needNone o r later)
   first-refused x f = go o (sym f ∙ e)

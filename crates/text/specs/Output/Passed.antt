@@ -17,6 +17,7 @@ use Rattle.script.specs.Rows.Laws.{row-kind}
 use Rattle.script.specs.Table.{Table, nodesOf, entriesOf, nodeAt, unused, tableTest}
 use Rattle.script.specs.Table.Laws.{passes, formed-at}
 use Rattle.script.specs.TableTests.{testedBy}
+use Rattle.script.specs.TableTests.Laws.{refused-some}
 use Rattle.script.specs.declared.Refusal.{Refusal}
 use Rattle.script.specs.declared.Refusal.the-variants.{OutputTooShort}
 use Rattle.script.specs.declared.Writing.{Writing}
@@ -50,10 +51,6 @@ unfolding textOf
 put-parts t p q = put-then p q
 
 -- ---- the outcome of a call
-
-refused-some : (o : Option Refusal) (r : Refusal) → testedBy o ≡ Tested.Refused r → o ≡ some r
-refused-some none r e = let z : _≡_ {A = ℕ} 0 1 = cc in absurd (omega arith)
-refused-some (some q) r e = cc
 
 module _ (t : Table) {out : List ℕ} where
   pub wrote : {n : ℕ} {out′ : List ℕ} → tableTest t ≡ none → leb (length (textIn t)) (length out) ≡ true → Put (textIn t) 0 out n out′ → outcome (Writing.Wrote n) out′ ≡ writing t out

@@ -107,14 +107,14 @@ module _ (text : List ℕ) (at i : ℕ) (s : Script) (xs es : List ℕ) (k : Kep
   pub took-bad : lineHere (drop at text) ≡ none → Took text at i s xs es (Step.Refused (BadLine i)) xs es
   took-bad e = record { step-is = rw e refl; goes = refused; framed = same-frame xs es }
 
-  nodes-length : length (nodesBy s xs) ≡ s .nodes
+  pub nodes-length : length (nodesBy s xs) ≡ s .nodes
   nodes-length =
       let l = length-nodesIn xs in
       let a = k .lent-nodes in
       let b = k .nodes-most in
       length-take-le (s .nodes) (nodesIn xs) (omega arith)
 
-  entries-length : length (entriesBy s es) ≡ s .entries
+  pub entries-length : length (entriesBy s es) ≡ s .entries
   entries-length =
       let a = k .lent-entries in
       let b = k .entries-most in

@@ -1,66 +1,65 @@
+-- `text::reader::take_line` meets its contract. Assumes nothing.
 use borrow.Author.Needs.{needs}
+use mathlib.Core.Path.{_≡_, refl, sym, ap, _∙_}
+use native.Mathlib.Omega.{arith}
+use lib.ListN.{length, drop}
+use Rattle.text.specs.Steps.{Took}
+use Rattle.text.specs.Steps.Taken.{here-entry, here-node, here-bad, took-entry, took-node, took-bad}
 use Rattle.text.proofs.reader.take_line.Statement.{statement}
 use Rattle.text.proofs.reader.take_line.Tie as tie
 use Rattle.text.proofs.reader.take_line.Reads as reads
 use Rattle.text.proofs.reader.take_line.Lts as lts
-use Rattle.text.proofs.lines.line_at.Reads as line-at-reads
-use Rattle.text.proofs.reader.take_entry.Reads as take-entry-reads
-use Rattle.text.proofs.reader.take_node.Reads as take-node-reads
 
--- src/reader.rt:89:11
-line-at-requires : tie.Need-line-at-requires
-line-at-requires c κs = search needs
+returns : tie.Need-returns
+returns c =
+    let a = c .before .before .before .before .before .before .before .before .before .before .before .args in
+    let h = here-entry (a .at) (drop (a .at) (a .text .now)) (c .before .before .before .before .before .t .given .0 .0) (c .before .before .before .before .before .t .given .0 .1 .0) (sym (c .before .before .before .before .before .before .before .line-at .ensures) ∙ c .before .before .before .before .before .t .given .1) in
+    let t = took-entry (a .text .now) (a .at) (a .i) (a .script) (a .table .now) (a .entries .now) (c .before .before .before .before .before .before .before .before .before .before .before .pre .1) (c .before .before .before .before .before .t .given .0 .0) (c .before .before .before .before .before .t .given .0 .1 .0) h in
+    rw (c .before .before .take-entry .ensures .0, c .before .before .take-entry .ensures .1) t
 
--- src/reader.rt:90:24
-enum-known-t : tie.Need-enum-known-t
-enum-known-t c = search needs
+returns-2 : tie.Need-returns-2
+returns-2 c =
+    let a = c .before .before .before .before .before .before .before .before .before .before .before .args in
+    let h = here-node (a .at) (drop (a .at) (a .text .now)) (c .before .before .before .before .before .n .given .0 .0) (c .before .before .before .before .before .n .given .0 .1 .0) (sym (c .before .before .before .before .before .before .before .line-at .ensures) ∙ c .before .before .before .before .before .n .given .1) in
+    let t = took-node (a .text .now) (a .at) (a .i) (a .script) (a .table .now) (a .entries .now) (c .before .before .before .before .before .before .before .before .before .before .before .pre .1) (c .before .before .before .before .before .n .given .0 .0) (c .before .before .before .before .before .n .given .0 .1 .0) h in
+    rw (c .before .before .take-node .ensures .0, c .before .before .take-node .ensures .1) t
 
--- src/reader.rt:90:36
+returns-3 : tie.Need-returns-3
+returns-3 c =
+    let a = c .before .before .before .before .before .before .args in
+    let h = here-bad (a .at) (drop (a .at) (a .text .now)) (sym (c .before .before .line-at .ensures) ∙ c .enum-told .given .1) in
+    took-bad (a .text .now) (a .at) (a .i) (a .script) (a .table .now) (a .entries .now) (c .before .before .before .before .before .before .pre .1) h
+
+same-length : tie.Need-same-length
+same-length c =
+    let a = c .before .before .before .before .before .before .before .before .before .before .before .args in
+    let h = here-entry (a .at) (drop (a .at) (a .text .now)) (c .before .before .before .before .before .t .given .0 .0) (c .before .before .before .before .before .t .given .0 .1 .0) (sym (c .before .before .before .before .before .before .before .line-at .ensures) ∙ c .before .before .before .before .before .t .given .1) in
+    let t = took-entry (a .text .now) (a .at) (a .i) (a .script) (a .table .now) (a .entries .now) (c .before .before .before .before .before .before .before .before .before .before .before .pre .1) (c .before .before .before .before .before .t .given .0 .0) (c .before .before .before .before .before .t .given .0 .1 .0) h in
+    ap length (c .before .before .take-entry .ensures .1) ∙ t .framed .entries-length
+
+same-length-2 : tie.Need-same-length-2
+same-length-2 c =
+    let a = c .before .before .before .before .before .before .before .before .before .before .before .args in
+    let h = here-node (a .at) (drop (a .at) (a .text .now)) (c .before .before .before .before .before .n .given .0 .0) (c .before .before .before .before .before .n .given .0 .1 .0) (sym (c .before .before .before .before .before .before .before .line-at .ensures) ∙ c .before .before .before .before .before .n .given .1) in
+    let t = took-node (a .text .now) (a .at) (a .i) (a .script) (a .table .now) (a .entries .now) (c .before .before .before .before .before .before .before .before .before .before .before .pre .1) (c .before .before .before .before .before .n .given .0 .0) (c .before .before .before .before .before .n .given .0 .1 .0) h in
+    ap length (c .before .before .take-node .ensures .1) ∙ t .framed .table-length
+
 take-entry-requires : tie.Need-take-entry-requires
 take-entry-requires c κs = search needs
 
--- src/reader.rt:91:23
-enum-known-n : tie.Need-enum-known-n
-enum-known-n c = search needs
-
--- src/reader.rt:91:35
 take-node-requires : tie.Need-take-node-requires
 take-node-requires c κs = search needs
-
--- src/reader.rt:92:39
-enum-told : tie.Need-enum-told
-enum-told c = search needs
-
--- src/reader.rt:77:1
-same-length : tie.Need-same-length
-same-length c = search needs
-
--- src/reader.rt:77:1
-returns : tie.Need-returns
-returns c = ?
-
--- src/reader.rt:77:1
-same-length-2 : tie.Need-same-length-2
-same-length-2 c = search needs
-
--- src/reader.rt:77:1
-returns-2 : tie.Need-returns-2
-returns-2 c = ?
-
--- src/reader.rt:77:1
-returns-3 : tie.Need-returns-3
-returns-3 c = ?
 
 pub take-line-spec : {M : Type 1} → statement M
 take-line-spec =
     tie.close
     (tie.spec
-    line-at-requires
-    enum-known-t
+    (λ c κs. search needs)
+    (λ c. search needs)
     take-entry-requires
-    enum-known-n
+    (λ c. search needs)
     take-node-requires
-    enum-told
+    (λ c. search needs)
     same-length
     returns
     same-length-2

@@ -29,7 +29,7 @@ put-node-requires c κs =
     omega (arith, c .before .before .before .before .before .before .before .before .pre)
 
 same-length : tie.Need-same-length
-same-length c = ap length (c .before .before .put-node .ensures) ∙ length-sets _ _ _
+same-length c = ap length (c .before .before .put-node .ensures) ∙ simp length-sets
 
 returns-2 : tie.Need-returns-2
 returns-2 c =
