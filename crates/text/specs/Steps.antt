@@ -23,9 +23,11 @@ use Rattle.text.specs.Grammar.{Line, Meaning, goOn, stop, admit, lineOf}
 use Rattle.text.specs.Reading.{answerOf, nodesRead, entriesRead}
 use Rattle.text.specs.Scan.{lineIn, lineEnds}
 use Rattle.text.specs.declared.reader.Step.{Step}
+pub mod Clearing
 pub mod Laws
 pub mod Taken
 pub mod Walk
+pub mod Whole
 
 -- the nodes and entries that a script's counts tell among the lent numbers
 abbrev pub nodesBy : Script → List ℕ → List Node

@@ -5,21 +5,20 @@ ghost use Prim.Native.Nat.{_≤_, _<_};
 ghost use lib.ListN.{length, drop};
 ghost use Rattle.script.specs.Rows.{rowOf};
 ghost use Rattle.text.specs.Scan.{fieldEnds, largestBy, operandAt, entryAfter, nodeAfter, lineAt};
-
+use crate::fields::LF;
+use crate::fields::Said;
+use crate::fields::TAB;
 use crate::fields::byte_is;
 use crate::fields::field;
 use crate::fields::number;
 use crate::fields::type_code;
-use crate::fields::Said;
-use crate::fields::LF;
-use crate::fields::TAB;
 use crate::words::kind_of;
 use crate::words::same;
-use script::table::kind_takes;
-use script::table::operand_count;
-use script::table::Takes;
 use script::Node;
 use script::Script;
+use script::table::Takes;
+use script::table::kind_takes;
+use script::table::operand_count;
 
 // A line's entry or node, and the place after its LF; or not of the form.
 pub enum Scanned {

@@ -14,18 +14,17 @@ ghost use Rattle.text.specs.Bytes.{lf};
 ghost use Rattle.text.specs.Grammar.{linesFrom, parts};
 ghost use Rattle.text.specs.Reading.{leaves, readingIn, tried};
 ghost use Rattle.text.specs.Steps.{Kept, Took, Holds, Cleared, entryStep, entryStored, nodeStep, nodeStored, endedBy};
-
-use crate::lines::line_at;
 use crate::lines::Scanned;
-use script::table::put_node;
-use script::table::Tested;
-use script::tests::test_tree;
-use script::table::well_formed;
+use crate::lines::line_at;
 use script::Node;
 use script::Reading;
 use script::Refusal;
 use script::Script;
 use script::Sized;
+use script::table::Tested;
+use script::table::put_node;
+use script::table::well_formed;
+use script::tests::test_tree;
 
 // A script with one line more and where the next line starts; or why not.
 pub enum Step {

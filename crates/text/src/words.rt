@@ -4,7 +4,6 @@ ghost use Prim.Native.Nat.{_<_};
 ghost use Rattle.script.specs.Rows.{rowOf};
 ghost use Rattle.text.specs.Fields.{sameBytes, wordIs, kindOf};
 ghost use Rattle.text.specs.Scan.{saidBy};
-
 use crate::fields::Said;
 use script::table::KINDS;
 

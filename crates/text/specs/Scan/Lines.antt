@@ -138,7 +138,7 @@ rest-bad k m os n at (c ∷ ds) e = go (eqb c tab) refl (numberUpTo m (fieldIn d
     none-behind o = refl
 
     go : (b : Bool) → eqb c tab ≡ b → (o : Option ℕ) → numberUpTo m (fieldIn ds) ≡ o → pick b (operandBy o (at + 1 + length (fieldIn ds))) Operand.Bad ≡ Operand.Bad
-      → located (lineEnds (c ∷ ds)) (nodeWith k (behind os (exactly (suc n) m (pick b (parts tab (lineIn ds)) [])))) (at + length (lineIn (c ∷ ds)) + 1) ≡ Scanned.Bad
+        → located (lineEnds (c ∷ ds)) (nodeWith k (behind os (exactly (suc n) m (pick b (parts tab (lineIn ds)) [])))) (at + length (lineIn (c ∷ ds)) + 1) ≡ Scanned.Bad
     go true t none f e = rw (goes-on ds .fields-are, f) (located-none (lineEnds (c ∷ ds)) (at + length (lineIn (c ∷ ds)) + 1))
     go true t (some y) f e = let z : _≡_ {A = ℕ} 0 1 = cc in absurd (omega arith)
     go false t o f e = located-none (lineEnds (c ∷ ds)) (at + length (lineIn (c ∷ ds)) + 1)

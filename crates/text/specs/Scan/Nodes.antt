@@ -122,7 +122,7 @@ count-most k = go (rowOf k) refl
 
 -- the node of the three operands, of which the unwanted ones are 0
 pub node-made : (k count a b c at : ℕ) → count ≤ 3 → (ltb 0 count ≡ false → a ≡ 0) → (ltb 1 count ≡ false → b ≡ 0) → (ltb 2 count ≡ false → c ≡ 0)
-  → located true (nodeWith k (some ([] ++ added 0 count a ++ added 1 count b ++ added 2 count c ++ []))) (at + 0 + 1) ≡ Scanned.Node (nodeOf k a b c) (at + 1)
+    → located true (nodeWith k (some ([] ++ added 0 count a ++ added 1 count b ++ added 2 count c ++ []))) (at + 0 + 1) ≡ Scanned.Node (nodeOf k a b c) (at + 1)
 node-made k zero a b c at h x y z = rw (x refl, y refl, z refl, add-zero at) refl
 node-made k (suc zero) a b c at h x y z = rw (y refl, z refl, add-zero at) refl
 node-made k (suc (suc zero)) a b c at h x y z = rw (z refl, add-zero at) refl

@@ -38,7 +38,7 @@ parts-line [] e = absurd (true-or-false false e refl)
 parts-line (c ∷ cs) e = go (eqb c lf) e (parts-line cs)
   where
     go : (b : Bool) → pick b true (lineEnds cs) ≡ true → (lineEnds cs ≡ true → parts lf cs ≡ lineIn cs ∷ parts lf (drop (suc (length (lineIn cs))) cs))
-      → pick b ([] ∷ parts lf cs) (onFirst c (parts lf cs)) ≡ pick b [] (c ∷ lineIn cs) ∷ parts lf (drop (length (pick b [] (c ∷ lineIn cs))) cs)
+        → pick b ([] ∷ parts lf cs) (onFirst c (parts lf cs)) ≡ pick b [] (c ∷ lineIn cs) ∷ parts lf (drop (length (pick b [] (c ∷ lineIn cs))) cs)
     go true e ih = refl
     go false e ih = ap (onFirst c) (ih e)
 
@@ -78,7 +78,7 @@ module _ (i : ℕ) (es : List ℕ) (ns : List Node) where
       go false e = open-line c cs e ∙ rw e refl
 
   pub text-step : (text : List ℕ) (at : ℕ) → at < length text
-    → linesFrom i es ns (parts lf (drop at text)) ≡ after (admit i es ns (lineHere (drop at text))) (λ es′ ns′. linesFrom (suc i) es′ ns′ (parts lf (drop (at + length (lineIn (drop at text)) + 1) text)))
+      → linesFrom i es ns (parts lf (drop at text)) ≡ after (admit i es ns (lineHere (drop at text))) (λ es′ ns′. linesFrom (suc i) es′ ns′ (parts lf (drop (at + length (lineIn (drop at text)) + 1) text)))
   text-step text at h =
       let d = length-drop at text in
       let p : at + length (lineIn (drop at text)) + 1 ≡ at + suc (length (lineIn (drop at text))) = omega arith in

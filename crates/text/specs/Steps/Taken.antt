@@ -175,7 +175,7 @@ module _ (text : List ℕ) (at i : ℕ) (s : Script) (xs es : List ℕ) (k : Kep
   -- a node line
 
   node-admitted : (n : Node) (ns : List Node) → length ns ≡ s .nodes
-    → admit i (entriesBy s es) ns (some (nodeLine n)) ≡ pick (ltb (s .nodes) nodeLimit) (pick (rightNode (rowOf (n .kind)) (s .nodes) n) (goOn (entriesBy s es) (ns ++ (n ∷ []))) (stop (BadOperand i))) (stop (TooManyAt i))
+      → admit i (entriesBy s es) ns (some (nodeLine n)) ≡ pick (ltb (s .nodes) nodeLimit) (pick (rightNode (rowOf (n .kind)) (s .nodes) n) (goOn (entriesBy s es) (ns ++ (n ∷ []))) (stop (BadOperand i))) (stop (TooManyAt i))
   node-admitted n [] h = rw (← h) refl
   node-admitted n (m ∷ ns) h = rw (← h) refl
 

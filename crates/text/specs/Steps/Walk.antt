@@ -53,22 +53,23 @@ goes-at (goes-next k a b) = (refl, k, a, b)
 module _ {text xs₀ es₀ : List ℕ} {s : Script} {xs es : List ℕ} {at i : ℕ} (w : Walked text xs₀ es₀ s xs es at i) where
   -- the text goes on as the grammar admits the line
   walk-step : at < length text → {r : Step} {xs′ es′ : List ℕ} → Took text at i s xs es r xs′ es′
-    → after (stepOf r xs′ es′) (λ es′ ns′. linesFrom (suc i) es′ ns′ (parts lf (drop (at + length (lineIn (drop at text)) + 1) text))) ≡ linesFrom 0 [] [] (parts lf text)
+      → after (stepOf r xs′ es′) (λ es′ ns′. linesFrom (suc i) es′ ns′ (parts lf (drop (at + length (lineIn (drop at text)) + 1) text))) ≡ linesFrom 0 [] [] (parts lf text)
   walk-step h t = rw (t .step-is) (sym (text-step i (entriesBy s es) (nodesBy s xs) text at h) ∙ w .same)
 
   pub walk-on : at < length text → {s′ : Script} {next : ℕ} {xs′ es′ : List ℕ} → Took text at i s xs es (Step.Next s′ next) xs′ es′ → Walked text xs₀ es₀ s′ xs′ es′ next (suc i) × (at < next)
   walk-on h {s′} {next} {xs′} {es′} t =
       let g = goes-at (t .goes) in
       let n = g .0 in
-      let l = w .lines-most in
-      (record {
-        within = omega (arith, g .3);
-        lines-most = omega (arith, g .2);
-        kept = g .1;
-        framed = frames (w .framed) (t .framed);
-        same = rw n (walk-step h t);
-      },
-      omega (arith, g .2))
+      let l = w .lines-most in (
+        record {
+          within = omega (arith, g .3);
+          lines-most = omega (arith, g .2);
+          kept = g .1;
+          framed = frames (w .framed) (t .framed);
+          same = rw n (walk-step h t);
+        },
+        omega (arith, g .2),
+      )
 
   pub walk-refused : at < length text → {r : Refusal} {xs′ es′ : List ℕ} → Took text at i s xs es (Step.Refused r) xs′ es′ → Holds (linesFrom 0 [] [] (parts lf text)) xs₀ es₀ (Reading.Refused r) xs′ es′
   walk-refused h t =
@@ -94,7 +95,7 @@ ends-as (some r) s xs es xs₀ es₀ k f =
     record { answer-is = refl; nodes-are = refl; entries-are = refl; nodes-room = omega arith; entries-room = omega arith; framed = f }
 
 pub walk-end : {text xs₀ es₀ : List ℕ} {s : Script} {xs es : List ℕ} {at i : ℕ} → Walked text xs₀ es₀ s xs es at i → length text ≤ at
-  → Holds (linesFrom 0 [] [] (parts lf text)) xs₀ es₀ (endedBy (need (ltb 0 (s .nodes)) NoNode (treeTest (nodesBy s xs))) s) xs es
+    → Holds (linesFrom 0 [] [] (parts lf text)) xs₀ es₀ (endedBy (need (ltb 0 (s .nodes)) NoNode (treeTest (nodesBy s xs))) s) xs es
 unfolding atEnd
 walk-end {s = s} {xs = xs} {es = es} w h =
     let n = nodes-length [] 0 0 s xs es (w .kept) in

@@ -42,9 +42,10 @@ node-line-requires : tie.Need-node-line-requires
 node-line-requires c κs =
     let a = c .before .before .before .before .before .before .before .before .before .args in
     let f = c .before .before .before .before .before .before .before .field .ensures in
-    let k = said-number (kindOf (c .before .before .before .before .before .before .before .field .result .now)) (c .before .kind .given .0 .0) (sym (c .before .before .before .kind-of .ensures) ∙ c .before .kind .given .1) in
-    (rw f (word-most (a .text .now) (a .at) (omega arith)),
-      (rw f (word-ends (a .text .now) (a .at)), kind-below (c .before .before .before .before .before .before .before .field .result .now) (c .before .kind .given .0 .0) k))
+    let k = said-number (kindOf (c .before .before .before .before .before .before .before .field .result .now)) (c .before .kind .given .0 .0) (sym (c .before .before .before .kind-of .ensures) ∙ c .before .kind .given .1) in (
+      rw f (word-most (a .text .now) (a .at) (omega arith)),
+      (rw f (word-ends (a .text .now) (a .at)), kind-below (c .before .before .before .before .before .before .before .field .result .now) (c .before .kind .given .0 .0) k),
+    )
 
 returns-2 : tie.Need-returns-2
 returns-2 c =

@@ -1,45 +1,38 @@
+-- `text::reader::clear_entries` meets its contract. Assumes nothing.
+use borrow.Author.Needs.{needs}
+use mathlib.Core.Path.{_≡_, refl, sym, ap, _∙_}
+use Prim.Native.Nat.{_-_, _≤_}
+use native.Mathlib.Omega.{arith}
+use native.Mathlib.Numerals.{add-one}
+use lib.ListN.{length, length-set}
+use Rattle.text.specs.Steps.Clearing.{filledTo, fill-start, fill-next, fill-end}
 use Rattle.text.proofs.reader.clear_entries.Statement.{statement}
 use Rattle.text.proofs.reader.clear_entries.Tie as tie
 use Rattle.text.proofs.reader.clear_entries.Reads as reads
 use Rattle.text.proofs.reader.clear_entries.Lts as lts
 
 abbrev Inv-loop : tie.InvT-loop
-Inv-loop entries₀ from i₀ entries i = ?
+Inv-loop entries₀ from i₀ entries i = (from ≤ i) × (i ≤ length entries₀) × (length entries ≡ length entries₀) × (entries ≡ filledTo 0 entries₀ from i)
 
 abbrev μ-loop : tie.MeasureT-loop
-μ-loop entries₀ from i₀ entries i = ?
+μ-loop entries₀ from i₀ entries i = length entries₀ - i
 
--- src/reader.rt:180:5
 loop-holds : tie.Need-loop-holds Inv-loop μ-loop
-loop-holds c = ?
+loop-holds c = let a = c .args in (omega arith, c .pre, refl, sym (fill-start 0 (a .entries .now) (a .from)))
 
--- src/reader.rt:181:9
-mul-entries : tie.Need-mul-entries Inv-loop μ-loop
-mul-entries c = ?
-
--- src/reader.rt:181:9
-slice-write-entries : tie.Need-slice-write-entries Inv-loop μ-loop
-slice-write-entries c = ?
-
--- src/reader.rt:182:9
-add-i : tie.Need-add-i Inv-loop μ-loop
-add-i c = ?
-
--- src/reader.rt:180:5
-loop-less : tie.Need-loop-less Inv-loop μ-loop
-loop-less c = ?
-
--- src/reader.rt:180:5
 loop-again : tie.Need-loop-again Inv-loop μ-loop
-loop-again c = ?
+loop-again c =
+    let a = c .before .before .args in
+    let l = c .before .loop in
+    let n = length-set (l .entries) (l .i) 0 in
+    (omega arith, omega arith, omega arith, rw (l .inv .3, add-one (l .i)) (fill-next 0 (a .entries .now) (a .from) (l .i) (l .inv .0) (omega arith)))
 
--- src/reader.rt:175:1
-same-length : tie.Need-same-length Inv-loop μ-loop
-same-length c = ?
-
--- src/reader.rt:175:1
 returns : tie.Need-returns Inv-loop μ-loop
-returns c = ?
+returns c =
+    let a = c .before .before .args in
+    let l = c .before .loop in
+    let e : l .i ≡ length (a .entries .now) = omega arith in
+    rw e at (l .inv .3) ∙ fill-end 0 (a .entries .now) (a .from)
 
 pub clear-entries-spec : {M : Type 1} → statement M
 clear-entries-spec =
@@ -48,10 +41,10 @@ clear-entries-spec =
     Inv-loop
     μ-loop
     loop-holds
-    mul-entries
-    slice-write-entries
-    add-i
-    loop-less
+    (λ c. search needs)
+    (λ c. search needs)
+    (λ c. search needs)
+    (λ c. search needs)
     loop-again
-    same-length
+    (λ c. c .before .loop .inv .2)
     returns)

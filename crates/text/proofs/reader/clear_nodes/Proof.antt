@@ -1,42 +1,40 @@
+-- `text::reader::clear_nodes` meets its contract. Assumes nothing.
+use borrow.Author.Needs.{needs}
+use mathlib.Core.Path.{_≡_, refl, sym, ap, _∙_}
+use Prim.Native.Nat.{_-_, _/_}
+use native.Mathlib.Omega.{arith}
+use native.Mathlib.Numerals.{add-one}
+use lib.ListN.{length}
+use Rattle.script.specs.Flat.Laws.{length-nodesIn}
+use Rattle.text.specs.Steps.Clearing.{Clearing, clear-start, clear-room, clear-next, clear-end}
 use Rattle.text.proofs.reader.clear_nodes.Statement.{statement}
 use Rattle.text.proofs.reader.clear_nodes.Tie as tie
 use Rattle.text.proofs.reader.clear_nodes.Reads as reads
 use Rattle.text.proofs.reader.clear_nodes.Lts as lts
-use Rattle.script.proofs.table.put_node.Reads as put-node-reads
 
 abbrev Inv-loop : tie.InvT-loop
-Inv-loop table₀ from n i₀ table i = ?
+Inv-loop table₀ from n i₀ table i = Clearing from table₀ table i
 
 abbrev μ-loop : tie.MeasureT-loop
-μ-loop table₀ from n i₀ table i = ?
+μ-loop table₀ from n i₀ table i = length table₀ / 4 - i
 
--- src/reader.rt:159:5
 loop-holds : tie.Need-loop-holds Inv-loop μ-loop
-loop-holds c = ?
+loop-holds c = let a = c .before .args in clear-start (a .from) (a .table .now) (c .before .pre)
 
--- src/reader.rt:160:9
 put-node-requires : tie.Need-put-node-requires Inv-loop μ-loop
-put-node-requires c κs = ?
+put-node-requires c κs =
+    let n = length-nodesIn (c .before .before .before .before .args .table .now) in
+    clear-room (c .before .before .loop .inv) (omega arith)
 
--- src/reader.rt:170:9
-add-i : tie.Need-add-i Inv-loop μ-loop
-add-i c = ?
-
--- src/reader.rt:159:5
-loop-less : tie.Need-loop-less Inv-loop μ-loop
-loop-less c = ?
-
--- src/reader.rt:159:5
 loop-again : tie.Need-loop-again Inv-loop μ-loop
-loop-again c = ?
+loop-again c =
+    let n = length-nodesIn (c .before .before .before .before .before .before .before .args .table .now) in
+    rw (add-one (c .before .before .before .before .before .loop .i), c .before .before .put-node .ensures) (clear-next (c .before .before .before .before .before .loop .inv) (omega arith))
 
--- src/reader.rt:153:1
-same-length : tie.Need-same-length Inv-loop μ-loop
-same-length c = ?
-
--- src/reader.rt:153:1
 returns : tie.Need-returns Inv-loop μ-loop
-returns c = ?
+returns c =
+    let n = length-nodesIn (c .before .before .before .args .table .now) in
+    clear-end (c .before .loop .inv) (omega arith)
 
 pub clear-nodes-spec : {M : Type 1} → statement M
 clear-nodes-spec =
@@ -46,8 +44,8 @@ clear-nodes-spec =
     μ-loop
     loop-holds
     put-node-requires
-    add-i
-    loop-less
+    (λ c. search needs)
+    (λ c. search needs)
     loop-again
-    same-length
+    (λ c. c .before .loop .inv .table-length)
     returns)

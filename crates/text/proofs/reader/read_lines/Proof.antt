@@ -1,76 +1,69 @@
+-- `text::reader::read_lines` meets its contract. The loop's invariant is `Walked`; each line takes the place where the next one starts further. Assumes nothing.
+use borrow.Author.Needs.{needs}
+use mathlib.Core.Path.{_≡_, refl, sym, ap, _∙_}
+use Prim.Native.Nat.{_-_}
+use native.Mathlib.Omega.{arith}
+use native.Mathlib.Numerals.{add-one}
+use lib.ListN.{length, drop}
+use Rattle.text.specs.Steps.{Took}
+use Rattle.text.specs.Steps.Walk.{Walked, walk-start, walk-on, walk-refused, walk-end}
 use Rattle.text.proofs.reader.read_lines.Statement.{statement}
 use Rattle.text.proofs.reader.read_lines.Tie as tie
 use Rattle.text.proofs.reader.read_lines.Reads as reads
 use Rattle.text.proofs.reader.read_lines.Lts as lts
-use Rattle.script.proofs.Script.empty.Reads as empty-reads
-use Rattle.text.proofs.reader.at_end.Reads as at-end-reads
-use Rattle.text.proofs.reader.take_line.Reads as take-line-reads
 
 abbrev Inv-loop : tie.InvT-loop
-Inv-loop text table₀ entries₀ script₀ at₀ i₀ table entries script at i = ?
+Inv-loop text table₀ entries₀ script₀ at₀ i₀ table entries script at i = Walked text table₀ entries₀ script table entries at i
 
 abbrev μ-loop : tie.MeasureT-loop
-μ-loop text table₀ entries₀ script₀ at₀ i₀ table entries script at i = ?
+μ-loop text table₀ entries₀ script₀ at₀ i₀ table entries script at i = length text - at
 
--- src/reader.rt:118:9
-empty-requires : tie.Need-empty-requires Inv-loop μ-loop
-empty-requires c κs = ?
-
--- src/reader.rt:121:5
 loop-holds : tie.Need-loop-holds Inv-loop μ-loop
-loop-holds c = ?
+loop-holds c =
+    let a = c .before .before .before .before .args in
+    let p = c .before .before .before .before .pre in
+    rw (c .empty .ensures) (walk-start (a .text .now) (a .table .now) (a .entries .now) (p .1 .0) (p .1 .1))
 
--- src/reader.rt:122:15
 take-line-requires : tie.Need-take-line-requires Inv-loop μ-loop
-take-line-requires c κs = ?
+take-line-requires c κs = let w = c .before .before .before .loop .inv in (w .within, w .kept)
 
--- src/reader.rt:123:24
-enum-known-more : tie.Need-enum-known-more Inv-loop μ-loop
-enum-known-more c = ?
-
--- src/reader.rt:127:27
-enum-known-r : tie.Need-enum-known-r Inv-loop μ-loop
-enum-known-r c = ?
-
--- src/reader.rt:128:17
 same-length : tie.Need-same-length Inv-loop μ-loop
-same-length c = ?
+same-length c = let w = c .before .before .before .before .before .before .before .before .before .before .before .loop .inv in let t = c .before .before .before .before .before .before .before .take-line .ensures in t .framed .table-length ∙ w .framed .table-length
 
--- src/reader.rt:128:17
 same-length-2 : tie.Need-same-length-2 Inv-loop μ-loop
-same-length-2 c = ?
+same-length-2 c = let w = c .before .before .before .before .before .before .before .before .before .before .before .loop .inv in let t = c .before .before .before .before .before .before .before .take-line .ensures in t .framed .entries-length ∙ w .framed .entries-length
 
--- src/reader.rt:128:17
 returns : tie.Need-returns Inv-loop μ-loop
-returns c = ?
+returns c = walk-refused (c .before .before .before .before .before .before .before .before .before .before .before .loop .inv) (c .before .before .before .before .before .before .before .before .before .before .loop-test .taken) (rw (c .before .r .given .1) at (c .before .before .before .before .before .before .before .take-line .ensures))
 
--- src/reader.rt:131:9
 add-i : tie.Need-add-i Inv-loop μ-loop
-add-i c = ?
+add-i c = let w = c .before .before .before .before .before .before .before .before .before .before .before .loop .inv in let l = w .lines-most in let m = w .within in omega (arith, c .before .before .before .before .before .before .before .before .before .before .before .before .before .before .before .before .pre .0)
 
--- src/reader.rt:121:5
 loop-less : tie.Need-loop-less Inv-loop μ-loop
-loop-less c = ?
+loop-less c =
+    let t = walk-on (c .before .before .before .before .before .before .before .before .before .before .before .loop .inv) (c .before .before .before .before .before .before .before .before .before .before .loop-test .taken) (rw (c .before .more .given .1) at (c .before .before .before .before .before .before .before .take-line .ensures)) in
+    let l = t .0 .within in
+    omega (arith, t .1)
 
--- src/reader.rt:121:5
 loop-again : tie.Need-loop-again Inv-loop μ-loop
-loop-again c = ?
+loop-again c =
+    rw (add-one (c .before .before .before .before .before .before .before .before .before .before .before .loop .i)) (walk-on (c .before .before .before .before .before .before .before .before .before .before .before .loop .inv) (c .before .before .before .before .before .before .before .before .before .before .loop-test .taken) (rw (c .before .more .given .1) at (c .before .before .before .before .before .before .before .take-line .ensures)) .0)
 
--- src/reader.rt:133:5
 at-end-requires : tie.Need-at-end-requires Inv-loop μ-loop
-at-end-requires c κs = ?
+at-end-requires c κs =
+    let k = c .before .before .loop .inv .kept in
+    let a = k .lent-nodes in
+    let b = k .nodes-most in
+    record { most = k .nodes-most; room = omega arith; formed = k .formed }
 
--- src/reader.rt:112:1
 same-length-3 : tie.Need-same-length-3 Inv-loop μ-loop
-same-length-3 c = ?
+same-length-3 c = c .before .before .before .loop .inv .framed .table-length
 
--- src/reader.rt:112:1
 same-length-4 : tie.Need-same-length-4 Inv-loop μ-loop
-same-length-4 c = ?
+same-length-4 c = c .before .before .before .loop .inv .framed .entries-length
 
--- src/reader.rt:112:1
 returns-2 : tie.Need-returns-2 Inv-loop μ-loop
-returns-2 c = ?
+returns-2 c = rw (c .at-end .ensures) (walk-end (c .before .before .before .loop .inv) (c .before .before .loop-test .left))
 
 pub read-lines-spec : {M : Type 1} → statement M
 read-lines-spec =
@@ -78,11 +71,11 @@ read-lines-spec =
     (tie.spec
     Inv-loop
     μ-loop
-    empty-requires
+    (λ c κs. search needs)
     loop-holds
     take-line-requires
-    enum-known-more
-    enum-known-r
+    (λ c. search needs)
+    (λ c. search needs)
     same-length
     same-length-2
     returns

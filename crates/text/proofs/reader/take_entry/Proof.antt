@@ -15,6 +15,13 @@ use Rattle.text.proofs.reader.take_entry.Lts as lts
 returns : tie.Need-returns
 returns c = let e = ne-eqb (c .before .before .before .args .script .nodes) 0 (c .if1 .taken) in (rw e refl, rw e refl)
 
+mul-entries : tie.Need-mul-entries
+mul-entries c =
+    let s = c .before .before .before .before .before .before .before .args .script in
+    let f = sized-fits (ltb (s .entries) entryLimit) (sizeOf (s .nodes) (s .entries + 1)) (c .before .more .given .0 .0) (sym (c .before .before .before .with-entry .ensures) ∙ c .before .more .given .1) in
+    let m = ltb-true (s .entries) entryLimit (f .0) in
+    search needs
+
 slice-write-entries : tie.Need-slice-write-entries
 slice-write-entries c =
     let s = c .before .before .before .before .before .before .before .args .script in
@@ -43,7 +50,7 @@ take-entry-spec =
     returns
     (λ c κs. search needs)
     (λ c. search needs)
-    (λ c. search needs)
+    mul-entries
     slice-write-entries
     (λ c. search needs)
     returns-2

@@ -42,7 +42,7 @@ returns-2 c =
     let l = c .before .before .before .loop in
     let b = word-byte (a .kind) (l .i) (omega arith) (omega arith) in
     sym (word-is (a .kind) (a .f .now) (omega arith) ∙ sym (l .inv .2)
-      ∙ same-differ (wordOf (a .kind)) (a .f .now) (l .i) (omega arith) (omega arith) (λ e. c .if2 .taken (b ∙ e)))
+    ∙ same-differ (wordOf (a .kind)) (a .f .now) (l .i) (omega arith) (omega arith) (λ e. c .if2 .taken (b ∙ e)))
 
 loop-again : tie.Need-loop-again Inv-loop μ-loop
 unfolding wordBytes wordLengths
