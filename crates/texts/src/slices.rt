@@ -1,0 +1,87 @@
+// Filling and comparing slices.
+use script::Node;
+use script::table::node_at;
+
+// Puts `w` into every place.
+pub fn fill_words(s: &mut [u32], w: u32) {
+    let mut i = 0;
+    while i < s.len() {
+        s[i] = w;
+        i += 1;
+    }
+}
+
+// Puts `b` into every place.
+pub fn fill_bytes(s: &mut [u8], b: u8) {
+    let mut i = 0;
+    while i < s.len() {
+        s[i] = b;
+        i += 1;
+    }
+}
+
+// Whether the two hold the same bytes.
+pub fn same(a: &[u8], b: &[u8]) -> bool {
+    if a.len() != b.len() {
+        return false;
+    }
+    let mut i = 0;
+    while i < a.len() {
+        if a[i] != b[i] {
+            return false;
+        }
+        i += 1;
+    }
+    true
+}
+
+// Whether every byte is `b`.
+pub fn all_bytes(s: &[u8], b: u8) -> bool {
+    let mut i = 0;
+    while i < s.len() {
+        if s[i] != b {
+            return false;
+        }
+        i += 1;
+    }
+    true
+}
+
+// Whether every entry from `from` on is 0.
+pub fn entries_clear(entries: &[u32], from: usize) -> bool {
+    let mut i = from;
+    while i < entries.len() {
+        if entries[i] != 0 {
+            return false;
+        }
+        i += 1;
+    }
+    true
+}
+
+// Whether this is `false`, kind 2 with operands 0, which unused places hold.
+fn is_false(n: Node) -> bool {
+    if n.kind != 2 {
+        return false;
+    }
+    if n.a != 0 {
+        return false;
+    }
+    if n.b != 0 {
+        return false;
+    }
+    n.c == 0
+}
+
+// Whether every node of the table from `from` on is `false`.
+pub fn nodes_clear(table: &[u32], from: usize) -> bool {
+    let nodes = table.len() / 4;
+    let mut i = from;
+    while i < nodes {
+        if !is_false(node_at(table, i)) {
+            return false;
+        }
+        i += 1;
+    }
+    true
+}

@@ -1,0 +1,126 @@
+// One text's trial: it is read, written again if it could be read, and what came of it is printed.
+use crate::slices::all_bytes;
+use crate::slices::entries_clear;
+use crate::slices::fill_bytes;
+use crate::slices::fill_words;
+use crate::slices::nodes_clear;
+use crate::slices::same;
+use libc::STDOUT_FILENO;
+use script::Place;
+use script::Reading;
+use script::Refusal;
+use script::Writing;
+
+// What the table and the entries hold before a reading: no place of it is `false`, no entry 0.
+const STALE: u32 = 7;
+
+// What the writer's output holds before a writing.
+const BLANK: u8 = b'.';
+
+// Prints bytes.
+pub fn say(s: &[u8]) {
+    io::write_all(STDOUT_FILENO, s);
+}
+
+// Prints one of two words, after a tab.
+fn say_either(first: bool, a: &[u8], b: &[u8]) {
+    say(b"\t");
+    if first {
+        say(a);
+    } else {
+        say(b);
+    }
+}
+
+// Prints a number, after a tab.
+fn say_number(n: u64) {
+    say(b"\t");
+    io::print_decimal(STDOUT_FILENO, n);
+}
+
+// Prints a refusal: the word, its number, its place or `-`.
+fn say_refusal(r: Refusal) {
+    say(b"refused");
+    say_number(r.number() as u64);
+    match r.place() {
+        Place::At(i) => {
+            say_number(i as u64);
+        }
+        Place::Nowhere => {
+            say(b"\t-");
+        }
+    }
+}
+
+// Prints whether the places from these counts on hold what reading leaves in unused places.
+fn say_clean(table: &[u32], nodes: usize, entries: &[u32], used: usize) {
+    let clear = nodes_clear(table, nodes);
+    let zero = entries_clear(entries, used);
+    say_either(clear && zero, b"clean", b"dirty");
+}
+
+// Prints whether the output from `from` on is as it was.
+fn say_kept(out: &[u8], from: usize) {
+    if from <= out.len() {
+        say_either(all_bytes(&out[from..], BLANK), b"kept", b"touched");
+    } else {
+        say(b"\ttouched");
+    }
+}
+
+// Prints whether the output begins with a text of this length, and it is `text`.
+fn say_same(text: &[u8], out: &[u8], length: usize) {
+    if length <= out.len() {
+        say_either(same(text, &out[..length]), b"same", b"differs");
+    } else {
+        say(b"\tdiffers");
+    }
+}
+
+// Writes a table that was read from `text`, and prints what came of it.
+fn try_writer(
+    text: &[u8],
+    table: &[u32],
+    nodes: usize,
+    entries: &[u32],
+    used: usize,
+    out: &mut [u8],
+) {
+    fill_bytes(out, BLANK);
+    say(b"\t");
+    match text::writer::write(table, nodes, entries, used, out) {
+        Writing::Wrote(length) => {
+            say(b"wrote");
+            say_number(length as u64);
+            say_same(text, out, length);
+            say_kept(out, length);
+        }
+        Writing::Refused(r) => {
+            say_refusal(r);
+            say_kept(out, 0);
+        }
+    }
+}
+
+// Reads a text into a table that holds other numbers, prints what came of it, and goes on to the writer. The line is left open.
+pub fn try_text(text: &[u8], table: &mut [u32], entries: &mut [u32], out: &mut [u8]) {
+    fill_words(table, STALE);
+    fill_words(entries, STALE);
+    match text::reader::read(text, table, entries) {
+        Reading::Read(script) => {
+            let nodes = script.nodes;
+            let used = script.entries;
+            say(b"read");
+            say_number(nodes as u64);
+            say_number(used as u64);
+            say_clean(table, nodes, entries, used);
+            try_writer(text, table, nodes, entries, used, out);
+            return;
+        }
+        Reading::Refused(r) => {
+            say_refusal(r);
+            say_clean(table, 0, entries, 0);
+            return;
+        }
+    }
+}
