@@ -157,6 +157,12 @@ impl Script {
     pub const NESTING: usize = 4;
     // The largest number of a `var`: as many variables as entries and nodes together, less one.
     pub const VARIABLE: u32 = 143;
+    // The largest word.
+    pub const WORD: u32 = 4294967295;
+    // At most so many references in a type, and so the largest code of a type.
+    pub const REFERENCES: u32 = 15;
+
+    pub const TYPE: u32 = 31;
 
     // The script with no line yet.
     pub fn empty() -> Script

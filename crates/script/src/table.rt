@@ -7,7 +7,7 @@ ghost use lib.Seq.{sets};
 ghost use Rattle.script.specs.Flat.{nodesIn};
 ghost use Rattle.script.specs.Rows.{rowOf, operandCount, takesOf, nodeOperands};
 ghost use Rattle.script.specs.Table.{nodeAt, fields, rightNode, isSymNode};
-ghost use Rattle.script.specs.TableTests.{rightField};
+ghost use Rattle.script.specs.Code.TableTests.{rightField};
 use crate::Node;
 use crate::Refusal;
 use crate::Script;
@@ -48,7 +48,7 @@ pub fn kind_takes(kind: u32) -> Takes
     ensures { λ r. ⌜ r ≡ takesOf kind ⌝ }
 {
     match kind {
-        0 => Takes::Number(4294967295),
+        0 => Takes::Number(Script::WORD),
         3 => Takes::Number(Script::VARIABLE),
         _ => Takes::Nodes,
     }

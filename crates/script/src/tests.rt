@@ -6,7 +6,7 @@ ghost use lib.ListN.{length, take};
 ghost use Rattle.script.specs.Flat.{nodesIn, tableIn};
 ghost use Rattle.script.specs.Limits.{nodeLimit, typeLimit, wordLimit};
 ghost use Rattle.script.specs.Table.{isSymNode, operands, treeTest, nodesTest, tableTest};
-ghost use Rattle.script.specs.TableTests.{testedBy, usesTest, depthsTest, usedTest, Lent, FormedNodes, operandsTest, Zeros, Within, Small, Counted, Spread, UseCounts, Nestings, countsTest, deepAt, nestingTest};
+ghost use Rattle.script.specs.Code.TableTests.{testedBy, usesTest, depthsTest, usedTest, Lent, FormedNodes, operandsTest, Zeros, Within, Small, Counted, Spread, UseCounts, Nestings, countsTest, deepAt, nestingTest};
 ghost use Rattle.script.specs.Tests.{all, pick};
 use crate::Node;
 use crate::Refusal;
@@ -19,9 +19,6 @@ use crate::table::node_operands;
 use crate::table::operand_at;
 use crate::table::well_formed;
 
-// The largest code of a type: 15 references to a truth.
-pub const TYPE: u32 = 31;
-
 // All codes of the first `count` entries are types.
 fn right_codes(entries: &[u32], count: usize) -> bool
     requires { ⌜ count ≤ length (now entries) ⌝ }
@@ -29,7 +26,7 @@ fn right_codes(entries: &[u32], count: usize) -> bool
 {
     let mut i = 0;
     while i < count {
-        if TYPE < entries[i] {
+        if Script::TYPE < entries[i] {
             return false;
         }
         i += 1;

@@ -13,7 +13,7 @@ use Rattle.script.specs.declared.Place.the-variants.{Nowhere, At}
 use Rattle.text.specs.Bytes.{lf, tab, letter-b, letter-i, letter-r, entryWord}
 use Rattle.text.specs.Fields.{valueAfter, numberUpTo, typeAfter, typeOf, sameBytes, kindOf}
 use Rattle.text.specs.Grammar.{parts, numbersUpTo, lineOf, atEnd, linesFrom, meaningOf}
-use Rattle.text.specs.Output.{wordOf}
+use Rattle.text.specs.Code.Output.{wordOf}
 use Rattle.text.specs.Reading.{reading}
 use Rattle.text.specs.Writing.{digitsIn, digits, typeText, operandsText, nodeText, entriesText, nodesText, textOf, writing}
 

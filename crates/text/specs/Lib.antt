@@ -1,12 +1,10 @@
 pub mod Bytes
 pub mod Cases
+pub mod Code
 pub mod Fields
 pub mod Grammar
 pub mod LowestPlace
 pub mod OneSpelling
-pub mod Output
 pub mod Reading
 pub mod SameTable
-pub mod Scan
-pub mod Steps
 pub mod Writing

@@ -5,7 +5,8 @@ ghost use lib.ListN.{length, drop};
 ghost use mathlib.Core.List.{List, []};
 ghost use Rattle.script.specs.Limits.{typeLimit};
 ghost use Rattle.text.specs.Fields.{numberUpTo, typeOf, typeUpTo, lastLetter};
-ghost use Rattle.text.specs.Scan.{endsField, fieldIn, startsWith, numberAfter, saidBy};
+ghost use Rattle.text.specs.Code.Scan.{endsField, fieldIn, startsWith, numberAfter, saidBy};
+use script::Script;
 
 pub const TAB: u8 = 9;
 
@@ -130,7 +131,7 @@ pub fn type_code(f: &[u8]) -> Said
             }
             return last_letter(2 * references, c);
         }
-        if 15 <= references {
+        if Script::REFERENCES <= references {
             return Said::Nothing;
         }
         references += 1;

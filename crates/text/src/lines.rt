@@ -4,7 +4,7 @@ ghost use mathlib.Core.Bool.{true};
 ghost use Prim.Native.Nat.{_≤_, _<_};
 ghost use lib.ListN.{length, drop};
 ghost use Rattle.script.specs.Rows.{rowOf};
-ghost use Rattle.text.specs.Scan.{fieldEnds, largestBy, operandAt, entryAfter, nodeAfter, lineAt};
+ghost use Rattle.text.specs.Code.Scan.{fieldEnds, largestBy, operandAt, entryAfter, nodeAfter, lineAt};
 use crate::fields::LF;
 use crate::fields::Said;
 use crate::fields::TAB;

@@ -3,7 +3,7 @@
 ghost use mathlib.Core.Path.{_≡_};
 ghost use Prim.Native.Nat.{_+_, _^_, _<_};
 ghost use lib.ListN.{length, set};
-ghost use Rattle.text.specs.Output.{Put, wordOf};
+ghost use Rattle.text.specs.Code.Output.{Put, wordOf};
 ghost use Rattle.text.specs.Writing.{digits, typeText};
 use crate::words::LENGTHS;
 use crate::words::WORDS;

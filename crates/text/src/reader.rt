@@ -7,13 +7,13 @@ ghost use lib.ListN.{length, take, drop, replicate};
 ghost use Rattle.script.specs.Flat.{nodesIn};
 ghost use Rattle.script.specs.Limits.{nodeLimit, entryLimit, byteLimit};
 ghost use Rattle.script.specs.Table.{treeTest};
-ghost use Rattle.script.specs.TableTests.{FormedNodes};
+ghost use Rattle.script.specs.Code.TableTests.{FormedNodes};
 ghost use Rattle.script.specs.Tests.{need};
 ghost use Rattle.script.specs.declared.Refusal.the-variants.{NoNode};
 ghost use Rattle.text.specs.Bytes.{lf};
 ghost use Rattle.text.specs.Grammar.{linesFrom, parts};
 ghost use Rattle.text.specs.Reading.{leaves, readingIn, tried};
-ghost use Rattle.text.specs.Steps.{Kept, Took, Holds, Cleared, entryStep, entryStored, nodeStep, nodeStored, endedBy};
+ghost use Rattle.text.specs.Code.Steps.{Kept, Took, Holds, Cleared, entryStep, entryStored, nodeStep, nodeStored, endedBy};
 use crate::lines::Scanned;
 use crate::lines::line_at;
 use script::Node;
@@ -136,7 +136,7 @@ fn read_lines(text: &[u8], table: &mut [u32], entries: &mut [u32]) -> Reading
 fn read_text(text: &[u8], table: &mut [u32], entries: &mut [u32]) -> Reading
     ensures { λ r. ⌜ Holds (tried (now (text .entry)) (length (nodesIn (now (table .entry)))) (length (now (entries .entry)))) (now (table .entry)) (now (entries .entry)) r (now (table .exit)) (now (entries .exit)) ⌝ }
 {
-    if table.len() < 4 * Script::NODES {
+    if table.len() / 4 < Script::NODES {
         return Reading::Refused(Refusal::TableTooSmall);
     }
     if entries.len() < Script::ENTRIES {

@@ -1,7 +1,7 @@
 // The fifteen words: compared with fields in reading, copied out in writing.
 ghost use mathlib.Core.Path.{_≡_};
 ghost use Rattle.text.specs.Fields.{sameBytes, kindOf};
-ghost use Rattle.text.specs.Scan.{saidBy};
+ghost use Rattle.text.specs.Code.Scan.{saidBy};
 use crate::fields::Said;
 use script::table::KINDS;
 

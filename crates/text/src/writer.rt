@@ -6,7 +6,7 @@ ghost use lib.Dec.{leb};
 ghost use lib.ListN.{length, take};
 ghost use Rattle.script.specs.Flat.{nodesIn, tableIn};
 ghost use Rattle.script.specs.Table.{nodeAt, tableTest};
-ghost use Rattle.text.specs.Output.{Put, operandIf, outcome, textIn};
+ghost use Rattle.text.specs.Code.Output.{Put, operandIf, outcome, textIn};
 ghost use Rattle.text.specs.Writing.{entryText, nodeText, entriesText, nodesText, writing};
 use crate::fields::LF;
 use crate::fields::TAB;

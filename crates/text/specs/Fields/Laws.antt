@@ -15,7 +15,7 @@ use Rattle.script.specs.Rows.{Row, rows, rowOf}
 use Rattle.script.specs.Tests.{lowestFrom}
 use Rattle.script.specs.Tests.Laws.{both-true, true-or-false, lowestFrom-here, lowestFrom-next, lowestFrom-zero, lowest-some}
 use Rattle.text.specs.Fields.{sameBytes, wordIs, kindOf}
-use Rattle.text.specs.Output.{wordBy, wordOf}
+use Rattle.text.specs.Code.Output.{wordBy, wordOf}
 
 -- ---- byte strings
 

@@ -1,6 +1,6 @@
 -- `script::table::right_field` meets its contract: each `return` is one case of the kind's row. Assumes nothing.
 use borrow.Author.Needs.{needs}
-use Rattle.script.specs.TableTests.Laws.{right-number, right-earlier, right-zero, right-no-kind}
+use Rattle.script.specs.Code.TableTests.Laws.{right-number, right-earlier, right-zero, right-no-kind}
 use Rattle.script.proofs.table.right_field.Statement.{statement}
 use Rattle.script.proofs.table.right_field.Tie as tie
 

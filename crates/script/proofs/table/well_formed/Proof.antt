@@ -2,7 +2,7 @@
 use borrow.Author.Needs.{needs}
 use mathlib.Core.Path.{sym, _∙_}
 use Rattle.script.specs.Rows.{rowOf}
-use Rattle.script.specs.TableTests.Laws.{first-wrong, second-wrong, third-says}
+use Rattle.script.specs.Code.TableTests.Laws.{first-wrong, second-wrong, third-says}
 use Rattle.script.proofs.table.well_formed.Statement.{statement}
 use Rattle.script.proofs.table.well_formed.Tie as tie
 

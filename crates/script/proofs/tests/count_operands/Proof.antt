@@ -4,8 +4,8 @@ use Prim.Native.Nat.{_≤_, _-_}
 use native.Mathlib.Omega.{arith}
 use lib.ListN.{take}
 use Rattle.script.specs.Table.{operands}
-use Rattle.script.specs.TableTests.{Counted}
-use Rattle.script.specs.TableTests.Counts.{OperandAt, operand-place, place-within, all-operands, counted-none, counted-more, counted-fits}
+use Rattle.script.specs.Code.TableTests.{Counted}
+use Rattle.script.specs.Code.TableTests.Counts.{OperandAt, operand-place, place-within, all-operands, counted-none, counted-more, counted-fits}
 use Rattle.script.proofs.tests.count_operands.Statement.{statement}
 use Rattle.script.proofs.tests.count_operands.Tie as tie
 

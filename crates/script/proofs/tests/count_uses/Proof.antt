@@ -4,7 +4,7 @@ use Prim.Native.Nat.{_≤_, _-_}
 use native.Mathlib.Omega.{arith}
 use lib.ListN.{length, take}
 use Rattle.script.specs.Flat.{nodesIn}
-use Rattle.script.specs.TableTests.Counts.{UsedBy, used-none, used-small, formed-within, uses-turn, uses-end}
+use Rattle.script.specs.Code.TableTests.Counts.{UsedBy, used-none, used-small, formed-within, uses-turn, uses-end}
 use Rattle.script.proofs.tests.count_uses.Statement.{statement}
 use Rattle.script.proofs.tests.count_uses.Tie as tie
 

@@ -4,7 +4,7 @@ use Prim.Native.Nat.{_≤_, _-_}
 use native.Mathlib.Omega.{arith}
 use lib.ListN.{length, take}
 use Rattle.script.specs.Flat.{nodesIn}
-use Rattle.script.specs.TableTests.Counts.{NestedFrom, formed-within, depths-start, depths-fit, depths-turn, depths-end}
+use Rattle.script.specs.Code.TableTests.Counts.{NestedFrom, formed-within, depths-start, depths-fit, depths-turn, depths-end}
 use Rattle.script.proofs.tests.note_depths.Statement.{statement}
 use Rattle.script.proofs.tests.note_depths.Tie as tie
 

@@ -5,7 +5,7 @@ use Prim.Native.Nat.{ℕ, _≤_, _<_, _-_}
 use native.Mathlib.Omega.{arith}
 use lib.ListN.{getD}
 use Rattle.script.specs.Limits.{typeLimit}
-use Rattle.script.specs.TableTests.Lowest.{code-wrong, codes-right}
+use Rattle.script.specs.Code.TableTests.Lowest.{code-wrong, codes-right}
 use Rattle.script.proofs.tests.right_codes.Statement.{statement}
 use Rattle.script.proofs.tests.right_codes.Tie as tie
 

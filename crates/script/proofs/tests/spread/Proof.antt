@@ -4,8 +4,8 @@ use Prim.Native.Nat.{_≤_, _-_}
 use native.Mathlib.Omega.{arith}
 use lib.ListN.{take}
 use Rattle.script.specs.Table.{operands}
-use Rattle.script.specs.TableTests.{Spread}
-use Rattle.script.specs.TableTests.Counts.{OperandAt, operand-place, place-within, all-operands, spread-none, spread-more}
+use Rattle.script.specs.Code.TableTests.{Spread}
+use Rattle.script.specs.Code.TableTests.Counts.{OperandAt, operand-place, place-within, all-operands, spread-none, spread-more}
 use Rattle.script.proofs.tests.spread.Statement.{statement}
 use Rattle.script.proofs.tests.spread.Tie as tie
 

@@ -2,7 +2,7 @@
 use borrow.Author.Needs.{needs}
 use Prim.Native.Nat.{_≤_, _-_, pred}
 use native.Mathlib.Omega.{arith}
-use Rattle.script.specs.TableTests.Lowest.{notOnce, count-wrong, count-right, counts-passed}
+use Rattle.script.specs.Code.TableTests.Lowest.{notOnce, count-wrong, count-right, counts-passed}
 use Rattle.script.specs.Tests.Loops.{Looked, look}
 use Rattle.script.proofs.tests.test_counts.Statement.{statement}
 use Rattle.script.proofs.tests.test_counts.Tie as tie

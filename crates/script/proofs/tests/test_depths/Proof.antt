@@ -2,7 +2,7 @@
 use borrow.Author.Needs.{needs}
 use mathlib.Core.Path.{_≡_, sym, _∙_}
 use Prim.Native.Nat.{_-_}
-use Rattle.script.specs.TableTests.Lowest.{deepBy, deep-is, depths-refused, depths-passed}
+use Rattle.script.specs.Code.TableTests.Lowest.{deepBy, deep-is, depths-refused, depths-passed}
 use Rattle.script.specs.Tests.Loops.{Looked, look, look-on}
 use Rattle.script.proofs.tests.test_depths.Statement.{statement}
 use Rattle.script.proofs.tests.test_depths.Tie as tie

@@ -3,8 +3,8 @@ use borrow.Author.Needs.{needs}
 use mathlib.Core.Path.{_∙_}
 use lib.ListN.{take}
 use Rattle.script.specs.Flat.{nodesIn}
-use Rattle.script.specs.TableTests.Laws.{nodes-refused, nodes-passed}
-use Rattle.script.specs.TableTests.Whole.{formed-nodes}
+use Rattle.script.specs.Code.TableTests.Laws.{nodes-refused, nodes-passed}
+use Rattle.script.specs.Code.TableTests.Whole.{formed-nodes}
 use Rattle.script.proofs.tests.test_nodes.Statement.{statement}
 use Rattle.script.proofs.tests.test_nodes.Tie as tie
 

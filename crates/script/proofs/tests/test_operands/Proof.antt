@@ -3,8 +3,8 @@ use borrow.Author.Needs.{needs}
 use mathlib.Core.Bool.{not}
 use mathlib.Core.Path.{_≡_, sym, ap, _∙_}
 use Prim.Native.Nat.{_-_}
-use Rattle.script.specs.TableTests.Laws.{formed-is}
-use Rattle.script.specs.TableTests.Lowest.{malformed, operands-refused, operands-passed}
+use Rattle.script.specs.Code.TableTests.Laws.{formed-is}
+use Rattle.script.specs.Code.TableTests.Lowest.{malformed, operands-refused, operands-passed}
 use Rattle.script.specs.Tests.Loops.{Looked, look, look-on}
 use Rattle.script.proofs.tests.test_operands.Statement.{statement}
 use Rattle.script.proofs.tests.test_operands.Tie as tie

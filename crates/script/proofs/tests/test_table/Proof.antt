@@ -1,7 +1,7 @@
 -- `script::tests::test_table` meets its contract: 32 and 2, then the tests of what is used. Assumes nothing.
 use borrow.Author.Needs.{needs}
 use mathlib.Core.Path.{_∙_}
-use Rattle.script.specs.TableTests.Whole.{table-few-nodes, table-few-entries, table-too-many, table-within, table-lent}
+use Rattle.script.specs.Code.TableTests.Whole.{table-few-nodes, table-few-entries, table-too-many, table-within, table-lent}
 use Rattle.script.proofs.tests.test_table.Statement.{statement}
 use Rattle.script.proofs.tests.test_table.Tie as tie
 

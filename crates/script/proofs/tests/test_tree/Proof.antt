@@ -3,7 +3,7 @@ use borrow.Author.Needs.{needs}
 use mathlib.Core.Path.{_∙_}
 use lib.ListN.{take}
 use Rattle.script.specs.Flat.{nodesIn}
-use Rattle.script.specs.TableTests.Laws.{tree-refused, tree-passed}
+use Rattle.script.specs.Code.TableTests.Laws.{tree-refused, tree-passed}
 use Rattle.script.proofs.tests.test_tree.Statement.{statement}
 use Rattle.script.proofs.tests.test_tree.Tie as tie
 

@@ -2,7 +2,7 @@
 use borrow.Author.Needs.{needs}
 use mathlib.Core.Path.{_∙_}
 use Rattle.script.specs.Flat.{tableIn}
-use Rattle.script.specs.TableTests.Whole.{used-no-node, used-wrong-code, used-right-codes}
+use Rattle.script.specs.Code.TableTests.Whole.{used-no-node, used-wrong-code, used-right-codes}
 use Rattle.script.proofs.tests.test_used.Statement.{statement}
 use Rattle.script.proofs.tests.test_used.Tie as tie
 

@@ -2,7 +2,7 @@
 use borrow.Author.Needs.{needs}
 use mathlib.Core.Path.{sym}
 use native.Mathlib.Omega.{arith}
-use Rattle.text.specs.Scan.Laws.{starts-at, starts-past}
+use Rattle.text.specs.Code.Scan.Laws.{starts-at, starts-past}
 use Rattle.text.proofs.fields.byte_is.Statement.{statement}
 use Rattle.text.proofs.fields.byte_is.Tie as tie
 use Rattle.text.proofs.fields.byte_is.Reads as reads

@@ -8,8 +8,8 @@ use native.Mathlib.Omega.{arith}
 use native.Mathlib.Numerals.{add-one}
 use lib.ListN.{length, drop, getD}
 use lib.Seq.{drop-length}
-use Rattle.text.specs.Scan.{numberAfter, saidBy}
-use Rattle.text.specs.Scan.Laws.{number-low, number-high, number-digit, number-above, number-end}
+use Rattle.text.specs.Code.Scan.{numberAfter, saidBy}
+use Rattle.text.specs.Code.Scan.Laws.{number-low, number-high, number-digit, number-above, number-end}
 use Rattle.text.proofs.fields.digits.Statement.{statement}
 use Rattle.text.proofs.fields.digits.Tie as tie
 use Rattle.text.proofs.fields.digits.Reads as reads

@@ -2,7 +2,7 @@
 use borrow.Author.Needs.{needs}
 use native.Mathlib.Omega.{arith}
 use lib.ListN.{length-drop, drop}
-use Rattle.text.specs.Scan.Laws.{field-most, field-part}
+use Rattle.text.specs.Code.Scan.Laws.{field-most, field-part}
 use Rattle.text.proofs.fields.field.Statement.{statement}
 use Rattle.text.proofs.fields.field.Tie as tie
 use Rattle.text.proofs.fields.field.Reads as reads

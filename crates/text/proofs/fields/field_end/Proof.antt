@@ -6,8 +6,8 @@ use Prim.Native.Nat.{_≤_, _+_, _-_}
 use native.Mathlib.Omega.{arith}
 use native.Mathlib.Numerals.{add-one}
 use lib.ListN.{length, drop}
-use Rattle.text.specs.Scan.{fieldIn}
-use Rattle.text.specs.Scan.Laws.{field-here, field-next, field-last}
+use Rattle.text.specs.Code.Scan.{fieldIn}
+use Rattle.text.specs.Code.Scan.Laws.{field-here, field-next, field-last}
 use Rattle.text.proofs.fields.field_end.Statement.{statement}
 use Rattle.text.proofs.fields.field_end.Tie as tie
 use Rattle.text.proofs.fields.field_end.Reads as reads

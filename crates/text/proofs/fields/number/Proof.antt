@@ -2,8 +2,8 @@
 use borrow.Author.Needs.{needs}
 use mathlib.Core.Path.{sym, ap, _∙_}
 use native.Mathlib.Omega.{arith}
-use Rattle.text.specs.Scan.{saidBy}
-use Rattle.text.specs.Scan.Laws.{number-none, number-one, number-long, number-zeros}
+use Rattle.text.specs.Code.Scan.{saidBy}
+use Rattle.text.specs.Code.Scan.Laws.{number-none, number-one, number-long, number-zeros}
 use Rattle.text.proofs.fields.number.Statement.{statement}
 use Rattle.text.proofs.fields.number.Tie as tie
 

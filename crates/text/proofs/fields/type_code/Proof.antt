@@ -10,8 +10,8 @@ use lib.ListN.{length, drop, getD}
 use lib.Seq.{drop-length}
 use Rattle.script.specs.Limits.{typeLimit}
 use Rattle.text.specs.Fields.{typeAfter, typeUpTo, typeOf}
-use Rattle.text.specs.Scan.{saidBy}
-use Rattle.text.specs.Scan.Laws.{type-above, type-more, type-last, type-long, type-end}
+use Rattle.text.specs.Code.Scan.{saidBy}
+use Rattle.text.specs.Code.Scan.Laws.{type-above, type-more, type-last, type-long, type-end}
 use Rattle.text.proofs.fields.type_code.Reads as reads
 use Rattle.text.proofs.fields.type_code.Lts as lts
 use Rattle.text.proofs.fields.type_code.Statement.{statement}

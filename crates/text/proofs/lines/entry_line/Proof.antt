@@ -7,9 +7,9 @@ use Prim.Native.Nat.{_+_}
 use native.Mathlib.Omega.{arith}
 use lib.ListN.{length, drop}
 use Rattle.text.specs.Fields.{typeOf}
-use Rattle.text.specs.Scan.{startsWith, fieldIn}
-use Rattle.text.specs.Scan.Laws.{said-number, said-nothing}
-use Rattle.text.specs.Scan.Lines.{entry-no-tab, entry-lf, entry-no-lf, starts-within, then-most}
+use Rattle.text.specs.Code.Scan.{startsWith, fieldIn}
+use Rattle.text.specs.Code.Scan.Laws.{said-number, said-nothing}
+use Rattle.text.specs.Code.Scan.Lines.{entry-no-tab, entry-lf, entry-no-lf, starts-within, then-most}
 use Rattle.text.proofs.lines.entry_line.Statement.{statement}
 use Rattle.text.proofs.lines.entry_line.Tie as tie
 use Rattle.text.proofs.lines.entry_line.Reads as reads

@@ -1,7 +1,7 @@
 -- `text::lines::largest` meets its contract. Assumes nothing.
 use borrow.Author.Needs.{needs}
 use mathlib.Core.Path.{sym, _∙_}
-use Rattle.text.specs.Scan.Nodes.{largest-number, largest-node}
+use Rattle.text.specs.Code.Scan.Nodes.{largest-number, largest-node}
 use Rattle.text.proofs.lines.largest.Statement.{statement}
 use Rattle.text.proofs.lines.largest.Tie as tie
 use Rattle.text.proofs.lines.largest.Reads as reads

@@ -7,9 +7,9 @@ use native.Mathlib.Omega.{arith}
 use lib.ListN.{length, drop}
 use Rattle.text.specs.Fields.{kindOf}
 use Rattle.text.specs.Fields.Words.{kind-below}
-use Rattle.text.specs.Scan.{fieldIn}
-use Rattle.text.specs.Scan.Laws.{said-number, said-nothing}
-use Rattle.text.specs.Scan.Lines.{line-entry, line-node, line-none, word-most, word-ends}
+use Rattle.text.specs.Code.Scan.{fieldIn}
+use Rattle.text.specs.Code.Scan.Laws.{said-number, said-nothing}
+use Rattle.text.specs.Code.Scan.Lines.{line-entry, line-node, line-none, word-most, word-ends}
 use Rattle.text.proofs.lines.line_at.Statement.{statement}
 use Rattle.text.proofs.lines.line_at.Tie as tie
 use Rattle.text.proofs.lines.line_at.Reads as reads

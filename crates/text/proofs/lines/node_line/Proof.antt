@@ -7,8 +7,8 @@ use Prim.Native.Nat.{_+_, _≤_}
 use native.Mathlib.Omega.{arith}
 use lib.ListN.{length, drop}
 use Rattle.script.specs.Rows.Laws.{operands-most}
-use Rattle.text.specs.Scan.Lines.{starts-within}
-use Rattle.text.specs.Scan.Nodes.{node-made, reach-start, reach-next, reach-unwanted, reach-bad, reach-lf, reach-no-lf}
+use Rattle.text.specs.Code.Scan.Lines.{starts-within}
+use Rattle.text.specs.Code.Scan.Nodes.{node-made, reach-start, reach-next, reach-unwanted, reach-bad, reach-lf, reach-no-lf}
 use Rattle.text.proofs.lines.node_line.Statement.{statement}
 use Rattle.text.proofs.lines.node_line.Tie as tie
 use Rattle.text.proofs.lines.node_line.Reads as reads

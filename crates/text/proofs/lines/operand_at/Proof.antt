@@ -7,9 +7,9 @@ use Prim.Native.Nat.{_+_}
 use native.Mathlib.Omega.{arith}
 use lib.ListN.{length, drop}
 use Rattle.text.specs.Fields.{numberUpTo}
-use Rattle.text.specs.Scan.{startsWith, fieldIn, operandBy}
-use Rattle.text.specs.Scan.Laws.{said-number, said-nothing}
-use Rattle.text.specs.Scan.Lines.{operand-no-tab, operand-tab, starts-within, then-most}
+use Rattle.text.specs.Code.Scan.{startsWith, fieldIn, operandBy}
+use Rattle.text.specs.Code.Scan.Laws.{said-number, said-nothing}
+use Rattle.text.specs.Code.Scan.Lines.{operand-no-tab, operand-tab, starts-within, then-most}
 use Rattle.text.proofs.lines.operand_at.Statement.{statement}
 use Rattle.text.proofs.lines.operand_at.Tie as tie
 use Rattle.text.proofs.lines.operand_at.Reads as reads

@@ -6,8 +6,8 @@ use mathlib.Core.Path.{ap}
 use Prim.Native.Nat.{ℕ, _+_, _^_, _<_}
 use native.Mathlib.Omega.{arith}
 use lib.ListN.{length, length-append}
-use Rattle.text.specs.Output.Fields.{digits-last, digits-tens}
-use Rattle.text.specs.Output.Laws.{put-one, put-then, put-length}
+use Rattle.text.specs.Code.Output.Fields.{digits-last, digits-tens}
+use Rattle.text.specs.Code.Output.Laws.{put-one, put-then, put-length}
 use Rattle.text.specs.Writing.{digits}
 use Rattle.text.proofs.output.put_number.Reads as put-number
 use Rattle.text.proofs.output.put_number.Kinds as put-number-kinds

@@ -6,7 +6,7 @@ use native.Mathlib.Nat.{add-zero}
 use native.Mathlib.Omega.{arith}
 use lib.ListN.{length, drop}
 use lib.Seq.{drop-length}
-use Rattle.text.specs.Output.Laws.{Remains, remains-all, remains-next, remains-none, remains-length}
+use Rattle.text.specs.Code.Output.Laws.{Remains, remains-all, remains-next, remains-none, remains-length}
 use Rattle.text.proofs.output.put_bytes.Statement.{statement}
 use Rattle.text.proofs.output.put_bytes.Tie as tie
 

@@ -4,8 +4,8 @@ use Prim.Native.Nat.{ℕ}
 use mathlib.Core.Path.{_≡_, ap}
 use native.Mathlib.Omega.{arith}
 use lib.ListN.{length}
-use Rattle.text.specs.Output.Laws.{Remains, remains-all, remains-byte, remains-none, put-length}
-use Rattle.text.specs.Output.Fields.{type-more}
+use Rattle.text.specs.Code.Output.Laws.{Remains, remains-all, remains-byte, remains-none, put-length}
+use Rattle.text.specs.Code.Output.Fields.{type-more}
 use Rattle.text.specs.Writing.{typeText}
 use Rattle.text.proofs.output.put_type.Statement.{statement}
 use Rattle.text.proofs.output.put_type.Tie as tie

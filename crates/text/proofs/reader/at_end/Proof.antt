@@ -6,7 +6,7 @@ use borrow.Author.Tests.{lt-ltb, le-ltb}
 use lib.ListN.{take}
 use Rattle.script.specs.Flat.{nodesIn}
 use Rattle.script.specs.Table.{treeTest}
-use Rattle.script.specs.TableTests.Laws.{passed-none, refused-some}
+use Rattle.script.specs.Code.TableTests.Laws.{passed-none, refused-some}
 use Rattle.text.proofs.reader.at_end.Statement.{statement}
 use Rattle.text.proofs.reader.at_end.Tie as tie
 use Rattle.text.proofs.reader.at_end.Reads as reads

@@ -5,7 +5,7 @@ use Prim.Native.Nat.{_-_, _≤_}
 use native.Mathlib.Omega.{arith}
 use native.Mathlib.Numerals.{add-one}
 use lib.ListN.{length, length-set}
-use Rattle.text.specs.Steps.Clearing.{filledTo, fill-start, fill-next, fill-end}
+use Rattle.text.specs.Code.Steps.Clearing.{filledTo, fill-start, fill-next, fill-end}
 use Rattle.text.proofs.reader.clear_entries.Statement.{statement}
 use Rattle.text.proofs.reader.clear_entries.Tie as tie
 use Rattle.text.proofs.reader.clear_entries.Reads as reads

@@ -6,7 +6,7 @@ use native.Mathlib.Omega.{arith}
 use native.Mathlib.Numerals.{add-one}
 use lib.ListN.{length}
 use Rattle.script.specs.Flat.Laws.{length-nodesIn}
-use Rattle.text.specs.Steps.Clearing.{Clearing, clear-start, clear-room, clear-next, clear-end}
+use Rattle.text.specs.Code.Steps.Clearing.{Clearing, clear-start, clear-room, clear-next, clear-end}
 use Rattle.text.proofs.reader.clear_nodes.Statement.{statement}
 use Rattle.text.proofs.reader.clear_nodes.Tie as tie
 use Rattle.text.proofs.reader.clear_nodes.Reads as reads

@@ -3,7 +3,7 @@ use borrow.Author.Needs.{needs}
 use mathlib.Core.Path.{_≡_, refl, sym, ap, _∙_}
 use native.Mathlib.Omega.{arith}
 use lib.ListN.{length}
-use Rattle.text.specs.Steps.Whole.{left-so, length-filled}
+use Rattle.text.specs.Code.Steps.Whole.{left-so, length-filled}
 use Rattle.text.proofs.reader.read.Statement.{statement}
 use Rattle.text.proofs.reader.read.Tie as tie
 use Rattle.text.proofs.reader.read.Reads as reads

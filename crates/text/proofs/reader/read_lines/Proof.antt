@@ -5,8 +5,8 @@ use Prim.Native.Nat.{_-_}
 use native.Mathlib.Omega.{arith}
 use native.Mathlib.Numerals.{add-one}
 use lib.ListN.{length, drop}
-use Rattle.text.specs.Steps.{Took}
-use Rattle.text.specs.Steps.Walk.{Walked, walk-start, walk-on, walk-refused, walk-end}
+use Rattle.text.specs.Code.Steps.{Took}
+use Rattle.text.specs.Code.Steps.Walk.{Walked, walk-start, walk-on, walk-refused, walk-end}
 use Rattle.text.proofs.reader.read_lines.Statement.{statement}
 use Rattle.text.proofs.reader.read_lines.Tie as tie
 use Rattle.text.proofs.reader.read_lines.Reads as reads

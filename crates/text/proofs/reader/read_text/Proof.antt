@@ -5,7 +5,7 @@ use native.Mathlib.Omega.{arith}
 use lib.ListN.{length}
 use Rattle.script.specs.Flat.{nodesIn}
 use Rattle.text.specs.Reading.{tried}
-use Rattle.text.specs.Steps.Whole.{holds-refused, few-nodes, few-entries, too-long, not-too-long}
+use Rattle.text.specs.Code.Steps.Whole.{holds-refused, few-nodes, few-entries, too-long, not-too-long}
 use Rattle.text.proofs.reader.read_text.Statement.{statement}
 use Rattle.text.proofs.reader.read_text.Tie as tie
 use Rattle.text.proofs.reader.read_text.Reads as reads
@@ -35,7 +35,6 @@ pub read-text-spec : {M : Type 1} → statement M
 read-text-spec =
     tie.close
     (tie.spec
-    (λ c. search needs)
     returns
     returns-2
     returns-3

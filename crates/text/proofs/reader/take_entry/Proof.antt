@@ -6,7 +6,7 @@ use Prim.Native.Nat.{_+_}
 use native.Mathlib.Omega.{arith}
 use lib.Dec.{ltb}
 use Rattle.script.specs.Limits.{entryLimit, sizeOf}
-use Rattle.text.specs.Steps.Taken.{sized-fits, sized-large}
+use Rattle.text.specs.Code.Steps.Taken.{sized-fits, sized-large}
 use Rattle.text.proofs.reader.take_entry.Statement.{statement}
 use Rattle.text.proofs.reader.take_entry.Tie as tie
 use Rattle.text.proofs.reader.take_entry.Reads as reads

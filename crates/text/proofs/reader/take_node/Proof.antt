@@ -8,7 +8,7 @@ use lib.Dec.{ltb}
 use lib.ListN.{length}
 use lib.Seq.{length-sets}
 use Rattle.script.specs.Limits.{nodeLimit, sizeOf}
-use Rattle.text.specs.Steps.Taken.{sized-fits, sized-large}
+use Rattle.text.specs.Code.Steps.Taken.{sized-fits, sized-large}
 use Rattle.text.proofs.reader.take_node.Statement.{statement}
 use Rattle.text.proofs.reader.take_node.Tie as tie
 use Rattle.text.proofs.reader.take_node.Reads as reads

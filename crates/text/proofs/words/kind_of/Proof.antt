@@ -5,7 +5,7 @@ use Prim.Native.Nat.{_≤_, _+_, _-_, _*_}
 use native.Mathlib.Omega.{arith}
 use Rattle.text.specs.Fields.{sameBytes, wordIs, kindOf}
 use Rattle.text.specs.Fields.Words.{word-most, word-part, word-is, kindFrom, kind-start, kind-here, kind-next, kind-end}
-use Rattle.text.specs.Scan.{saidBy}
+use Rattle.text.specs.Code.Scan.{saidBy}
 use Rattle.text.proofs.words.kind_of.Statement.{statement}
 use Rattle.text.proofs.words.kind_of.Tie as tie
 use Rattle.text.proofs.words.kind_of.Reads as reads

@@ -6,8 +6,8 @@ use native.Mathlib.Nat.{zero-add}
 use native.Mathlib.Omega.{arith}
 use lib.ListN.{length}
 use Rattle.script.specs.Flat.{tableIn}
-use Rattle.text.specs.Output.{textIn}
-use Rattle.text.specs.Output.Laws.{put-empty}
+use Rattle.text.specs.Code.Output.{textIn}
+use Rattle.text.specs.Code.Output.Laws.{put-empty}
 use Rattle.text.specs.SameTable.{text-most}
 use Rattle.text.proofs.writer.fits.Statement.{statement}
 use Rattle.text.proofs.writer.fits.Tie as tie

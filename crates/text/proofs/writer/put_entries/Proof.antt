@@ -4,8 +4,8 @@ use Prim.Native.Nat.{_≤_, _-_}
 use mathlib.Core.Path.{_≡_}
 use native.Mathlib.Omega.{arith}
 use lib.ListN.{getD, take, drop}
-use Rattle.text.specs.Output.Laws.{Remains, remains-all, remains-less, remains-room, remains-none, put-length}
-use Rattle.text.specs.Output.Lines.{entries-next, entries-end}
+use Rattle.text.specs.Code.Output.Laws.{Remains, remains-all, remains-less, remains-room, remains-none, put-length}
+use Rattle.text.specs.Code.Output.Lines.{entries-next, entries-end}
 use Rattle.text.specs.Writing.{entryText, entriesText}
 use Rattle.text.proofs.writer.put_entries.Statement.{statement}
 use Rattle.text.proofs.writer.put_entries.Tie as tie

@@ -2,7 +2,7 @@
 use borrow.Author.Needs.{needs}
 use native.Mathlib.Omega.{arith}
 use lib.ListN.{length-append}
-use Rattle.text.specs.Output.Laws.{put-one, put-then, put-length}
+use Rattle.text.specs.Code.Output.Laws.{put-one, put-then, put-length}
 use Rattle.text.proofs.writer.put_entry.Statement.{statement}
 use Rattle.text.proofs.writer.put_entry.Tie as tie
 

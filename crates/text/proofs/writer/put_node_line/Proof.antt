@@ -1,8 +1,8 @@
 -- `text::writer::put_node_line` meets its contract: the word, the operands that the kind takes and the line's end in a row. Assumes nothing.
 use borrow.Author.Needs.{needs}
 use native.Mathlib.Omega.{arith}
-use Rattle.text.specs.Output.Laws.{put-one, put-then, put-length}
-use Rattle.text.specs.Output.Lines.{node-parts, node-length}
+use Rattle.text.specs.Code.Output.Laws.{put-one, put-then, put-length}
+use Rattle.text.specs.Code.Output.Lines.{node-parts, node-length}
 use Rattle.text.proofs.writer.put_node_line.Statement.{statement}
 use Rattle.text.proofs.writer.put_node_line.Tie as tie
 

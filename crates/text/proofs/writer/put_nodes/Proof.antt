@@ -6,8 +6,8 @@ use lib.ListN.{take, drop}
 use Rattle.script.specs.Flat.{nodesIn}
 use Rattle.script.specs.Flat.Laws.{nodesIn-holds}
 use Rattle.script.specs.Table.{nodeAt}
-use Rattle.text.specs.Output.Laws.{Remains, remains-all, remains-less, remains-room, remains-none, put-length}
-use Rattle.text.specs.Output.Lines.{nodes-next, nodes-end}
+use Rattle.text.specs.Code.Output.Laws.{Remains, remains-all, remains-less, remains-room, remains-none, put-length}
+use Rattle.text.specs.Code.Output.Lines.{nodes-next, nodes-end}
 use Rattle.text.specs.Writing.{nodeText, nodesText}
 use Rattle.text.proofs.writer.put_nodes.Statement.{statement}
 use Rattle.text.proofs.writer.put_nodes.Tie as tie

@@ -1,7 +1,7 @@
 -- `text::writer::put_operand` meets its contract: nothing, or a tab and the number. Assumes nothing.
 use borrow.Author.Needs.{needs}
 use native.Mathlib.Omega.{arith}
-use Rattle.text.specs.Output.Laws.{put-none, put-one, put-then, put-length}
+use Rattle.text.specs.Code.Output.Laws.{put-none, put-one, put-then, put-length}
 use Rattle.text.proofs.writer.put_operand.Statement.{statement}
 use Rattle.text.proofs.writer.put_operand.Tie as tie
 

@@ -1,8 +1,8 @@
 -- `text::writer::put_text` meets its contract: a table that passed its tests lends what its lines need. Assumes nothing.
 use native.Mathlib.Omega.{arith}
 use Rattle.script.specs.Flat.{tableIn}
-use Rattle.text.specs.Output.Laws.{put-length}
-use Rattle.text.specs.Output.Passed.{entries-lent, nodes-lent, kinds-known, parts-most, put-parts}
+use Rattle.text.specs.Code.Output.Laws.{put-length}
+use Rattle.text.specs.Code.Output.Passed.{entries-lent, nodes-lent, kinds-known, parts-most, put-parts}
 use Rattle.text.proofs.writer.put_text.Statement.{statement}
 use Rattle.text.proofs.writer.put_text.Tie as tie
 

@@ -3,8 +3,8 @@ use borrow.Author.Needs.{needs}
 use mathlib.Core.Path.{sym, _∙_}
 use Rattle.script.specs.Flat.{tableIn}
 use Rattle.script.specs.Table.{tableTest}
-use Rattle.script.specs.TableTests.Laws.{passed-none}
-use Rattle.text.specs.Output.Passed.{turned-down}
+use Rattle.script.specs.Code.TableTests.Laws.{passed-none}
+use Rattle.text.specs.Code.Output.Passed.{turned-down}
 use Rattle.text.proofs.writer.write.Statement.{statement}
 use Rattle.text.proofs.writer.write.Tie as tie
 

@@ -2,7 +2,7 @@
 use borrow.Author.Needs.{needs}
 use mathlib.Core.Path.{sym, _∙_}
 use Rattle.script.specs.Flat.{tableIn}
-use Rattle.text.specs.Output.Passed.{wrote, short}
+use Rattle.text.specs.Code.Output.Passed.{wrote, short}
 use Rattle.text.proofs.writer.write_passed.Statement.{statement}
 use Rattle.text.proofs.writer.write_passed.Tie as tie
 

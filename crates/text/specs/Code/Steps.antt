@@ -21,7 +21,7 @@ use Rattle.script.specs.declared.Script.{Script}
 use Rattle.text.specs.Grammar as Grammar
 use Rattle.text.specs.Grammar.{Line, Meaning, goOn, stop, admit, lineOf}
 use Rattle.text.specs.Reading.{answerOf, nodesRead, entriesRead}
-use Rattle.text.specs.Scan.{lineIn, lineEnds}
+use Rattle.text.specs.Code.Scan.{lineIn, lineEnds}
 use Rattle.text.specs.declared.reader.Step.{Step}
 pub mod Clearing
 pub mod Laws

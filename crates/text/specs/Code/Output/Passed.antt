@@ -16,14 +16,14 @@ use Rattle.script.specs.Flat.Laws.{length-nodesIn}
 use Rattle.script.specs.Rows.Laws.{row-kind}
 use Rattle.script.specs.Table.{Table, nodesOf, entriesOf, nodeAt, unused, tableTest}
 use Rattle.script.specs.Table.Laws.{passes, formed-at}
-use Rattle.script.specs.TableTests.{testedBy}
-use Rattle.script.specs.TableTests.Laws.{refused-some}
+use Rattle.script.specs.Code.TableTests.{testedBy}
+use Rattle.script.specs.Code.TableTests.Laws.{refused-some}
 use Rattle.script.specs.declared.Refusal.{Refusal}
 use Rattle.script.specs.declared.Refusal.the-variants.{OutputTooShort}
 use Rattle.script.specs.declared.Writing.{Writing}
 use Rattle.script.specs.declared.table.Tested.{Tested}
-use Rattle.text.specs.Output.{Put, textIn, outcome}
-use Rattle.text.specs.Output.Laws.{put-then, put-text}
+use Rattle.text.specs.Code.Output.{Put, textIn, outcome}
+use Rattle.text.specs.Code.Output.Laws.{put-then, put-text}
 use Rattle.text.specs.SameTable.{text-most}
 use Rattle.text.specs.Writing.{textOf, entriesText, nodesText, writing}
 

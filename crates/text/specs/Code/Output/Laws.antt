@@ -8,7 +8,7 @@ use native.Mathlib.Numerals.{add-one}
 use native.Mathlib.Omega.{arith}
 use lib.ListN.{length, getD, drop, set, length-append}
 use lib.Seq.{sets, sets-eq, length-sets, drop-cons}
-use Rattle.text.specs.Output.{Put}
+use Rattle.text.specs.Code.Output.{Put}
 
 sets-append : (out : List ℕ) (at : ℕ) (xs ys : List ℕ) → sets out at (xs ++ ys) ≡ sets (sets out at xs) (at + length xs) ys
 sets-append out at [] ys = rw (add-zero at) refl

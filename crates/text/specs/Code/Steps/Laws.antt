@@ -25,8 +25,8 @@ use Rattle.script.specs.declared.Script.{Script}
 use Rattle.text.specs.Bytes.{lf}
 use Rattle.text.specs.Grammar.{Line, entryLine, nodeLine, Meaning, refused, goOn, stop, admit, after, lineOf, linesFrom, parts, onFirst}
 use Rattle.text.specs.SameTable.Text.{parts-some, lines-next}
-use Rattle.text.specs.Scan.{lineIn, lineEnds, located, lineAt}
-use Rattle.text.specs.Steps.{nodesBy, entriesBy, Kept, Framed, entryStep, entryStored, nodeStep, nodeStored, lineHere, stepOf, GoesTo, goes-next, Took}
+use Rattle.text.specs.Code.Scan.{lineIn, lineEnds, located, lineAt}
+use Rattle.text.specs.Code.Steps.{nodesBy, entriesBy, Kept, Framed, entryStep, entryStored, nodeStep, nodeStored, lineHere, stepOf, GoesTo, goes-next, Took}
 use Rattle.text.specs.declared.lines.Scanned.{Scanned}
 use Rattle.text.specs.declared.reader.Step.{Step}
 

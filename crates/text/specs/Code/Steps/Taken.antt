@@ -23,9 +23,9 @@ use Rattle.script.specs.declared.Refusal.the-variants.{BadLine, TooManyAt, BadO
 use Rattle.script.specs.declared.Script.{Script}
 use Rattle.script.specs.declared.Sized.{Sized}
 use Rattle.text.specs.Grammar.{Line, entryLine, nodeLine, goOn, stop, admit, lineOf}
-use Rattle.text.specs.Scan.{lineIn, lineEnds, located, lineAt}
-use Rattle.text.specs.Steps.{nodesBy, entriesBy, Kept, Framed, entryStep, entryStored, nodeStep, nodeStored, lineHere, stepOf, GoesTo, goes-next, refused, Took}
-use Rattle.text.specs.Steps.Laws.{line-within}
+use Rattle.text.specs.Code.Scan.{lineIn, lineEnds, located, lineAt}
+use Rattle.text.specs.Code.Steps.{nodesBy, entriesBy, Kept, Framed, entryStep, entryStored, nodeStep, nodeStored, lineHere, stepOf, GoesTo, goes-next, refused, Took}
+use Rattle.text.specs.Code.Steps.Laws.{line-within}
 use Rattle.text.specs.declared.lines.Scanned.{Scanned}
 use Rattle.text.specs.declared.reader.Step.{Step}
 

@@ -22,10 +22,10 @@ use Rattle.text.specs.Bytes.{lf}
 use Rattle.text.specs.Grammar as Grammar
 use Rattle.text.specs.Grammar.{Meaning, means, goOn, stop, admit, after, unless, atEnd, linesFrom, parts}
 use Rattle.text.specs.Reading.{answerOf, nodesRead, entriesRead}
-use Rattle.text.specs.Scan.{lineIn}
-use Rattle.text.specs.Steps.{nodesBy, entriesBy, Kept, Framed, lineHere, stepOf, GoesTo, goes-next, Took, endedBy, Holds}
-use Rattle.text.specs.Steps.Laws.{text-step}
-use Rattle.text.specs.Steps.Taken.{same-frame, frames, nodes-length, entries-length}
+use Rattle.text.specs.Code.Scan.{lineIn}
+use Rattle.text.specs.Code.Steps.{nodesBy, entriesBy, Kept, Framed, lineHere, stepOf, GoesTo, goes-next, Took, endedBy, Holds}
+use Rattle.text.specs.Code.Steps.Laws.{text-step}
+use Rattle.text.specs.Code.Steps.Taken.{same-frame, frames, nodes-length, entries-length}
 use Rattle.text.specs.declared.reader.Step.{Step}
 
 -- before line i, which starts at `at`: what the rest means after the entries and nodes so far, the text means

@@ -15,7 +15,7 @@ use Rattle.script.specs.Tests.Laws.{true-or-false}
 use Rattle.text.specs.Bytes.{lf, tab}
 use Rattle.text.specs.Fields.{given, isDigit, decimal, valueAfter, numberUpTo, lastLetter, typeAfter, typeUpTo}
 use Rattle.text.specs.Grammar.{parts}
-use Rattle.text.specs.Scan.{endsField, startsWith, fieldIn, fieldEnds, lineIn, lineEnds, fieldsAfter, numberAfter, saidBy}
+use Rattle.text.specs.Code.Scan.{endsField, startsWith, fieldIn, fieldEnds, lineIn, lineEnds, fieldsAfter, numberAfter, saidBy}
 use Rattle.text.specs.declared.fields.Said.{Said}
 
 -- ---- fields

@@ -12,8 +12,8 @@ use Rattle.script.specs.Flat.Laws.{length-nodesIn}
 use Rattle.script.specs.Limits.{nodeLimit, entryLimit, typeLimit, sizeOf, pickSized, countsFit, scriptOf}
 use Rattle.script.specs.Rows.Laws.{same-anywhere}
 use Rattle.script.specs.Table.{Table, nodesOf, entriesOf, wellFormed, nodesTest, tableTest}
-use Rattle.script.specs.TableTests.{testedBy, Lent, FormedNodes, Zeros, operandsTest, usedTest}
-use Rattle.script.specs.TableTests.Laws.{lent-length, passed-none}
+use Rattle.script.specs.Code.TableTests.{testedBy, Lent, FormedNodes, Zeros, operandsTest, usedTest}
+use Rattle.script.specs.Code.TableTests.Laws.{lent-length, passed-none}
 use Rattle.script.specs.Tests.{all}
 use Rattle.script.specs.Tests.Laws.{both-true, lowest-none, needNone-none}
 use Rattle.script.specs.declared.Refusal.the-variants.{TableTooSmall, TooMany, NoNode, BadTypeCode, BadOperand}

@@ -18,8 +18,8 @@ use Rattle.script.specs.Tests.Laws.{true-or-false, both-ways}
 use Rattle.text.specs.Bytes.{lf, tab, entryWord}
 use Rattle.text.specs.Fields.{numberUpTo, typeOf, sameBytes, kindOf}
 use Rattle.text.specs.Grammar.{Line, nodeLine, parts, onFirst, onNumbers, numbersUpTo, nodeWith, nodeBy, nodeFrom, entryWith, entryFrom, lineFrom, lineOf, upTo}
-use Rattle.text.specs.Scan.{startsWith, endsField, fieldIn, fieldEnds, lineIn, lineEnds, fieldsAfter, operandBy, operandAt, located, lineAt, entryAfter, nodeAfter, largestBy}
-use Rattle.text.specs.Scan.Laws.{field-ends, field-most}
+use Rattle.text.specs.Code.Scan.{startsWith, endsField, fieldIn, fieldEnds, lineIn, lineEnds, fieldsAfter, operandBy, operandAt, located, lineAt, entryAfter, nodeAfter, largestBy}
+use Rattle.text.specs.Code.Scan.Laws.{field-ends, field-most}
 use Rattle.text.specs.declared.lines.Operand.{Operand}
 use Rattle.text.specs.declared.lines.Scanned.{Scanned}
 

@@ -9,8 +9,8 @@ use Rattle.script.specs.Flat.{nodesIn}
 use Rattle.script.specs.Flat.Laws.{length-nodesIn, nodesIn-sets}
 use Rattle.script.specs.Table.{unused}
 use Rattle.script.specs.declared.Node.{Node}
-use Rattle.text.specs.Steps.{Cleared}
-use Rattle.text.specs.Steps.Taken.{drop-sets}
+use Rattle.text.specs.Code.Steps.{Cleared}
+use Rattle.text.specs.Code.Steps.Taken.{drop-sets}
 
 -- ---- a list of anything
 

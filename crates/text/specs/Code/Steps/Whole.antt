@@ -2,7 +2,7 @@
 use mathlib.Core.Bool.{Bool, true, false, _&&_}
 use mathlib.Core.List.{List, [], _∷_, _++_}
 use mathlib.Core.Path.{_≡_, refl, sym, ap, _∙_}
-use Prim.Native.Nat.{ℕ, _-_, _*_, _≤_, _<_}
+use Prim.Native.Nat.{ℕ, _-_, _*_, _/_, _≤_, _<_}
 use native.Mathlib.Omega.{arith}
 use lib.Dec.{leb}
 use lib.ListN.{length, take, drop, replicate, length-append, length-replicate, take-append-drop}
@@ -20,8 +20,8 @@ use Rattle.script.specs.declared.Refusal.the-variants.{TextTooLong, TableTooSma
 use Rattle.text.specs.Bytes.{lf}
 use Rattle.text.specs.Grammar.{Meaning, refused, linesFrom, parts, meaningOf}
 use Rattle.text.specs.Reading.{nodesRead, entriesRead, filled, tried, reading, leaves, readingIn}
-use Rattle.text.specs.Steps.{Framed, usedNodes, usedEntries, Holds, Cleared}
-use Rattle.text.specs.Steps.Taken.{same-frame}
+use Rattle.text.specs.Code.Steps.{Framed, usedNodes, usedEntries, Holds, Cleared}
+use Rattle.text.specs.Code.Steps.Taken.{same-frame}
 
 -- ---- 32 and 31
 
@@ -33,12 +33,12 @@ module _ (text xs es : List ℕ) where
   abbrev triedIn : Meaning
   triedIn = tried text (length (nodesIn xs)) (length es)
 
-  pub few-nodes : length xs < 4 * nodeLimit → triedIn ≡ refused TableTooSmall
+  pub few-nodes : length xs / 4 < nodeLimit → triedIn ≡ refused TableTooSmall
   few-nodes h =
       let l = length-nodesIn xs in
       rw (lt-leb nodeLimit (length (nodesIn xs)) (omega arith)) refl
 
-  module _ (h : 4 * nodeLimit ≤ length xs) where
+  module _ (h : nodeLimit ≤ length xs / 4) where
     enough-nodes : leb nodeLimit (length (nodesIn xs)) ≡ true
     enough-nodes = let l = length-nodesIn xs in le-leb nodeLimit (length (nodesIn xs)) (omega arith)
 

@@ -11,7 +11,7 @@ use borrow.Author.Tests.{leb-true}
 use Rattle.script.specs.Limits.{wordLimit}
 use Rattle.script.specs.Rows.{Row, rows, rowOf}
 use Rattle.text.specs.Bytes.{digit0, letter-r}
-use Rattle.text.specs.Output.{wordBy, wordOf}
+use Rattle.text.specs.Code.Output.{wordBy, wordOf}
 use Rattle.text.specs.SameTable.Numbers.{Below, oneDigit, moreDigits, below-tens, digits-one, digits-more}
 use Rattle.text.specs.Writing.{digitsIn, digits, typeText}
 

@@ -13,7 +13,7 @@ use Rattle.script.specs.Table.{nodeAt, unused}
 use Rattle.script.specs.Tests.Laws.{some-not-none}
 use Rattle.script.specs.declared.Node.{Node}
 use Rattle.text.specs.Bytes.{lf, tab}
-use Rattle.text.specs.Output.{wordBy, wordOf, operandIf}
+use Rattle.text.specs.Code.Output.{wordBy, wordOf, operandIf}
 use Rattle.text.specs.SameTable.Words.{row-most}
 use Rattle.text.specs.Writing.{digits, operandsText, entryText, nodeTextBy, nodeText, entriesText, nodesText}
 
