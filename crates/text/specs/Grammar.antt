@@ -1,6 +1,5 @@
 -- What a text means (document 01, 'Script text' and 'Turned down'): a script's entries and nodes, or the refusal that it meets first, in the order 31;
 -- 1, 2, 4 line by line; 3, 5, 13. Assumes nothing.
-use mathlib.Core.Bool.{Bool, true, false}
 use mathlib.Core.List.{List, [], _∷_, _++_}
 use mathlib.Core.Option.{Option, none, some}
 use Prim.Native.Nat.{ℕ, suc, pred}
@@ -8,7 +7,7 @@ use lib.Dec.{leb, ltb, eqb}
 use lib.ListN.{length}
 use Rattle.script.specs.Flat.{nodeOf}
 use Rattle.script.specs.Limits.{nodeLimit, entryLimit, byteLimit}
-use Rattle.script.specs.Rows.{Row, Form, rowOf}
+use Rattle.script.specs.Rows.{Row, rowOf}
 use Rattle.script.specs.Rows as Rows
 use Rattle.script.specs.Table.{rightNode, treeTest}
 use Rattle.script.specs.Tests.{pick, need}

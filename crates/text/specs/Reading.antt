@@ -2,7 +2,7 @@
 -- refused reading leaves `false` in every place of the table and 0 in every entry, and after success the unused places hold the same.
 -- Assumes nothing.
 use mathlib.Core.Bool.{_&&_}
-use mathlib.Core.List.{List, [], _∷_, _++_}
+use mathlib.Core.List.{List, [], _++_}
 use Prim.Native.Nat.{ℕ, _*_, _-_}
 use lib.Dec.{leb}
 use lib.ListN.{length, drop, replicate}

@@ -2,7 +2,7 @@
 ghost use mathlib.Core.Path.{_≡_};
 ghost use Prim.Native.Nat.{_+_, _≤_};
 ghost use lib.ListN.{length, drop};
-ghost use mathlib.Core.List.{List, []};
+ghost use mathlib.Core.List.{[]};
 ghost use Rattle.script.specs.Limits.{typeLimit};
 ghost use Rattle.text.specs.Fields.{numberUpTo, typeOf, typeUpTo, lastLetter};
 ghost use Rattle.text.specs.Code.Scan.{endsField, fieldIn, startsWith, numberAfter, saidBy};

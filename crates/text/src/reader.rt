@@ -1,9 +1,9 @@
 // The reader: from a text to a lent table in flat form and a lent list of entries.
-ghost use mathlib.Core.List.{List, [], _++_};
+ghost use mathlib.Core.List.{[], _++_};
 ghost use mathlib.Core.Path.{_≡_};
 ghost use Prim.Native.Nat.{_-_, _*_, _≤_};
 ghost use lib.Dec.{ltb};
-ghost use lib.ListN.{length, take, drop, replicate};
+ghost use lib.ListN.{length, take, replicate};
 ghost use Rattle.script.specs.Flat.{nodesIn};
 ghost use Rattle.script.specs.Limits.{nodeLimit, entryLimit, byteLimit};
 ghost use Rattle.script.specs.Table.{treeTest};

@@ -1,6 +1,6 @@
 -- The reader's state from line to line, for the contracts of its parts: the used places of the lent table and entries are the nodes and entries so far.
 -- Nothing here has to be believed: the laws tie it to the grammar. Assumes nothing.
-use mathlib.Core.Bool.{Bool, true, false, _&&_}
+use mathlib.Core.Bool.{true}
 use mathlib.Core.List.{List, [], _∷_, _++_}
 use mathlib.Core.Option.{Option, none, some}
 use mathlib.Core.Path.{_≡_}

@@ -1,21 +1,13 @@
 -- Two byte strings compared one byte at a time. Assumes nothing.
 use mathlib.Core.Bool.{Bool, true, false, _&&_}
 use mathlib.Core.List.{List, [], _∷_}
-use mathlib.Core.Option.{Option, none, some}
-use mathlib.Core.Path.{_≡_, refl, sym, ap, _∙_}
-use Prim.Native.Nat.{ℕ, zero, suc, _+_, _*_, _-_, _≤_, _<_}
-use native.Mathlib.Decide.{ℕ-discrete}
-use native.Mathlib.Numerals.{add-one}
-use native.Mathlib.Omega.{arith}
-use lib.Dec.{leb, eqb}
+use mathlib.Core.Path.{_≡_, refl, ap}
+use Prim.Native.Nat.{ℕ, suc, _-_, _<_}
+use lib.Dec.{eqb}
 use lib.ListN.{length, drop, getD}
 use lib.Seq.{drop-cons, drop-length}
-use borrow.Author.Tests.{leb-true, eqb-true, eq-eqb, ne-eqb}
-use Rattle.script.specs.Rows.{Row, rows, rowOf}
-use Rattle.script.specs.Tests.{lowestFrom}
-use Rattle.script.specs.Tests.Laws.{both-true, true-or-false, lowestFrom-here, lowestFrom-next, lowestFrom-zero, lowest-some}
-use Rattle.text.specs.Fields.{sameBytes, wordIs, kindOf}
-use Rattle.text.specs.Code.Output.{wordBy, wordOf}
+use borrow.Author.Tests.{eq-eqb, ne-eqb}
+use Rattle.text.specs.Fields.{sameBytes}
 
 -- ---- byte strings
 

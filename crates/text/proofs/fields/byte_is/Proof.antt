@@ -5,8 +5,6 @@ use native.Mathlib.Omega.{arith}
 use Rattle.text.specs.Code.Scan.Laws.{starts-at, starts-past}
 use Rattle.text.proofs.fields.byte_is.Statement.{statement}
 use Rattle.text.proofs.fields.byte_is.Tie as tie
-use Rattle.text.proofs.fields.byte_is.Reads as reads
-use Rattle.text.proofs.fields.byte_is.Lts as lts
 
 returns : tie.Need-returns
 returns c = let a = c .before .before .args in sym (starts-at (a .b) (a .text .now) (a .at) (omega arith))

@@ -12,8 +12,6 @@ use Rattle.text.specs.Code.Scan.{numberAfter, saidBy}
 use Rattle.text.specs.Code.Scan.Laws.{number-low, number-high, number-digit, number-above, number-end}
 use Rattle.text.proofs.fields.digits.Statement.{statement}
 use Rattle.text.proofs.fields.digits.Tie as tie
-use Rattle.text.proofs.fields.digits.Reads as reads
-use Rattle.text.proofs.fields.digits.Lts as lts
 
 abbrev Inv-loop : tie.InvT-loop
 Inv-loop f limit n₀ i₀ n i = (i ≤ length f) × (n ≤ limit) × (numberAfter limit n (drop i f) ≡ numberAfter limit 0 f)

@@ -5,8 +5,6 @@ use lib.ListN.{length-drop, drop}
 use Rattle.text.specs.Code.Scan.Laws.{field-most, field-part}
 use Rattle.text.proofs.fields.field.Statement.{statement}
 use Rattle.text.proofs.fields.field.Tie as tie
-use Rattle.text.proofs.fields.field.Reads as reads
-use Rattle.text.proofs.fields.field.Lts as lts
 
 part-result-end : tie.Need-part-result-end
 part-result-end c =

@@ -10,8 +10,6 @@ use Rattle.text.specs.Code.Scan.{fieldIn}
 use Rattle.text.specs.Code.Scan.Laws.{field-here, field-next, field-last}
 use Rattle.text.proofs.fields.field_end.Statement.{statement}
 use Rattle.text.proofs.fields.field_end.Tie as tie
-use Rattle.text.proofs.fields.field_end.Reads as reads
-use Rattle.text.proofs.fields.field_end.Lts as lts
 
 abbrev Inv-loop : tie.InvT-loop
 Inv-loop text from e₀ e = (e ≤ length text) × (e + length (fieldIn (drop e text)) ≡ from + length (fieldIn (drop from text)))

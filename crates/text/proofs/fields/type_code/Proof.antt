@@ -6,14 +6,12 @@ use mathlib.Core.Path.{_≡_, refl, sym, ap, _∙_}
 use Prim.Native.Nat.{suc, _≤_, _+_, _-_, _*_}
 use native.Mathlib.Numerals.{add-one}
 use native.Mathlib.Omega.{arith}
-use lib.ListN.{length, drop, getD}
+use lib.ListN.{length, drop}
 use lib.Seq.{drop-length}
 use Rattle.script.specs.Limits.{typeLimit}
 use Rattle.text.specs.Fields.{typeAfter, typeUpTo, typeOf}
 use Rattle.text.specs.Code.Scan.{saidBy}
 use Rattle.text.specs.Code.Scan.Laws.{type-above, type-more, type-last, type-long, type-end}
-use Rattle.text.proofs.fields.type_code.Reads as reads
-use Rattle.text.proofs.fields.type_code.Lts as lts
 use Rattle.text.proofs.fields.type_code.Statement.{statement}
 use Rattle.text.proofs.fields.type_code.Tie as tie
 

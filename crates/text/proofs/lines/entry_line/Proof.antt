@@ -1,19 +1,15 @@
 -- `text::lines::entry_line` meets its contract. Assumes nothing.
 use borrow.Author.Needs.{needs}
 use borrow.Author.Tests.{not-true, not-false}
-use mathlib.Core.Bool.{true, false}
-use mathlib.Core.Path.{_≡_, refl, sym, ap, _∙_}
+use mathlib.Core.Path.{refl, sym, _∙_}
 use Prim.Native.Nat.{_+_}
 use native.Mathlib.Omega.{arith}
 use lib.ListN.{length, drop}
 use Rattle.text.specs.Fields.{typeOf}
-use Rattle.text.specs.Code.Scan.{startsWith, fieldIn}
 use Rattle.text.specs.Code.Scan.Laws.{said-number, said-nothing}
-use Rattle.text.specs.Code.Scan.Lines.{entry-no-tab, entry-lf, entry-no-lf, starts-within, then-most}
+use Rattle.text.specs.Code.Scan.Lines.{entry-no-tab, entry-lf, entry-no-lf, starts-within}
 use Rattle.text.proofs.lines.entry_line.Statement.{statement}
 use Rattle.text.proofs.lines.entry_line.Tie as tie
-use Rattle.text.proofs.lines.entry_line.Reads as reads
-use Rattle.text.proofs.lines.entry_line.Lts as lts
 
 returns : tie.Need-returns
 returns c =

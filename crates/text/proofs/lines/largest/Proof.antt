@@ -4,8 +4,6 @@ use mathlib.Core.Path.{sym, _∙_}
 use Rattle.text.specs.Code.Scan.Nodes.{largest-number, largest-node}
 use Rattle.text.proofs.lines.largest.Statement.{statement}
 use Rattle.text.proofs.lines.largest.Tie as tie
-use Rattle.text.proofs.lines.largest.Reads as reads
-use Rattle.text.proofs.lines.largest.Lts as lts
 
 returns : tie.Need-returns
 returns c = let k = c .before .before .before .before .args .kind in sym (largest-number k (c .before .limit .given .0 .0) (sym (c .before .before .before .kind-takes .ensures) ∙ c .before .limit .given .1))

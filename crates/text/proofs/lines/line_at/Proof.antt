@@ -1,19 +1,14 @@
 -- `text::lines::line_at` meets its contract. Assumes nothing.
 use borrow.Author.Needs.{needs}
-use mathlib.Core.Bool.{true, false}
-use mathlib.Core.Path.{_≡_, refl, sym, ap, _∙_}
-use Prim.Native.Nat.{_+_, _≤_}
+use mathlib.Core.Path.{sym, ap, _∙_}
 use native.Mathlib.Omega.{arith}
-use lib.ListN.{length, drop}
+use lib.ListN.{length}
 use Rattle.text.specs.Fields.{kindOf}
 use Rattle.text.specs.Fields.Words.{kind-below}
-use Rattle.text.specs.Code.Scan.{fieldIn}
 use Rattle.text.specs.Code.Scan.Laws.{said-number, said-nothing}
 use Rattle.text.specs.Code.Scan.Lines.{line-entry, line-node, line-none, word-most, word-ends}
 use Rattle.text.proofs.lines.line_at.Statement.{statement}
 use Rattle.text.proofs.lines.line_at.Tie as tie
-use Rattle.text.proofs.lines.line_at.Reads as reads
-use Rattle.text.proofs.lines.line_at.Lts as lts
 
 add-end : tie.Need-add-end
 add-end c =

@@ -1,18 +1,13 @@
 -- `text::lines::node_line` meets its contract. Each operand goes on from where the one before it ended. Assumes nothing.
 use borrow.Author.Needs.{needs}
 use borrow.Author.Tests.{not-true, not-false}
-use mathlib.Core.List.{[]}
-use mathlib.Core.Path.{_≡_, sym, ap, _∙_}
-use Prim.Native.Nat.{_+_, _≤_}
-use native.Mathlib.Omega.{arith}
-use lib.ListN.{length, drop}
+use mathlib.Core.Path.{sym, _∙_}
+use Prim.Native.Nat.{_≤_}
 use Rattle.script.specs.Rows.Laws.{operands-most}
 use Rattle.text.specs.Code.Scan.Lines.{starts-within}
 use Rattle.text.specs.Code.Scan.Nodes.{node-made, reach-start, reach-next, reach-unwanted, reach-bad, reach-lf, reach-no-lf}
 use Rattle.text.proofs.lines.node_line.Statement.{statement}
 use Rattle.text.proofs.lines.node_line.Tie as tie
-use Rattle.text.proofs.lines.node_line.Reads as reads
-use Rattle.text.proofs.lines.node_line.Lts as lts
 
 returns : tie.Need-returns
 returns c =

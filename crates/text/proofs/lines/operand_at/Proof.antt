@@ -1,19 +1,14 @@
 -- `text::lines::operand_at` meets its contract. Assumes nothing.
 use borrow.Author.Needs.{needs}
 use borrow.Author.Tests.{not-true, not-false}
-use mathlib.Core.Bool.{true, false}
-use mathlib.Core.Path.{_≡_, refl, sym, ap, _∙_}
-use Prim.Native.Nat.{_+_}
+use mathlib.Core.Path.{refl, sym, _∙_}
 use native.Mathlib.Omega.{arith}
-use lib.ListN.{length, drop}
+use lib.ListN.{drop}
 use Rattle.text.specs.Fields.{numberUpTo}
-use Rattle.text.specs.Code.Scan.{startsWith, fieldIn, operandBy}
 use Rattle.text.specs.Code.Scan.Laws.{said-number, said-nothing}
-use Rattle.text.specs.Code.Scan.Lines.{operand-no-tab, operand-tab, starts-within, then-most}
+use Rattle.text.specs.Code.Scan.Lines.{operand-no-tab, operand-tab, starts-within}
 use Rattle.text.proofs.lines.operand_at.Statement.{statement}
 use Rattle.text.proofs.lines.operand_at.Tie as tie
-use Rattle.text.proofs.lines.operand_at.Reads as reads
-use Rattle.text.proofs.lines.operand_at.Lts as lts
 
 returns : tie.Need-returns
 returns c = rw (not-true (c .before .before .args .wanted) (c .if1 .taken)) refl

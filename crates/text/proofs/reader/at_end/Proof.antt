@@ -1,6 +1,6 @@
 -- `text::reader::at_end` meets its contract. Assumes nothing.
 use borrow.Author.Needs.{needs}
-use mathlib.Core.Path.{_≡_, refl, sym, ap, _∙_}
+use mathlib.Core.Path.{refl, sym, _∙_}
 use native.Mathlib.Omega.{arith}
 use borrow.Author.Tests.{lt-ltb, le-ltb}
 use lib.ListN.{take}
@@ -9,8 +9,6 @@ use Rattle.script.specs.Table.{treeTest}
 use Rattle.script.specs.Code.TableTests.Laws.{passed-none, refused-some}
 use Rattle.text.proofs.reader.at_end.Statement.{statement}
 use Rattle.text.proofs.reader.at_end.Tie as tie
-use Rattle.text.proofs.reader.at_end.Reads as reads
-use Rattle.text.proofs.reader.at_end.Lts as lts
 
 returns : tie.Need-returns
 returns c = simp (le-ltb 0 (c .before .before .args .script .nodes) (omega arith))

@@ -1,6 +1,6 @@
 -- `text::reader::clear_entries` meets its contract. Assumes nothing.
 use borrow.Author.Needs.{needs}
-use mathlib.Core.Path.{_≡_, refl, sym, ap, _∙_}
+use mathlib.Core.Path.{_≡_, refl, sym, _∙_}
 use Prim.Native.Nat.{_-_, _≤_}
 use native.Mathlib.Omega.{arith}
 use native.Mathlib.Numerals.{add-one}
@@ -8,8 +8,6 @@ use lib.ListN.{length, length-set}
 use Rattle.text.specs.Code.Steps.Clearing.{filledTo, fill-start, fill-next, fill-end}
 use Rattle.text.proofs.reader.clear_entries.Statement.{statement}
 use Rattle.text.proofs.reader.clear_entries.Tie as tie
-use Rattle.text.proofs.reader.clear_entries.Reads as reads
-use Rattle.text.proofs.reader.clear_entries.Lts as lts
 
 abbrev Inv-loop : tie.InvT-loop
 Inv-loop entries₀ from i₀ entries i = (from ≤ i) × (i ≤ length entries₀) × (length entries ≡ length entries₀) × (entries ≡ filledTo 0 entries₀ from i)

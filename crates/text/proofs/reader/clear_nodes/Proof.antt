@@ -1,6 +1,5 @@
 -- `text::reader::clear_nodes` meets its contract. Assumes nothing.
 use borrow.Author.Needs.{needs}
-use mathlib.Core.Path.{_≡_, refl, sym, ap, _∙_}
 use Prim.Native.Nat.{_-_, _/_}
 use native.Mathlib.Omega.{arith}
 use native.Mathlib.Numerals.{add-one}
@@ -9,8 +8,6 @@ use Rattle.script.specs.Flat.Laws.{length-nodesIn}
 use Rattle.text.specs.Code.Steps.Clearing.{Clearing, clear-start, clear-room, clear-next, clear-end}
 use Rattle.text.proofs.reader.clear_nodes.Statement.{statement}
 use Rattle.text.proofs.reader.clear_nodes.Tie as tie
-use Rattle.text.proofs.reader.clear_nodes.Reads as reads
-use Rattle.text.proofs.reader.clear_nodes.Lts as lts
 
 abbrev Inv-loop : tie.InvT-loop
 Inv-loop table₀ from n i₀ table i = Clearing from table₀ table i

@@ -1,13 +1,10 @@
 -- `text::reader::read` meets its contract. Assumes nothing.
 use borrow.Author.Needs.{needs}
-use mathlib.Core.Path.{_≡_, refl, sym, ap, _∙_}
-use native.Mathlib.Omega.{arith}
+use mathlib.Core.Path.{ap, _∙_}
 use lib.ListN.{length}
 use Rattle.text.specs.Code.Steps.Whole.{left-so, length-filled}
 use Rattle.text.proofs.reader.read.Statement.{statement}
 use Rattle.text.proofs.reader.read.Tie as tie
-use Rattle.text.proofs.reader.read.Reads as reads
-use Rattle.text.proofs.reader.read.Lts as lts
 
 clear-nodes-requires : tie.Need-clear-nodes-requires
 clear-nodes-requires c κs = let h = rw (c .before .before .script .given .1) at (c .before .before .before .before .before .before .before .before .read-text .ensures) in h .nodes-room

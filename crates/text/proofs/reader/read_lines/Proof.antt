@@ -1,16 +1,13 @@
 -- `text::reader::read_lines` meets its contract. The loop's invariant is `Walked`; each line takes the place where the next one starts further. Assumes nothing.
 use borrow.Author.Needs.{needs}
-use mathlib.Core.Path.{_≡_, refl, sym, ap, _∙_}
+use mathlib.Core.Path.{_∙_}
 use Prim.Native.Nat.{_-_}
 use native.Mathlib.Omega.{arith}
 use native.Mathlib.Numerals.{add-one}
-use lib.ListN.{length, drop}
-use Rattle.text.specs.Code.Steps.{Took}
+use lib.ListN.{length}
 use Rattle.text.specs.Code.Steps.Walk.{Walked, walk-start, walk-on, walk-refused, walk-end}
 use Rattle.text.proofs.reader.read_lines.Statement.{statement}
 use Rattle.text.proofs.reader.read_lines.Tie as tie
-use Rattle.text.proofs.reader.read_lines.Reads as reads
-use Rattle.text.proofs.reader.read_lines.Lts as lts
 
 abbrev Inv-loop : tie.InvT-loop
 Inv-loop text table₀ entries₀ script₀ at₀ i₀ table entries script at i = Walked text table₀ entries₀ script table entries at i

@@ -1,15 +1,8 @@
 -- `text::reader::read_text` meets its contract. Assumes nothing.
 use borrow.Author.Needs.{needs}
-use mathlib.Core.Path.{_≡_, refl, sym, ap, _∙_}
-use native.Mathlib.Omega.{arith}
-use lib.ListN.{length}
-use Rattle.script.specs.Flat.{nodesIn}
-use Rattle.text.specs.Reading.{tried}
 use Rattle.text.specs.Code.Steps.Whole.{holds-refused, few-nodes, few-entries, too-long, not-too-long}
 use Rattle.text.proofs.reader.read_text.Statement.{statement}
 use Rattle.text.proofs.reader.read_text.Tie as tie
-use Rattle.text.proofs.reader.read_text.Reads as reads
-use Rattle.text.proofs.reader.read_text.Lts as lts
 
 returns : tie.Need-returns
 returns c =

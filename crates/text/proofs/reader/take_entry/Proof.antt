@@ -1,6 +1,6 @@
 -- `text::reader::take_entry` meets its contract. Assumes nothing.
 use borrow.Author.Needs.{needs}
-use mathlib.Core.Path.{_≡_, refl, sym, ap, _∙_}
+use mathlib.Core.Path.{refl, sym, _∙_}
 use borrow.Author.Tests.{eq-eqb, ne-eqb, ltb-true}
 use Prim.Native.Nat.{_+_}
 use native.Mathlib.Omega.{arith}
@@ -9,8 +9,6 @@ use Rattle.script.specs.Limits.{entryLimit, sizeOf}
 use Rattle.text.specs.Code.Steps.Taken.{sized-fits, sized-large}
 use Rattle.text.proofs.reader.take_entry.Statement.{statement}
 use Rattle.text.proofs.reader.take_entry.Tie as tie
-use Rattle.text.proofs.reader.take_entry.Reads as reads
-use Rattle.text.proofs.reader.take_entry.Lts as lts
 
 returns : tie.Need-returns
 returns c = let e = ne-eqb (c .before .before .before .args .script .nodes) 0 (c .if1 .taken) in (rw e refl, rw e refl)

@@ -1,14 +1,10 @@
 -- `text::reader::take_line` meets its contract. Assumes nothing.
 use borrow.Author.Needs.{needs}
-use mathlib.Core.Path.{_≡_, refl, sym, ap, _∙_}
-use native.Mathlib.Omega.{arith}
+use mathlib.Core.Path.{sym, ap, _∙_}
 use lib.ListN.{length, drop}
-use Rattle.text.specs.Code.Steps.{Took}
 use Rattle.text.specs.Code.Steps.Taken.{here-entry, here-node, here-bad, took-entry, took-node, took-bad}
 use Rattle.text.proofs.reader.take_line.Statement.{statement}
 use Rattle.text.proofs.reader.take_line.Tie as tie
-use Rattle.text.proofs.reader.take_line.Reads as reads
-use Rattle.text.proofs.reader.take_line.Lts as lts
 
 returns : tie.Need-returns
 returns c =

@@ -1,6 +1,6 @@
 -- `text::reader::take_node` meets its contract. Assumes nothing.
 use borrow.Author.Needs.{needs}
-use mathlib.Core.Path.{_≡_, refl, sym, ap, _∙_}
+use mathlib.Core.Path.{refl, sym, ap, _∙_}
 use borrow.Author.Tests.{not-true, not-false, ltb-true}
 use Prim.Native.Nat.{_+_}
 use native.Mathlib.Omega.{arith}
@@ -11,8 +11,6 @@ use Rattle.script.specs.Limits.{nodeLimit, sizeOf}
 use Rattle.text.specs.Code.Steps.Taken.{sized-fits, sized-large}
 use Rattle.text.proofs.reader.take_node.Statement.{statement}
 use Rattle.text.proofs.reader.take_node.Tie as tie
-use Rattle.text.proofs.reader.take_node.Reads as reads
-use Rattle.text.proofs.reader.take_node.Lts as lts
 
 returns : tie.Need-returns
 returns c =

@@ -1,15 +1,13 @@
 -- `text::words::kind_of` meets its contract. The loop's invariant: the lowest kind from k on whose word the field is, is the lowest. Assumes nothing.
 use borrow.Author.Needs.{needs}
-use mathlib.Core.Path.{_≡_, refl, sym, ap, _∙_}
-use Prim.Native.Nat.{_≤_, _+_, _-_, _*_}
+use mathlib.Core.Path.{_≡_, sym, ap, _∙_}
+use Prim.Native.Nat.{_≤_, _-_}
 use native.Mathlib.Omega.{arith}
-use Rattle.text.specs.Fields.{sameBytes, wordIs, kindOf}
+use Rattle.text.specs.Fields.{kindOf}
 use Rattle.text.specs.Fields.Words.{word-most, word-part, word-is, kindFrom, kind-start, kind-here, kind-next, kind-end}
 use Rattle.text.specs.Code.Scan.{saidBy}
 use Rattle.text.proofs.words.kind_of.Statement.{statement}
 use Rattle.text.proofs.words.kind_of.Tie as tie
-use Rattle.text.proofs.words.kind_of.Reads as reads
-use Rattle.text.proofs.words.kind_of.Lts as lts
 
 abbrev Inv-loop : tie.InvT-loop
 Inv-loop f words lengths k₀ k = (k ≤ 15) × (kindFrom f k ≡ kindOf f)

@@ -1,6 +1,6 @@
 -- `text::words::same` meets its contract. The loop's invariant: from i on the two are the same exactly if they are whole. Assumes nothing.
 use borrow.Author.Needs.{needs}
-use mathlib.Core.Path.{_≡_, refl, sym, ap, _∙_}
+use mathlib.Core.Path.{_≡_, refl, sym, _∙_}
 use Prim.Native.Nat.{_≤_, _-_}
 use native.Mathlib.Numerals.{add-one}
 use native.Mathlib.Omega.{arith}
@@ -9,8 +9,6 @@ use Rattle.text.specs.Fields.{sameBytes}
 use Rattle.text.specs.Fields.Laws.{same-lengths, same-differ, same-next, same-end}
 use Rattle.text.proofs.words.same.Statement.{statement}
 use Rattle.text.proofs.words.same.Tie as tie
-use Rattle.text.proofs.words.same.Reads as reads
-use Rattle.text.proofs.words.same.Lts as lts
 
 abbrev Inv-loop : tie.InvT-loop
 Inv-loop a b i₀ i = (i ≤ length a) × (sameBytes (drop i a) (drop i b) ≡ sameBytes a b)

@@ -1,17 +1,10 @@
 -- The fields that the writer stores, as the code makes them: a number by its tens and its last digit, a type by its first letter. Assumes nothing.
-use mathlib.Core.Bool.{true}
-use mathlib.Core.List.{List, [], _∷_, _++_}
-use mathlib.Core.Path.{_≡_, refl, sym, ap, _∙_}
-use Prim.Native.Nat.{ℕ, zero, suc, _+_, _*_, _-_, _/_, _%_, _≤_, _<_}
+use mathlib.Core.List.{[], _∷_, _++_}
+use mathlib.Core.Path.{_≡_, refl, sym, _∙_}
+use Prim.Native.Nat.{ℕ, zero, suc, _+_, _-_, _/_, _%_, _≤_, _<_}
 use native.Mathlib.Omega.{arith}
-use lib.Dec.{leb}
-use lib.ListN.{getD, getElem?, take, drop}
-use lib.Seq.{drop-drop}
-use borrow.Author.Tests.{leb-true}
 use Rattle.script.specs.Limits.{wordLimit}
-use Rattle.script.specs.Rows.{Row, rows, rowOf}
 use Rattle.text.specs.Bytes.{digit0, letter-r}
-use Rattle.text.specs.Code.Output.{wordBy, wordOf}
 use Rattle.text.specs.SameTable.Numbers.{Below, oneDigit, moreDigits, below-tens, digits-one, digits-more}
 use Rattle.text.specs.Writing.{digitsIn, digits, typeText}
 

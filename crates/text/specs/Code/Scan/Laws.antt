@@ -1,21 +1,18 @@
 -- How a text is walked: a field and a line one byte at a time, and how the rest of a line goes on after a field. Assumes nothing.
-use mathlib.Core.Bool.{Bool, true, false, _&&_, _||_}
-use mathlib.Core.List.{List, [], _∷_, _++_}
+use mathlib.Core.Bool.{Bool, true, false, _&&_}
+use mathlib.Core.List.{List, [], _∷_}
 use mathlib.Core.Option.{Option, none, some}
-use mathlib.Core.Path.{_≡_, refl, sym, ap, _∙_}
-use Prim.Native.Nat.{ℕ, zero, suc, _+_, _-_, _*_, _≤_, _<_}
+use mathlib.Core.Path.{_≡_, refl, ap}
+use Prim.Native.Nat.{ℕ, suc, _+_, _-_, _*_, _≤_, _<_}
 use native.Mathlib.Omega.{arith}
 use lib.Dec.{leb, eqb}
 use lib.ListN.{length, take, drop, getD, drop-of-length-le}
-use lib.Seq.{drop-cons, drop-drop, drop-length}
+use lib.Seq.{drop-cons, drop-length}
 use borrow.Author.Tests.{le-leb, lt-leb, eq-eqb, ne-eqb}
 use Rattle.script.specs.Limits.{typeLimit}
 use Rattle.script.specs.Tests.{pick, all}
-use Rattle.script.specs.Tests.Laws.{true-or-false}
-use Rattle.text.specs.Bytes.{lf, tab}
-use Rattle.text.specs.Fields.{given, isDigit, decimal, valueAfter, numberUpTo, lastLetter, typeAfter, typeUpTo}
-use Rattle.text.specs.Grammar.{parts}
-use Rattle.text.specs.Code.Scan.{endsField, startsWith, fieldIn, fieldEnds, lineIn, lineEnds, fieldsAfter, numberAfter, saidBy}
+use Rattle.text.specs.Fields.{given, isDigit, valueAfter, numberUpTo, lastLetter, typeAfter, typeUpTo}
+use Rattle.text.specs.Code.Scan.{endsField, startsWith, fieldIn, fieldEnds, numberAfter, saidBy}
 use Rattle.text.specs.declared.fields.Said.{Said}
 
 -- ---- fields

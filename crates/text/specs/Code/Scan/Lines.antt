@@ -6,19 +6,18 @@ use mathlib.Core.Path.{_≡_, refl, sym, ap, _∙_}
 use Prim.Native.Nat.{ℕ, zero, suc, _+_, _-_, _≤_, _<_}
 use native.Mathlib.Numerals.{add-one}
 use native.Mathlib.Omega.{arith}
-use lib.Dec.{ltb, eqb}
-use lib.ListN.{length, take, drop, getD, length-append, length-drop}
+use lib.Dec.{eqb}
+use lib.ListN.{length, drop, getD, length-append, length-drop}
 use lib.Seq.{drop-drop, drop-cons}
-use borrow.Author.Tests.{eqb-true, eq-eqb, ne-eqb, ltb-true, lt-ltb, le-ltb}
-use Rattle.script.specs.Flat.{nodeOf}
-use Rattle.script.specs.Rows.{Row, rowOf}
+use borrow.Author.Tests.{eqb-true, eq-eqb, ne-eqb}
+use Rattle.script.specs.Rows.{Row}
 use Rattle.script.specs.Rows as Rows
 use Rattle.script.specs.Tests.{pick}
 use Rattle.script.specs.Tests.Laws.{true-or-false, both-ways}
 use Rattle.text.specs.Bytes.{lf, tab, entryWord}
 use Rattle.text.specs.Fields.{numberUpTo, typeOf, sameBytes, kindOf}
-use Rattle.text.specs.Grammar.{Line, nodeLine, parts, onFirst, onNumbers, numbersUpTo, nodeWith, nodeBy, nodeFrom, entryWith, entryFrom, lineFrom, lineOf, upTo}
-use Rattle.text.specs.Code.Scan.{startsWith, endsField, fieldIn, fieldEnds, lineIn, lineEnds, fieldsAfter, operandBy, operandAt, located, lineAt, entryAfter, nodeAfter, largestBy}
+use Rattle.text.specs.Grammar.{parts, onFirst, onNumbers, numbersUpTo, nodeWith, nodeBy, entryWith, entryFrom, lineFrom, lineOf, upTo}
+use Rattle.text.specs.Code.Scan.{startsWith, fieldIn, fieldEnds, lineIn, lineEnds, fieldsAfter, operandBy, operandAt, located, lineAt, entryAfter, nodeAfter}
 use Rattle.text.specs.Code.Scan.Laws.{field-ends, field-most}
 use Rattle.text.specs.declared.lines.Operand.{Operand}
 use Rattle.text.specs.declared.lines.Scanned.{Scanned}

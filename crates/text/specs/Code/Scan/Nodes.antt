@@ -2,15 +2,15 @@
 use mathlib.Core.Bool.{Bool, true, false}
 use mathlib.Core.List.{List, [], _∷_, _++_, append-nil}
 use mathlib.Core.Option.{Option, none, some}
-use mathlib.Core.Path.{_≡_, refl, sym, ap, _∙_}
+use mathlib.Core.Path.{_≡_, refl, _∙_}
 use Prim.Native.Nat.{ℕ, zero, suc, _+_, _-_, _≤_, _<_}
 use native.Mathlib.Nat.{add-zero}
 use native.Mathlib.Omega.{arith}
-use lib.Dec.{leb, ltb}
+use lib.Dec.{ltb}
 use lib.ListN.{length, drop}
 use borrow.Author.Tests.{ltb-true, ltb-false}
 use Rattle.script.specs.Flat.{nodeOf}
-use Rattle.script.specs.Rows.{Row, rows, rowOf, operandCount, takesIn, takesOf}
+use Rattle.script.specs.Rows.{Row, rowOf, operandCount, takesIn, takesOf}
 use Rattle.script.specs.Rows as Rows
 use Rattle.script.specs.Rows.Laws.{row-some}
 use Rattle.script.specs.Tests.{pick}

@@ -8,7 +8,6 @@ use lib.Seq.{sets, length-sets, length-take-le, drop-cons, drop-length, set-at}
 use Rattle.script.specs.Flat.{nodesIn}
 use Rattle.script.specs.Flat.Laws.{length-nodesIn, nodesIn-sets}
 use Rattle.script.specs.Table.{unused}
-use Rattle.script.specs.declared.Node.{Node}
 use Rattle.text.specs.Code.Steps.{Cleared}
 use Rattle.text.specs.Code.Steps.Taken.{drop-sets}
 

@@ -1,34 +1,21 @@
 -- The reader from line to line: what each line does to the nodes and entries so far, and how the text goes on. Assumes nothing.
-use mathlib.Core.Bool.{Bool, true, false, _&&_}
-use mathlib.Core.List.{List, [], _∷_, _++_}
-use mathlib.Core.Option.{Option, none, some}
-use mathlib.Core.Path.{_≡_, refl, sym, ap, _∙_}
-use Prim.Native.Nat.{ℕ, zero, suc, _+_, _-_, _*_, _≤_, _<_}
-use native.Mathlib.Decide.{ℕ-discrete}
-use native.Mathlib.Numerals.{add-one}
+use mathlib.Core.Bool.{Bool, true, false}
+use mathlib.Core.List.{List, [], _∷_}
+use mathlib.Core.Path.{_≡_, refl, ap, _∙_}
+use Prim.Native.Nat.{ℕ, suc, _+_, _-_, _<_}
 use native.Mathlib.Omega.{arith}
-use lib.Dec.{leb, ltb, eqb}
-use lib.ListN.{length, take, drop, set, getD, length-drop, length-set, length-append, List·getD-append}
-use lib.Seq.{sets, length-sets, length-take-le, take-suc-set, drop-set-lt, drop-drop, getD-append-seam}
-use borrow.Author.Tests.{eqb-true, eqb-false, eq-eqb, ltb-true, ltb-false, lt-ltb, le-ltb}
-use Rattle.script.specs.Flat.{nodesIn}
-use Rattle.script.specs.Flat.Laws.{length-nodesIn, nodesIn-sets}
-use Rattle.script.specs.Limits.{nodeLimit, entryLimit, sizeOf}
-use Rattle.script.specs.Rows.{rowOf}
-use Rattle.script.specs.Table.{unused, nodeAt, rightNode, wellFormed}
+use lib.Dec.{eqb}
+use lib.ListN.{length, drop, length-drop}
+use lib.Seq.{drop-drop}
 use Rattle.script.specs.Tests.{pick}
 use Rattle.script.specs.Tests.Laws.{true-or-false}
 use Rattle.script.specs.declared.Node.{Node}
-use Rattle.script.specs.declared.Refusal.{Refusal}
-use Rattle.script.specs.declared.Refusal.the-variants.{BadLine, TooManyAt, BadOperand}
-use Rattle.script.specs.declared.Script.{Script}
+use Rattle.script.specs.declared.Refusal.the-variants.{BadLine}
 use Rattle.text.specs.Bytes.{lf}
-use Rattle.text.specs.Grammar.{Line, entryLine, nodeLine, Meaning, refused, goOn, stop, admit, after, lineOf, linesFrom, parts, onFirst}
+use Rattle.text.specs.Grammar.{refused, admit, after, lineOf, linesFrom, parts, onFirst}
 use Rattle.text.specs.SameTable.Text.{parts-some, lines-next}
-use Rattle.text.specs.Code.Scan.{lineIn, lineEnds, located, lineAt}
-use Rattle.text.specs.Code.Steps.{nodesBy, entriesBy, Kept, Framed, entryStep, entryStored, nodeStep, nodeStored, lineHere, stepOf, GoesTo, goes-next, Took}
-use Rattle.text.specs.declared.lines.Scanned.{Scanned}
-use Rattle.text.specs.declared.reader.Step.{Step}
+use Rattle.text.specs.Code.Scan.{lineIn, lineEnds}
+use Rattle.text.specs.Code.Steps.{lineHere}
 
 -- ---- a line of a text
 

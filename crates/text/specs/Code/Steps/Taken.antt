@@ -3,28 +3,27 @@ use mathlib.Core.Bool.{Bool, true, false}
 use mathlib.Core.List.{List, [], _∷_, _++_}
 use mathlib.Core.Option.{Option, none, some}
 use mathlib.Core.Path.{_≡_, refl, sym, ap, _∙_}
-use Prim.Native.Nat.{ℕ, zero, suc, _+_, _*_, _≤_, _<_}
+use Prim.Native.Nat.{ℕ, suc, _+_, _*_, _≤_, _<_}
 use native.Mathlib.Decide.{ℕ-discrete}
 use native.Mathlib.Numerals.{add-one}
 use native.Mathlib.Omega.{arith}
 use lib.Dec.{ltb, eqb}
-use lib.ListN.{length, take, drop, set, length-drop, length-set, length-append, List·getD-append}
+use lib.ListN.{length, take, drop, set, length-drop, length-set, List·getD-append}
 use lib.Seq.{sets, length-sets, length-take-le, take-suc-set, drop-set-lt, getD-append-seam}
-use borrow.Author.Tests.{eqb-true, eqb-false, ltb-true, lt-ltb}
+use borrow.Author.Tests.{eqb-true, eqb-false, ltb-true}
 use Rattle.script.specs.Flat.{nodesIn}
 use Rattle.script.specs.Flat.Laws.{length-nodesIn, nodesIn-sets}
 use Rattle.script.specs.Limits.{nodeLimit, entryLimit, sizeOf, pickSized}
 use Rattle.script.specs.Rows.{rowOf}
 use Rattle.script.specs.Table.{unused, nodeAt, rightNode, wellFormed}
 use Rattle.script.specs.Tests.{pick}
-use Rattle.script.specs.Tests.Laws.{true-or-false}
 use Rattle.script.specs.declared.Node.{Node}
 use Rattle.script.specs.declared.Refusal.the-variants.{BadLine, TooManyAt, BadOperand}
 use Rattle.script.specs.declared.Script.{Script}
 use Rattle.script.specs.declared.Sized.{Sized}
 use Rattle.text.specs.Grammar.{Line, entryLine, nodeLine, goOn, stop, admit, lineOf}
 use Rattle.text.specs.Code.Scan.{lineIn, lineEnds, located, lineAt}
-use Rattle.text.specs.Code.Steps.{nodesBy, entriesBy, Kept, Framed, entryStep, entryStored, nodeStep, nodeStored, lineHere, stepOf, GoesTo, goes-next, refused, Took}
+use Rattle.text.specs.Code.Steps.{nodesBy, entriesBy, Kept, Framed, entryStep, entryStored, nodeStep, nodeStored, lineHere, goes-next, refused, Took}
 use Rattle.text.specs.Code.Steps.Laws.{line-within}
 use Rattle.text.specs.declared.lines.Scanned.{Scanned}
 use Rattle.text.specs.declared.reader.Step.{Step}

@@ -1,29 +1,24 @@
 -- The walk over all lines: what holds before each of them, how a line taken carries it on, and what a refused line or the end of the text gives.
 -- Assumes nothing.
-use mathlib.Core.Bool.{Bool, true, false}
-use mathlib.Core.List.{List, [], _∷_}
+use mathlib.Core.List.{List, []}
 use mathlib.Core.Option.{Option, none, some}
-use mathlib.Core.Path.{_≡_, refl, sym, ap, _∙_}
-use Prim.Native.Nat.{ℕ, zero, suc, _+_, _*_, _≤_, _<_}
+use mathlib.Core.Path.{_≡_, refl, sym, _∙_}
+use Prim.Native.Nat.{ℕ, suc, _+_, _*_, _≤_, _<_}
 use native.Mathlib.Omega.{arith}
 use lib.Dec.{ltb}
-use lib.ListN.{length, take, drop, drop-of-length-le}
-use Rattle.script.specs.Flat.{nodesIn}
+use lib.ListN.{length, drop, drop-of-length-le}
 use Rattle.script.specs.Flat.Laws.{length-nodesIn}
 use Rattle.script.specs.Limits.{nodeLimit, entryLimit, sizeOf}
 use Rattle.script.specs.Table.{treeTest}
 use Rattle.script.specs.Tests.{need}
-use Rattle.script.specs.declared.Node.{Node}
 use Rattle.script.specs.declared.Reading.{Reading}
 use Rattle.script.specs.declared.Refusal.{Refusal}
 use Rattle.script.specs.declared.Refusal.the-variants.{NoNode}
 use Rattle.script.specs.declared.Script.{Script}
 use Rattle.text.specs.Bytes.{lf}
-use Rattle.text.specs.Grammar as Grammar
-use Rattle.text.specs.Grammar.{Meaning, means, goOn, stop, admit, after, unless, atEnd, linesFrom, parts}
-use Rattle.text.specs.Reading.{answerOf, nodesRead, entriesRead}
+use Rattle.text.specs.Grammar.{after, unless, atEnd, linesFrom, parts}
 use Rattle.text.specs.Code.Scan.{lineIn}
-use Rattle.text.specs.Code.Steps.{nodesBy, entriesBy, Kept, Framed, lineHere, stepOf, GoesTo, goes-next, Took, endedBy, Holds}
+use Rattle.text.specs.Code.Steps.{nodesBy, entriesBy, Kept, Framed, stepOf, GoesTo, goes-next, Took, endedBy, Holds}
 use Rattle.text.specs.Code.Steps.Laws.{text-step}
 use Rattle.text.specs.Code.Steps.Taken.{same-frame, frames, nodes-length, entries-length}
 use Rattle.text.specs.declared.reader.Step.{Step}

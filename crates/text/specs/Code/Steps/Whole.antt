@@ -1,6 +1,6 @@
 -- A whole call of the reader: 32 and 31 before the lines, and what every lent number holds after the unused places are cleared. Assumes nothing.
-use mathlib.Core.Bool.{Bool, true, false, _&&_}
-use mathlib.Core.List.{List, [], _∷_, _++_}
+use mathlib.Core.Bool.{true}
+use mathlib.Core.List.{List, [], _++_}
 use mathlib.Core.Path.{_≡_, refl, sym, ap, _∙_}
 use Prim.Native.Nat.{ℕ, _-_, _*_, _/_, _≤_, _<_}
 use native.Mathlib.Omega.{arith}
@@ -12,15 +12,13 @@ use Rattle.script.specs.Flat.{flat, nodesIn}
 use Rattle.script.specs.Flat.Laws.{length-nodesIn, flat-nodesIn}
 use Rattle.script.specs.Limits.{nodeLimit, entryLimit, byteLimit}
 use Rattle.script.specs.Table.{unused}
-use Rattle.script.specs.Tests.{pick}
-use Rattle.script.specs.declared.Node.{Node}
 use Rattle.script.specs.declared.Reading.{Reading}
 use Rattle.script.specs.declared.Refusal.{Refusal}
 use Rattle.script.specs.declared.Refusal.the-variants.{TextTooLong, TableTooSmall}
 use Rattle.text.specs.Bytes.{lf}
 use Rattle.text.specs.Grammar.{Meaning, refused, linesFrom, parts, meaningOf}
 use Rattle.text.specs.Reading.{nodesRead, entriesRead, filled, tried, reading, leaves, readingIn}
-use Rattle.text.specs.Code.Steps.{Framed, usedNodes, usedEntries, Holds, Cleared}
+use Rattle.text.specs.Code.Steps.{usedNodes, usedEntries, Holds, Cleared}
 use Rattle.text.specs.Code.Steps.Taken.{same-frame}
 
 -- ---- 32 and 31
