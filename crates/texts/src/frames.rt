@@ -1,10 +1,11 @@
 // The frames in which texts stand in the input.
-ghost use Prim.Native.Nat.{_≤_};
+ghost use Prim.Native.Nat.{_≤_, _<_};
+ghost use lib.ListN.{length};
 
-// What a frame's header says: where its text starts, how long it is, and how many bytes are lent to the writer.
+// What a frame's header says: where its name starts, how long its text is, and how many bytes are lent to the writer.
 pub enum Frame {
     Text {
-        from: usize,
+        name: usize,
         length: usize,
         lent: usize,
     },
@@ -57,10 +58,28 @@ fn number_until(input: &[u8], at: usize, stop: u8) -> Number {
 // The header at `at`.
 pub fn frame_at(input: &[u8], at: usize) -> Frame {
     match number_until(input, at, b'\t') {
-        Number::Is(length, next) => match number_until(input, next, b'\n') {
-            Number::Is(lent, from) => Frame::Text { from, length, lent },
+        Number::Is(length, next) => match number_until(input, next, b'\t') {
+            Number::Is(lent, name) => Frame::Text { name, length, lent },
             Number::Bad => Frame::Bad,
         },
         Number::Bad => Frame::Bad,
     }
+}
+
+// The place of the LF after the name at `at`; `at` itself if there is no LF, no name, or a byte below the blank in it, as a tab.
+pub fn name_end(input: &[u8], at: usize) -> usize
+    ensures { λ r. ⌜ (at < r → r < length (now (input .entry))) ⌝ }
+{
+    let mut i = at;
+    while i < input.len() {
+        let b = input[i];
+        if b == b'\n' {
+            return i;
+        }
+        if b < b' ' {
+            return at;
+        }
+        i += 1;
+    }
+    at
 }

@@ -1,15 +1,13 @@
-// Tries the reader and the writer of script text on framed texts, and prints a line for each.
-// A frame is a line `LENGTH<tab>OUT`, then LENGTH bytes of text and an LF; OUT bytes are lent to the writer.
-// The stored texts, by lines of `stdout`: 1 to 9 are P1 to P9, 10 to 12 have every word and the ends of types and numbers.
-// Refused: 13 to 48 by 1 (fields, from 28 numbers, from 38 entries, from 45 no last LF), 49 to 56 by 2 or just not, 57 by 3,
-// 58 to 62 by 4, 63 to 68 by the order of these, 69 to 75 by 5, 76 to 82 by 13 or just not, 83 to 86 by 31 or just not.
-// 87 to 96 reach the limits of a script and of what is lent to the writer.
+// Tries the reader and the writer of script text on framed texts, and prints a line for each: its name, a tab, and what came of it.
+// A frame is a line `LENGTH<tab>OUT<tab>NAME`, then LENGTH bytes of text and an LF; OUT bytes are lent to the writer.
+// Names tell what is tried.
 mod frames;
 mod slices;
 mod trial;
 
 use frames::Frame;
 use frames::frame_at;
+use frames::name_end;
 use trial::say;
 use trial::try_text;
 
@@ -22,12 +20,16 @@ fn try_frame(
     out: &mut [u8],
 ) -> usize {
     match frame_at(input, at) {
-        Frame::Text { from, length, lent } => {
-            if from <= input.len() {
+        Frame::Text { name, length, lent } => {
+            let stop = name_end(input, name);
+            if name < stop {
+                let from = stop + 1;
                 if length < input.len() - from {
                     let end = from + length;
                     if input[end] == b'\n' {
                         if lent <= out.len() {
+                            say(&input[name..stop]);
+                            say(b"\t");
                             try_text(&input[from..end], table, entries, &mut out[..lent]);
                             say(b"\n");
                             return end + 1;
