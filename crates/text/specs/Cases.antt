@@ -15,7 +15,7 @@ use Rattle.text.specs.Fields.{valueAfter, numberUpTo, typeAfter, typeOf,
 use Rattle.text.specs.Grammar.{parts, numbersUpTo, lineOf, atEnd, linesFrom, meaningOf}
 use Rattle.text.specs.Code.Output.{wordOf}
 use Rattle.text.specs.Reading.{reading}
-use Rattle.text.specs.Writing.{digitsIn, digits, typeText, operandsText, nodeText, entriesText, nodesText, textOf, writing}
+use Rattle.text.specs.Writing.{digitsIn, digits, typeText, operandsText, nodeText, entriesText, nodesText, textOf, longEnough, writing}
 
 -- ---- texts
 
@@ -143,5 +143,5 @@ outputs =
     ∷ []
 
 pub outputs-hold : (map writes outputs ≡ map (λ o. o .answer) outputs) × (map leaves outputs ≡ map (λ o. o .bytes) outputs)
-unfolding outputs rows rowOf wellFormed operands timesIn uses symsAround tooDeep treeTest nodesTest tableTest lowestFrom wordOf digitsIn typeText operandsText nodeText entriesText nodesText textOf writing
+unfolding outputs rows rowOf wellFormed operands timesIn uses symsAround tooDeep treeTest nodesTest tableTest lowestFrom wordOf digitsIn typeText operandsText nodeText entriesText nodesText textOf longEnough writing
 outputs-hold = (refl, refl)

@@ -16,7 +16,6 @@ use Rattle.script.specs.declared.Refusal.{Refusal}
 use Rattle.script.specs.declared.Refusal.the-variants.{BadLine, TooManyAt, BadOperand, NoNode, TextTooLong}
 use Rattle.text.specs.Bytes.{lf, tab, entryWord}
 use Rattle.text.specs.Fields.{numberUpTo, typeOf, sameBytes, kindOf}
-pub mod Laws
 
 -- ---- lines and fields: the parts of a list between separators, at least one
 

@@ -9,7 +9,7 @@ use native.Mathlib.Omega.{arith}
 use lib.Dec.{leb}
 use lib.ListN.{length, take, drop, replicate, length-append, length-replicate}
 use lib.Seq.{take-at}
-use borrow.Author.Tests.{le-leb, leb-true}
+use borrow.Author.Tests.{leb-true}
 use Rattle.script.specs.Limits.{nodeLimit, entryLimit, byteLimit, sizeOf}
 use Rattle.script.specs.Table.{Table, unused, wellFormed, treeTest, nodesTest, tableTest}
 use Rattle.script.specs.Table.Laws.{Sound, nodesTest-sound, passes-none}
@@ -27,6 +27,7 @@ use Rattle.text.specs.Reading as Reads
 use Rattle.text.specs.SameTable.Text.{Some, some-parts, parts-some}
 use Rattle.text.specs.Writing.{entriesText, nodesText, textOf}
 use Rattle.text.specs.Writing as Writes
+use Rattle.text.specs.Writing.Laws.{long-enough}
 use Lines.{joined-parts}
 use Text.{Whole, whole, taken-text, kept-none, taken-kept}
 pub mod Fields
@@ -129,7 +130,7 @@ write-read text out es ns n m e h l f =
       take-at ns (replicate (n - length ns) unused) (length ns) refl,
       take-at es (replicate (m - length es) 0) (length es) refl,
       read-written text es ns e,
-      le-leb (length text) (length out) f,
+      long-enough out text f,
     )
     refl
 

@@ -102,7 +102,7 @@ record Written (o : Option Refusal) (text : List ℕ) (k : ℕ) (w : Writes.Outc
 
 written : (o : Option Refusal) (text out : List ℕ) (k : ℕ) → Writes.outcomeOf o text out .answer ≡ Writing.Wrote k → Written o text k (Writes.outcomeOf o text out)
 written (some r) text out k e = let z : _≡_ {A = ℕ} 0 1 = cc in absurd (omega arith)
-written none text out k e = go (leb (length text) (length out)) e
+written none text out k e = go (Writes.longEnough out text) e
   where
     whole : Writes.Outcome
     whole = record { answer = Writing.Wrote (length text); bytes = text ++ drop (length text) out }

@@ -1,5 +1,6 @@
 -- The text of a script, and the whole answer of writing it into lent bytes (document 01, 'Script text' and 'Turned down'): the tests of the table, then
 -- 36. A refusal changes nothing lent, and bytes after the text are untouched. Assumes nothing.
+use mathlib.Core.Bool.{Bool}
 use mathlib.Core.List.{List, [], _∷_, _++_}
 use mathlib.Core.Option.{Option, none, some}
 use Prim.Native.Nat.{ℕ, zero, suc, _+_, _/_, _%_}
@@ -64,10 +65,13 @@ pub record Outcome : Type 0 where
   pub answer : Writing
   pub bytes : List ℕ
 
+unfoldable pub longEnough : List ℕ → List ℕ → Bool
+longEnough out text = leb (length text) (length out)
+
 abbrev pub outcomeOf : Option Refusal → List ℕ → List ℕ → Outcome
 outcomeOf (some r) text out = record { answer = Writing.Refused r; bytes = out }
 outcomeOf none text out =
-    pick (leb (length text) (length out))
+    pick (longEnough out text)
     (record { answer = Writing.Wrote (length text); bytes = text ++ drop (length text) out })
     (record { answer = Writing.Refused OutputTooShort; bytes = out })
 

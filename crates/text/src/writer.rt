@@ -2,12 +2,11 @@
 ghost use mathlib.Core.Option.{none};
 ghost use mathlib.Core.Path.{_≡_};
 ghost use Prim.Native.Nat.{ℕ, _+_, _*_, _^_, _≤_, _<_};
-ghost use lib.Dec.{leb};
 ghost use lib.ListN.{length, take};
 ghost use Rattle.script.specs.Flat.{nodesIn, tableIn};
 ghost use Rattle.script.specs.Table.{nodeAt, tableTest};
 ghost use Rattle.text.specs.Code.Output.{Put, operandIf, outcome, textIn};
-ghost use Rattle.text.specs.Writing.{entryText, nodeText, entriesText, nodesText, writing};
+ghost use Rattle.text.specs.Writing.{entryText, nodeText, entriesText, nodesText, longEnough, writing};
 use crate::fields::LF;
 use crate::fields::TAB;
 use crate::output::put;
@@ -113,7 +112,7 @@ fn put_text(
 // Whether the text fits. No text is longer than the limit; in a shorter output it is measured, by writing it into no bytes.
 fn fits(out: &mut [u8], table: &[u32], nodes: usize, entries: &[u32], entry_count: usize) -> bool
     requires { ⌜ tableTest (tableIn (now table) nodes (now entries) «entry_count») ≡ none ⌝ }
-    ensures { λ r. ⌜ r ≡ leb (length (textIn (tableIn (now (table .entry)) nodes (now (entries .entry)) «entry_count»))) (length (now (out .entry))) ⌝ }
+    ensures { λ r. ⌜ r ≡ longEnough (now (out .entry)) (textIn (tableIn (now (table .entry)) nodes (now (entries .entry)) «entry_count»)) ⌝ }
     ensures { λ _. ⌜ now (out .exit) ≡ now (out .entry) ⌝ }
 {
     if Script::BYTES <= out.len() {

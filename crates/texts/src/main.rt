@@ -19,30 +19,29 @@ fn try_frame(
     entries: &mut [u32],
     out: &mut [u8],
 ) -> usize {
-    match frame_at(input, at) {
-        Frame::Text { name, length, lent } => {
-            let stop = name_end(input, name);
-            if name < stop {
-                let from = stop + 1;
-                if length < input.len() - from {
-                    let end = from + length;
-                    if input[end] == b'\n' {
-                        if lent <= out.len() {
-                            say(&input[name..stop]);
-                            say(b"\t");
-                            try_text(&input[from..end], table, entries, &mut out[..lent]);
-                            say(b"\n");
-                            return end + 1;
-                        }
-                    }
-                }
-            }
-            return 0;
-        }
-        Frame::Bad => {
-            return 0;
-        }
+    let Frame::Text { name, length, lent } = frame_at(input, at) else {
+        return 0;
+    };
+    let stop = name_end(input, name);
+    if stop <= name {
+        return 0;
     }
+    let from = stop + 1;
+    if input.len() - from <= length {
+        return 0;
+    }
+    let end = from + length;
+    if input[end] != b'\n' {
+        return 0;
+    }
+    if out.len() < lent {
+        return 0;
+    }
+    say(&input[name..stop]);
+    say(b"\t");
+    try_text(&input[from..end], table, entries, &mut out[..lent]);
+    say(b"\n");
+    end + 1
 }
 
 // Tries all frames in turn. A malformed one ends it.

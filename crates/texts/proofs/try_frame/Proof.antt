@@ -7,13 +7,47 @@ use Rattle.texts.proofs.try_frame.Statement.{statement}
 use Rattle.texts.proofs.try_frame.Tie as tie
 
 add-from : tie.Need-add-from
-add-from c = omega (arith, c .before .name-end .ensures (c .if1 .taken))
+add-from c = omega (arith, c .before .name-end .ensures (c .if1 .left))
 
 sub-if2 : tie.Need-sub-if2
-sub-if2 c = omega (arith, c .before .name-end .ensures (c .if1 .taken))
+sub-if2 c = omega (arith, c .before .name-end .ensures (c .if1 .left))
 
 slice-aggregate-try-text : tie.Need-slice-aggregate-try-text
 slice-aggregate-try-text c = sym (length-take-le _ _ (search needs))
 
 pub try-frame-spec : {M : Type 1} → statement M
-try-frame-spec = tie.close (tie.spec (λ c κs. search needs) (λ c. search needs) (λ c κs. search needs) add-from sub-if2 (λ c. search needs) (λ c. search needs) (λ c. search needs) (λ c. search needs) (λ c. search needs) (λ c κs. search needs) (λ c. search needs) (λ c κs. search needs) (λ c. search needs) (λ c. search needs) (λ c. search needs) (λ c. search needs) slice-aggregate-try-text (λ c κs. search needs) (λ c. search needs) (λ c κs. search needs) (λ c. search needs) (λ c. search needs) (λ c. search needs) (λ c. search needs) (λ c. search needs) (λ c. search needs) (λ c. search needs) (λ c. search needs) (λ c. search needs) (λ c. search needs) (λ c. search needs))
+try-frame-spec =
+    tie.close
+    (tie.spec
+    (λ c κs. search needs)
+    (λ c. search needs)
+    (λ c. search needs)
+    (λ c. search needs)
+    (λ c κs. search needs)
+    (λ c. search needs)
+    add-from
+    sub-if2
+    (λ c. search needs)
+    (λ c. search needs)
+    (λ c. search needs)
+    (λ c. search needs)
+    (λ c. search needs)
+    (λ c. search needs)
+    (λ c. search needs)
+    (λ c. search needs)
+    (λ c κs. search needs)
+    (λ c. search needs)
+    (λ c κs. search needs)
+    (λ c. search needs)
+    (λ c. search needs)
+    (λ c. search needs)
+    (λ c. search needs)
+    slice-aggregate-try-text
+    (λ c κs. search needs)
+    (λ c. search needs)
+    (λ c κs. search needs)
+    (λ c. search needs)
+    (λ c. search needs)
+    (λ c. search needs)
+    (λ c. search needs)
+    (λ c. search needs))

@@ -1,14 +1,14 @@
 -- `text::writer::fits` meets its contract: every text is shorter than the limit, and writing into no bytes leaves them. Assumes nothing.
 use borrow.Author.Needs.{needs}
-use borrow.Author.Tests.{le-leb}
 use mathlib.Core.Path.{refl, sym}
 use native.Mathlib.Nat.{zero-add}
 use native.Mathlib.Omega.{arith}
-use lib.ListN.{length}
 use Rattle.script.specs.Flat.{tableIn}
 use Rattle.text.specs.Code.Output.{textIn}
 use Rattle.text.specs.Code.Output.Laws.{put-empty}
 use Rattle.text.specs.SameTable.{text-most}
+use Rattle.text.specs.Writing.{longEnough}
+use Rattle.text.specs.Writing.Laws.{long-enough}
 use Rattle.text.proofs.writer.fits.Statement.{statement}
 use Rattle.text.proofs.writer.fits.Tie as tie
 
@@ -18,9 +18,10 @@ returns c =
     let a = s .args in
     let t = tableIn (a .table .now) (a .nodes) (a .entries .now) (a .entry-count) in
     let m = text-most t (s .pre) in
-    (sym (le-leb (length (textIn t)) (length (a .out .now)) (omega arith)), refl)
+    (sym (long-enough (a .out .now) (textIn t) (omega arith)), refl)
 
 returns-2 : tie.Need-returns-2
+unfolding longEnough
 returns-2 c =
     let p = c .before .before .put-text .ensures in
     rw (put-empty p, p .next-is, zero-add) (refl, refl)

@@ -7,10 +7,8 @@ use mathlib.Core.Path.{_≡_, refl}
 use Prim.Native.Nat.{ℕ, _+_, _*_, _≤_, _<_}
 use native.Mathlib.Nat.{zero-add}
 use native.Mathlib.Omega.{arith}
-use lib.Dec.{leb}
 use lib.ListN.{length, take, length-append}
 use lib.Seq.{getD-take}
-use borrow.Author.Tests.{leb-true}
 use Rattle.script.specs.Flat.{nodesIn, tableIn}
 use Rattle.script.specs.Flat.Laws.{length-nodesIn}
 use Rattle.script.specs.Rows.Laws.{row-kind}
@@ -25,7 +23,8 @@ use Rattle.script.specs.declared.table.Tested.{Tested}
 use Rattle.text.specs.Code.Output.{Put, textIn, outcome}
 use Rattle.text.specs.Code.Output.Laws.{put-then, put-text}
 use Rattle.text.specs.SameTable.{text-most}
-use Rattle.text.specs.Writing.{textOf, entriesText, nodesText, writing}
+use Rattle.text.specs.Writing.Laws.{enough-fits}
+use Rattle.text.specs.Writing.{textOf, entriesText, nodesText, longEnough, writing}
 
 module _ (xs : List ℕ) (n : ℕ) (es : List ℕ) (m : ℕ) (e : tableTest (tableIn xs n es m) ≡ none) where
   pub entries-lent : m ≤ length es
@@ -53,12 +52,12 @@ put-parts t p q = put-then p q
 -- ---- the outcome of a call
 
 module _ (t : Table) {out : List ℕ} where
-  pub wrote : {n : ℕ} {out′ : List ℕ} → tableTest t ≡ none → leb (length (textIn t)) (length out) ≡ true → Put (textIn t) 0 out n out′ → outcome (Writing.Wrote n) out′ ≡ writing t out
+  pub wrote : {n : ℕ} {out′ : List ℕ} → tableTest t ≡ none → longEnough out (textIn t) ≡ true → Put (textIn t) 0 out n out′ → outcome (Writing.Wrote n) out′ ≡ writing t out
   unfolding writing
   wrote {n} {out′} e f p =
-      rw (e, f, put-text p (leb-true _ _ f), p .next-is, zero-add) refl
+      rw (e, f, put-text p (enough-fits out (textIn t) f), p .next-is, zero-add) refl
 
-  pub short : tableTest t ≡ none → leb (length (textIn t)) (length out) ≡ false → outcome (Writing.Refused OutputTooShort) out ≡ writing t out
+  pub short : tableTest t ≡ none → longEnough out (textIn t) ≡ false → outcome (Writing.Refused OutputTooShort) out ≡ writing t out
   unfolding writing
   short e f = rw (e, f) refl
 
