@@ -32,8 +32,8 @@ unfoldable pub valueAfter : ℕ → List ℕ → ℕ
 valueAfter n [] = n
 valueAfter n (c ∷ cs) = valueAfter (10 * n + (c - digit0)) cs
 
-unfoldable pub numberUpTo : ℕ → List ℕ → Option ℕ
-numberUpTo m f = given (decimal f && leb (valueAfter 0 f) m) (valueAfter 0 f)
+unfoldable pub decimalUpTo : ℕ → List ℕ → Option ℕ
+decimalUpTo m f = given (decimal f && leb (valueAfter 0 f) m) (valueAfter 0 f)
 
 -- ---- types: 0 to 15 letters r, then i or b
 

@@ -7,15 +7,14 @@ use lib.Dec.{leb, ltb, eqb}
 use lib.ListN.{length}
 use Rattle.script.specs.Flat.{nodeOf}
 use Rattle.script.specs.Limits.{nodeLimit, entryLimit, byteLimit}
-use Rattle.script.specs.Rows.{Row, rowOf}
-use Rattle.script.specs.Rows as Rows
+use Rattle.script.specs.Rows.{Row, rowOf, numberUpTo}
 use Rattle.script.specs.Table.{rightNode, treeTest}
 use Rattle.script.specs.Tests.{pick, need}
 use Rattle.script.specs.declared.Node.{Node}
 use Rattle.script.specs.declared.Refusal.{Refusal}
 use Rattle.script.specs.declared.Refusal.the-variants.{BadLine, TooManyAt, BadOperand, NoNode, TextTooLong}
 use Rattle.text.specs.Bytes.{lf, tab, entryWord}
-use Rattle.text.specs.Fields.{numberUpTo, typeOf, sameBytes, kindOf}
+use Rattle.text.specs.Fields.{decimalUpTo, typeOf, sameBytes, kindOf}
 
 -- ---- lines and fields: the parts of a list between separators, at least one
 
@@ -45,7 +44,7 @@ onNumbers (some o) (some os) = some (o ∷ os)
 
 unfoldable pub numbersUpTo : ℕ → List (List ℕ) → Option (List ℕ)
 numbersUpTo m [] = some []
-numbersUpTo m (f ∷ fs) = onNumbers (numberUpTo m f) (numbersUpTo m fs)
+numbersUpTo m (f ∷ fs) = onNumbers (decimalUpTo m f) (numbersUpTo m fs)
 
 -- the node with these operands; the unused ones are 0
 abbrev pub nodeWith : ℕ → Option (List ℕ) → Option Line
@@ -58,7 +57,7 @@ nodeWith k (some (a ∷ b ∷ c ∷ d ∷ os)) = none
 
 abbrev pub nodeBy : ℕ → Option Row → List (List ℕ) → Option Line
 nodeBy k none fs = none
-nodeBy k (some r) fs = pick (eqb (length fs) (r .count)) (nodeWith k (numbersUpTo (upTo (Rows.numberUpTo (r .form))) fs)) none
+nodeBy k (some r) fs = pick (eqb (length fs) (r .count)) (nodeWith k (numbersUpTo (upTo (numberUpTo (r .form))) fs)) none
 
 abbrev pub nodeFrom : Option ℕ → List (List ℕ) → Option Line
 nodeFrom none fs = none

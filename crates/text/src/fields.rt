@@ -4,7 +4,7 @@ ghost use Prim.Native.Nat.{_+_, _≤_};
 ghost use lib.ListN.{length, drop};
 ghost use mathlib.Core.List.{[]};
 ghost use Rattle.script.specs.Limits.{typeLimit};
-ghost use Rattle.text.specs.Fields.{numberUpTo, typeOf, typeUpTo, lastLetter};
+ghost use Rattle.text.specs.Fields.{decimalUpTo, typeOf, typeUpTo, lastLetter};
 ghost use Rattle.text.specs.Code.Scan.{endsField, fieldIn, startsWith, numberAfter, saidBy};
 use script::Script;
 
@@ -88,7 +88,7 @@ fn digits(f: &[u8], limit: u32) -> Said
 
 // The number that a field says: decimal without leading zeros, at most `limit`.
 pub fn number(f: &[u8], limit: u32) -> Said
-    ensures { λ r. ⌜ r ≡ saidBy (numberUpTo limit (now (f .entry))) ⌝ }
+    ensures { λ r. ⌜ r ≡ saidBy (decimalUpTo limit (now (f .entry))) ⌝ }
 {
     if f.len() == 0 {
         return Said::Nothing;

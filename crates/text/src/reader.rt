@@ -35,7 +35,7 @@ pub enum Step {
 // Line i is an entry of type `t`.
 fn take_entry(entries: &mut [u32], script: Script, t: u32, next: usize, i: u32) -> Step
     requires { ⌜ entryLimit ≤ length (now entries) ⌝ }
-    ensures { λ r. ⌜ (r ≡ entryStep script t next i) × (now (entries .exit) ≡ entryStored script t (now (entries .entry))) ⌝ }
+    ensures { λ r. ⌜ (r ≡ entryStep script next i) × (now (entries .exit) ≡ entryStored script t (now (entries .entry))) ⌝ }
 {
     if script.nodes != 0 {
         return Step::Refused(Refusal::BadLine(i));

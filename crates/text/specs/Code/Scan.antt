@@ -6,11 +6,10 @@ use mathlib.Core.Option.{Option, none, some}
 use Prim.Native.Nat.{ℕ, _+_}
 use lib.Dec.{leb, eqb}
 use lib.ListN.{length}
-use Rattle.script.specs.Rows.{Row, rowOf}
-use Rattle.script.specs.Rows as Rows
+use Rattle.script.specs.Rows.{Row, rowOf, numberUpTo}
 use Rattle.script.specs.Tests.{pick, all}
 use Rattle.text.specs.Bytes.{lf, tab}
-use Rattle.text.specs.Fields.{given, isDigit, valueAfter, numberUpTo}
+use Rattle.text.specs.Fields.{given, isDigit, valueAfter, decimalUpTo}
 use Rattle.text.specs.Grammar.{Line, entryLine, nodeLine, upTo, nodeBy, entryFrom, lineOf, parts}
 use Rattle.text.specs.declared.fields.Said.{Said}
 use Rattle.text.specs.declared.lines.Operand.{Operand}
@@ -65,7 +64,7 @@ numberAfter m n cs = given (all isDigit cs && leb (valueAfter n cs) m) (valueAft
 
 abbrev pub largestBy : Option Row → ℕ
 largestBy none = upTo none
-largestBy (some r) = upTo (Rows.numberUpTo (r .form))
+largestBy (some r) = upTo (numberUpTo (r .form))
 
 -- ---- lines
 
@@ -77,7 +76,7 @@ operandBy (some n) at = Operand.Is n at
 abbrev pub operandAt : Bool → ℕ → ℕ → List ℕ → Operand
 operandAt false m at cs = Operand.Is 0 at
 operandAt true m at [] = Operand.Bad
-operandAt true m at (c ∷ cs) = pick (eqb c tab) (operandBy (numberUpTo m (fieldIn cs)) (at + 1 + length (fieldIn cs))) Operand.Bad
+operandAt true m at (c ∷ cs) = pick (eqb c tab) (operandBy (decimalUpTo m (fieldIn cs)) (at + 1 + length (fieldIn cs))) Operand.Bad
 
 -- a line that ends in LF, and the place after it
 abbrev pub located : Bool → Option Line → ℕ → Scanned

@@ -54,9 +54,9 @@ pub record Framed (xs es xs′ es′ : List ℕ) : Type 0 where
 
 -- ---- a line
 
--- an entry of type t in line i: the answer, and what the lent entries then hold
-abbrev pub entryStep : Script → ℕ → ℕ → ℕ → Step
-entryStep s t next i =
+-- an entry in line i: the answer, and what the lent entries then hold if it is of type t
+abbrev pub entryStep : Script → ℕ → ℕ → Step
+entryStep s next i =
     pick (eqb (s .nodes) 0)
     (pick (ltb (s .entries) entryLimit) (Step.Next (sizeOf (s .nodes) (s .entries + 1)) next) (Step.Refused (TooManyAt i)))
     (Step.Refused (BadLine i))

@@ -16,7 +16,7 @@ use Rattle.script.specs.Tests.{pick}
 use Rattle.script.specs.Tests.Laws.{some-not-none}
 use Rattle.script.specs.declared.Node.{Node}
 use Rattle.text.specs.Bytes.{tab, entryWord}
-use Rattle.text.specs.Fields.{numberUpTo, typeOf, sameBytes, kindOf}
+use Rattle.text.specs.Fields.{decimalUpTo, typeOf, sameBytes, kindOf}
 use Rattle.text.specs.Grammar.{onFirst, parts, Line, entryLine, nodeLine, upTo, onNumbers, numbersUpTo, nodeWith, nodeFrom, entryFrom, entryWith, lineFrom, lineOf}
 use Rattle.text.specs.Writing.{operandsText}
 use Rattle.text.specs.OneSpelling.Fields.{type-spelled, same-bytes, word-spelled}
@@ -54,9 +54,9 @@ record Operands (fs : List (List ℕ)) (os : List ℕ) : Type 0 where
 numbers-spelled : (m : ℕ) (fs : List (List ℕ)) (os : List ℕ) → m ≤ wordLimit → numbersUpTo m fs ≡ some os → Operands fs os
 unfolding numbersUpTo operandsText led
 numbers-spelled m [] os h e = let q : [] ≡ os = cc in rw (← q) (record { count = refl; same = refl })
-numbers-spelled m (f ∷ fs) os h e = go (numberUpTo m f) refl (numbersUpTo m fs) refl e (numbers-spelled m fs)
+numbers-spelled m (f ∷ fs) os h e = go (decimalUpTo m f) refl (numbersUpTo m fs) refl e (numbers-spelled m fs)
   where
-    go : (a : Option ℕ) → numberUpTo m f ≡ a → (b : Option (List ℕ)) → numbersUpTo m fs ≡ b → onNumbers a b ≡ some os
+    go : (a : Option ℕ) → decimalUpTo m f ≡ a → (b : Option (List ℕ)) → numbersUpTo m fs ≡ b → onNumbers a b ≡ some os
         → ((os : List ℕ) → m ≤ wordLimit → numbersUpTo m fs ≡ some os → Operands fs os) → Operands (f ∷ fs) os
     go none p b q e ih = absurd (some-not-none os (sym e))
     go (some o) p none q e ih = absurd (some-not-none os (sym e))

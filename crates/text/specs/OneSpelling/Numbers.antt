@@ -13,7 +13,7 @@ use Rattle.script.specs.Tests.{all}
 use Rattle.script.specs.Tests.Laws.{both-true, true-or-false}
 use Rattle.text.specs.Bytes.{digit0, digit9}
 use Rattle.text.specs.OneSpelling.Fields.{given-some}
-use Rattle.text.specs.Fields.{isDigit, decimal, valueAfter, numberUpTo}
+use Rattle.text.specs.Fields.{isDigit, decimal, valueAfter, decimalUpTo}
 use Rattle.text.specs.SameTable.Numbers.{Below, oneDigit, moreDigits, below-word, digits-one, digits-more}
 use Rattle.text.specs.Writing.{digitsIn, digits}
 
@@ -90,8 +90,8 @@ pub record NumberField (m : ℕ) (f : List ℕ) (n : ℕ) : Type 0 where
   pub most : n ≤ m
   pub same : digits n ≡ f
 
-pub number-spelled : (m : ℕ) (f : List ℕ) (n : ℕ) → m ≤ wordLimit → numberUpTo m f ≡ some n → NumberField m f n
-unfolding numberUpTo
+pub number-spelled : (m : ℕ) (f : List ℕ) (n : ℕ) → m ≤ wordLimit → decimalUpTo m f ≡ some n → NumberField m f n
+unfolding decimalUpTo
 number-spelled m f n h e =
     let g = given-some (decimal f && leb (valueAfter 0 f) m) (valueAfter 0 f) n e in
     let b = both-true (decimal f) (leb (valueAfter 0 f) m) (g .0) in

@@ -13,7 +13,7 @@ use Rattle.script.specs.Limits.{wordLimit}
 use Rattle.script.specs.Tests.{pick, all}
 use Rattle.script.specs.Tests.Laws.{true-both, both-true}
 use Rattle.text.specs.Bytes.{digit0, digit9}
-use Rattle.text.specs.Fields.{isDigit, decimal, valueAfter, numberUpTo}
+use Rattle.text.specs.Fields.{isDigit, decimal, valueAfter, decimalUpTo}
 use Rattle.text.specs.Writing.{digitsIn, digits}
 
 -- n has at most k digits
@@ -105,8 +105,8 @@ digits-decimal k n b = decimal-by k n (ℕ-discrete n 0) b
 
 -- ---- the number that a field says
 
-pub number-digits : (m n : ℕ) → n ≤ m → n ≤ wordLimit → numberUpTo m (digits n) ≡ some n
-unfolding numberUpTo
+pub number-digits : (m n : ℕ) → n ≤ m → n ≤ wordLimit → decimalUpTo m (digits n) ≡ some n
+unfolding decimalUpTo
 number-digits m n h w =
     let b = below-word n w in
     rw (digits-decimal 10 n b .form, digits-value 10 n b, le-leb n m h) refl

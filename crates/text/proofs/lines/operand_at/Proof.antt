@@ -4,7 +4,7 @@ use borrow.Author.Tests.{not-true, not-false}
 use mathlib.Core.Path.{refl, sym, _∙_}
 use native.Mathlib.Omega.{arith}
 use lib.ListN.{drop}
-use Rattle.text.specs.Fields.{numberUpTo}
+use Rattle.text.specs.Fields.{decimalUpTo}
 use Rattle.text.specs.Code.Scan.Laws.{said-number, said-nothing}
 use Rattle.text.specs.Code.Scan.Lines.{operand-no-tab, operand-tab, starts-within}
 use Rattle.text.proofs.lines.operand_at.Statement.{statement}
@@ -30,7 +30,7 @@ returns-3 c =
     let a = c .before .before .before .before .before .before .before .before .before .args in
     let t = sym (c .before .before .before .before .before .before .byte-is .ensures) ∙ not-false _ (c .before .before .before .before .before .if2 .left) in
     let f = c .before .before .before .before .field .ensures in
-    let n = said-number (numberUpTo (a .limit) (c .before .before .before .before .field .result .now)) (c .before .n .given .0 .0) (sym (c .before .before .before .number .ensures) ∙ c .before .n .given .1) in
+    let n = said-number (decimalUpTo (a .limit) (c .before .before .before .before .field .result .now)) (c .before .n .given .0 .0) (sym (c .before .before .before .number .ensures) ∙ c .before .n .given .1) in
     rw (not-false (a .wanted) (c .before .before .before .before .before .before .before .if1 .left), operand-tab (a .text .now) (a .at) t (a .limit), ← f, n) refl
 
 returns-4 : tie.Need-returns-4
@@ -38,7 +38,7 @@ returns-4 c =
     let a = c .before .before .before .before .before .before .before .before .args in
     let t = sym (c .before .before .before .before .before .byte-is .ensures) ∙ not-false _ (c .before .before .before .before .if2 .left) in
     let f = c .before .before .before .field .ensures in
-    let n = said-nothing (numberUpTo (a .limit) (c .before .before .before .field .result .now)) (sym (c .before .before .number .ensures) ∙ c .enum-told .given .1) in
+    let n = said-nothing (decimalUpTo (a .limit) (c .before .before .before .field .result .now)) (sym (c .before .before .number .ensures) ∙ c .enum-told .given .1) in
     rw (not-false (a .wanted) (c .before .before .before .before .before .before .if1 .left), operand-tab (a .text .now) (a .at) t (a .limit), ← f, n) refl
 
 pub operand-at-spec : {M : Type 1} → statement M

@@ -11,7 +11,7 @@ use lib.Seq.{drop-cons, drop-length}
 use borrow.Author.Tests.{le-leb, lt-leb, eq-eqb, ne-eqb}
 use Rattle.script.specs.Limits.{typeLimit}
 use Rattle.script.specs.Tests.{pick, all}
-use Rattle.text.specs.Fields.{given, isDigit, valueAfter, numberUpTo, lastLetter, typeAfter, typeUpTo}
+use Rattle.text.specs.Fields.{given, isDigit, valueAfter, decimalUpTo, lastLetter, typeAfter, typeUpTo}
 use Rattle.text.specs.Code.Scan.{endsField, startsWith, fieldIn, fieldEnds, numberAfter, saidBy}
 use Rattle.text.specs.declared.fields.Said.{Said}
 
@@ -113,8 +113,8 @@ module _ (m n : ℕ) (f : List ℕ) (i : ℕ) (h : i < length f) where
   number-digit a b = rw (drop-cons f i 0, le-leb 48 (getD f i 0) a, le-leb (getD f i 0) 57 b) refl
 
 -- a field is a number by its digits if it does not begin with a zero too many
-pub number-one : (m : ℕ) (f : List ℕ) → length f ≡ 1 → numberUpTo m f ≡ numberAfter m 0 f
-unfolding numberUpTo numberAfter
+pub number-one : (m : ℕ) (f : List ℕ) → length f ≡ 1 → decimalUpTo m f ≡ numberAfter m 0 f
+unfolding decimalUpTo numberAfter
 number-one m [] e = absurd (omega arith)
 number-one m (c ∷ []) e = go (isDigit c)
   where
@@ -123,20 +123,20 @@ number-one m (c ∷ []) e = go (isDigit c)
     go false = refl
 number-one m (c ∷ d ∷ f) e = absurd (omega arith)
 
-pub number-long : (m : ℕ) (f : List ℕ) → 1 < length f → (getD f 0 0 ≡ 48 → ⊥) → numberUpTo m f ≡ numberAfter m 0 f
-unfolding numberUpTo numberAfter
+pub number-long : (m : ℕ) (f : List ℕ) → 1 < length f → (getD f 0 0 ≡ 48 → ⊥) → decimalUpTo m f ≡ numberAfter m 0 f
+unfolding decimalUpTo numberAfter
 number-long m [] h e = absurd (omega arith)
 number-long m (c ∷ []) h e = absurd (omega arith)
 number-long m (c ∷ d ∷ f) h e = rw (ne-eqb c 48 e) refl
 
-pub number-zeros : (m : ℕ) (f : List ℕ) → 1 < length f → getD f 0 0 ≡ 48 → numberUpTo m f ≡ none
-unfolding numberUpTo
+pub number-zeros : (m : ℕ) (f : List ℕ) → 1 < length f → getD f 0 0 ≡ 48 → decimalUpTo m f ≡ none
+unfolding decimalUpTo
 number-zeros m [] h e = absurd (omega arith)
 number-zeros m (c ∷ []) h e = absurd (omega arith)
 number-zeros m (c ∷ d ∷ f) h e = rw (eq-eqb c 48 e) refl
 
-pub number-none : (m : ℕ) (f : List ℕ) → length f ≡ 0 → numberUpTo m f ≡ none
-unfolding numberUpTo
+pub number-none : (m : ℕ) (f : List ℕ) → length f ≡ 0 → decimalUpTo m f ≡ none
+unfolding decimalUpTo
 number-none m [] h = refl
 number-none m (c ∷ f) h = absurd (omega arith)
 

@@ -15,7 +15,7 @@ use Rattle.script.specs.Rows as Rows
 use Rattle.script.specs.Tests.{pick}
 use Rattle.script.specs.Tests.Laws.{true-or-false, both-ways}
 use Rattle.text.specs.Bytes.{lf, tab, entryWord}
-use Rattle.text.specs.Fields.{numberUpTo, typeOf, sameBytes, kindOf}
+use Rattle.text.specs.Fields.{decimalUpTo, typeOf, sameBytes, kindOf}
 use Rattle.text.specs.Grammar.{parts, onFirst, onNumbers, numbersUpTo, nodeWith, nodeBy, entryWith, entryFrom, lineFrom, lineOf, upTo}
 use Rattle.text.specs.Code.Scan.{startsWith, fieldIn, fieldEnds, lineIn, lineEnds, fieldsAfter, operandBy, operandAt, located, lineAt, entryAfter, nodeAfter}
 use Rattle.text.specs.Code.Scan.Laws.{field-ends, field-most}
@@ -55,7 +55,7 @@ unfoldable pub exactly : ℕ → ℕ → List (List ℕ) → Option (List ℕ)
 exactly zero m [] = some []
 exactly zero m (f ∷ fs) = none
 exactly (suc n) m [] = none
-exactly (suc n) m (f ∷ fs) = onNumbers (numberUpTo m f) (exactly n m fs)
+exactly (suc n) m (f ∷ fs) = onNumbers (decimalUpTo m f) (exactly n m fs)
 
 eqb-suc : (a b : ℕ) → eqb (suc a) (suc b) ≡ eqb a b
 eqb-suc a b = both-ways (eqb (suc a) (suc b)) (eqb a b) (λ e. eq-eqb a b (let h = eqb-true (suc a) (suc b) e in omega arith)) (λ e. eq-eqb (suc a) (suc b) (ap suc (eqb-true a b e)))
@@ -65,7 +65,7 @@ unfolding exactly numbersUpTo
 exactly-is zero m [] = refl
 exactly-is zero m (f ∷ fs) = rw (ne-eqb (suc (length fs)) 0 (λ q. omega arith)) refl
 exactly-is (suc n) m [] = rw (ne-eqb 0 (suc n) (λ q. omega arith)) refl
-exactly-is (suc n) m (f ∷ fs) = rw (eqb-suc (length fs) n) (ap (onNumbers (numberUpTo m f)) (exactly-is n m fs) ∙ go (eqb (length fs) n) (numberUpTo m f))
+exactly-is (suc n) m (f ∷ fs) = rw (eqb-suc (length fs) n) (ap (onNumbers (decimalUpTo m f)) (exactly-is n m fs) ∙ go (eqb (length fs) n) (decimalUpTo m f))
   where
     go : (b : Bool) (o : Option ℕ) → onNumbers o (pick b (numbersUpTo m fs) none) ≡ pick b (onNumbers o (numbersUpTo m fs)) none
     go true o = refl
@@ -101,20 +101,20 @@ located-none false at = refl
 pub record FoundOperand (m at : ℕ) (cs : List ℕ) (x next : ℕ) : Type 0 where
   pub after-tab : List ℕ
   pub begins : cs ≡ tab ∷ after-tab
-  pub number-is : numberUpTo m (fieldIn after-tab) ≡ some x
+  pub number-is : decimalUpTo m (fieldIn after-tab) ≡ some x
   pub next-is : next ≡ at + 1 + length (fieldIn after-tab)
 
 pub found-operand : (m at : ℕ) (cs : List ℕ) (x next : ℕ) → operandAt true m at cs ≡ Operand.Is x next → FoundOperand m at cs x next
 found-operand m at [] x next e = let z : _≡_ {A = ℕ} 0 1 = cc in absurd (omega arith)
-found-operand m at (c ∷ ds) x next e = go (eqb c tab) refl (numberUpTo m (fieldIn ds)) refl e
+found-operand m at (c ∷ ds) x next e = go (eqb c tab) refl (decimalUpTo m (fieldIn ds)) refl e
   where
-    go : (b : Bool) → eqb c tab ≡ b → (o : Option ℕ) → numberUpTo m (fieldIn ds) ≡ o → pick b (operandBy o (at + 1 + length (fieldIn ds))) Operand.Bad ≡ Operand.Is x next → FoundOperand m at (c ∷ ds) x next
+    go : (b : Bool) → eqb c tab ≡ b → (o : Option ℕ) → decimalUpTo m (fieldIn ds) ≡ o → pick b (operandBy o (at + 1 + length (fieldIn ds))) Operand.Bad ≡ Operand.Is x next → FoundOperand m at (c ∷ ds) x next
     go true t none n e = let z : _≡_ {A = ℕ} 0 1 = cc in absurd (omega arith)
     go true t (some y) n e = record { after-tab = ds; begins = ap (λ d. d ∷ ds) (eqb-true c tab t); number-is = n ∙ cc; next-is = cc }
     go false t o n e = let z : _≡_ {A = ℕ} 0 1 = cc in absurd (omega arith)
 
 -- the line goes on after it
-module _ (k m : ℕ) (os : List ℕ) (n at : ℕ) (ds : List ℕ) (x : ℕ) (e : numberUpTo m (fieldIn ds) ≡ some x) where
+module _ (k m : ℕ) (os : List ℕ) (n at : ℕ) (ds : List ℕ) (x : ℕ) (e : decimalUpTo m (fieldIn ds) ≡ some x) where
   rest-tab : nodeRest k m os (suc n) at (tab ∷ ds) ≡ nodeRest k m (os ++ (x ∷ [])) n (at + 1 + length (fieldIn ds)) (restIn ds)
   unfolding nodeRest exactly lineEnds lineIn
   rest-tab =
@@ -131,12 +131,12 @@ rest-operand k m os n at cs x next f =
 pub rest-bad : (k m : ℕ) (os : List ℕ) (n at : ℕ) (cs : List ℕ) → operandAt true m at cs ≡ Operand.Bad → nodeRest k m os (suc n) at cs ≡ Scanned.Bad
 unfolding nodeRest exactly
 rest-bad k m os n at [] e = located-none (lineEnds []) (at + length (lineIn []) + 1)
-rest-bad k m os n at (c ∷ ds) e = go (eqb c tab) refl (numberUpTo m (fieldIn ds)) refl e
+rest-bad k m os n at (c ∷ ds) e = go (eqb c tab) refl (decimalUpTo m (fieldIn ds)) refl e
   where
     none-behind : (o : Option (List ℕ)) → behind os (onNumbers none o) ≡ none
     none-behind o = refl
 
-    go : (b : Bool) → eqb c tab ≡ b → (o : Option ℕ) → numberUpTo m (fieldIn ds) ≡ o → pick b (operandBy o (at + 1 + length (fieldIn ds))) Operand.Bad ≡ Operand.Bad
+    go : (b : Bool) → eqb c tab ≡ b → (o : Option ℕ) → decimalUpTo m (fieldIn ds) ≡ o → pick b (operandBy o (at + 1 + length (fieldIn ds))) Operand.Bad ≡ Operand.Bad
         → located (lineEnds (c ∷ ds)) (nodeWith k (behind os (exactly (suc n) m (pick b (parts tab (lineIn ds)) [])))) (at + length (lineIn (c ∷ ds)) + 1) ≡ Scanned.Bad
     go true t none f e = rw (goes-on ds .fields-are, f) (located-none (lineEnds (c ∷ ds)) (at + length (lineIn (c ∷ ds)) + 1))
     go true t (some y) f e = let z : _≡_ {A = ℕ} 0 1 = cc in absurd (omega arith)
@@ -188,7 +188,7 @@ module _ (text : List ℕ) (at : ℕ) (e : startsWith tab (drop at text) ≡ tru
   abbrev fieldThen : List ℕ
   fieldThen = fieldIn (drop (at + 1) text)
 
-  pub operand-tab : (m : ℕ) → operandAt true m at (drop at text) ≡ operandBy (numberUpTo m fieldThen) (at + 1 + length fieldThen)
+  pub operand-tab : (m : ℕ) → operandAt true m at (drop at text) ≡ operandBy (decimalUpTo m fieldThen) (at + 1 + length fieldThen)
   operand-tab m = rw (starts-then tab text at e) refl
 
   pub then-most : at + 1 + length fieldThen ≤ length text

@@ -150,10 +150,10 @@ module _ (text : List ℕ) (at i : ℕ) (s : Script) (xs es : List ℕ) (k : Kep
   entry-frame : (t : ℕ) → Framed xs es xs (set es (s .entries) t)
   entry-frame t = record { table-length = refl; entries-length = length-set es (s .entries) t; rest = refl }
 
-  pub took-entry : (t next : ℕ) → Here (entryLine t) at next (drop at text) → Took text at i s xs es (entryStep s t next i) xs (entryStored s t es)
+  pub took-entry : (t next : ℕ) → Here (entryLine t) at next (drop at text) → Took text at i s xs es (entryStep s next i) xs (entryStored s t es)
   took-entry t next h = go (eqb (s .nodes) 0) refl (ltb (s .entries) entryLimit) refl
     where
-      go : (b : Bool) → eqb (s .nodes) 0 ≡ b → (d : Bool) → ltb (s .entries) entryLimit ≡ d → Took text at i s xs es (entryStep s t next i) xs (entryStored s t es)
+      go : (b : Bool) → eqb (s .nodes) 0 ≡ b → (d : Bool) → ltb (s .entries) entryLimit ≡ d → Took text at i s xs es (entryStep s next i) xs (entryStored s t es)
       go true e true f =
           let z = eqb-true (s .nodes) 0 e in
           let m = ltb-true (s .entries) entryLimit f in
