@@ -1,12 +1,9 @@
 -- The flat form of a table inside the code: four numbers a node, its kind and three operands. Assumes nothing.
 use mathlib.Core.List.{List, [], _∷_}
 use Prim.Native.Nat.{ℕ}
-use Rattle.script.specs.Table.{Table}
+use Rattle.script.specs.Table.{Table, nodeOf}
 use Rattle.script.specs.declared.Node.{Node}
 pub mod Laws
-
-abbrev pub nodeOf : ℕ → ℕ → ℕ → ℕ → Node
-nodeOf k a b c = record { kind = k; a = a; b = b; c = c }
 
 unfoldable pub flat : List Node → List ℕ
 flat [] = []

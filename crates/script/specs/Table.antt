@@ -29,9 +29,12 @@ nodesOf t = take (t .nodeCount) (t .lentNodes)
 abbrev pub entriesOf : Table → List ℕ
 entriesOf t = take (t .entryCount) (t .lentEntries)
 
+abbrev pub nodeOf : ℕ → ℕ → ℕ → ℕ → Node
+nodeOf k x y z = record { kind = k; a = x; b = y; c = z }
+
 -- what an unused place holds: `false`
 abbrev pub unused : Node
-unused = record { kind = 2; a = 0; b = 0; c = 0 }
+unused = nodeOf 2 0 0 0
 
 abbrev pub nodeAt : List Node → ℕ → Node
 nodeAt ns i = getD ns i unused

@@ -5,10 +5,9 @@ use mathlib.Core.Option.{Option, none, some}
 use Prim.Native.Nat.{ℕ, suc, pred}
 use lib.Dec.{leb, ltb, eqb}
 use lib.ListN.{length}
-use Rattle.script.specs.Flat.{nodeOf}
 use Rattle.script.specs.Limits.{nodeLimit, entryLimit, byteLimit}
 use Rattle.script.specs.Rows.{Row, rowOf, numberUpTo}
-use Rattle.script.specs.Table.{rightNode, treeTest}
+use Rattle.script.specs.Table.{nodeOf, rightNode, treeTest}
 use Rattle.script.specs.Tests.{pick, need}
 use Rattle.script.specs.declared.Node.{Node}
 use Rattle.script.specs.declared.Refusal.{Refusal}

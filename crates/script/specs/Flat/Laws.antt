@@ -1,13 +1,17 @@
 -- What the flat form tells: the node at a place by its four numbers, a node stored, how many nodes there are, and the way there and back.
 -- Assumes nothing.
+use mathlib.Core.Bool.{true}
 use mathlib.Core.List.{List, [], _∷_, _++_}
 use mathlib.Core.Path.{_≡_, refl, sym, ap}
 use Prim.Native.Nat.{ℕ, zero, suc, _+_, _*_, _/_, _≤_, _<_}
 use native.Mathlib.Omega.{arith}
+use lib.Dec.{leb}
 use lib.ListN.{length, getD, take, drop, set}
 use lib.Seq.{sets}
-use Rattle.script.specs.Flat.{nodeOf, flat, nodesIn}
-use Rattle.script.specs.Table.{nodeAt}
+use borrow.Author.Tests.{le-leb}
+use Rattle.script.specs.Flat.{flat, nodesIn}
+use Rattle.script.specs.Limits.{nodeLimit}
+use Rattle.script.specs.Table.{nodeOf, nodeAt}
 use Rattle.script.specs.declared.Node.{Node}
 
 -- the place of a node's first number, by steps
@@ -33,6 +37,10 @@ length-nodesIn [] = refl
 -- as many nodes as the list has room for
 pub nodesIn-holds : (xs : List ℕ) (n : ℕ) → 4 * n ≤ length xs → n ≤ length (nodesIn xs)
 nodesIn-holds xs n h = let l = length-nodesIn xs in omega arith
+
+-- lent numbers that are enough for a table's nodes
+pub enough-nodes : (xs : List ℕ) → nodeLimit ≤ length xs / 4 → leb nodeLimit (length (nodesIn xs)) ≡ true
+enough-nodes xs h = let l = length-nodesIn xs in le-leb nodeLimit (length (nodesIn xs)) (omega arith)
 
 pub nodesIn-below : (xs : List ℕ) (i : ℕ) → 4 * i + 3 < length xs → i < length (nodesIn xs)
 nodesIn-below xs i h = let l = length-nodesIn xs in omega arith

@@ -7,7 +7,7 @@ use lib.ListN.{length, replicate}
 use Rattle.script.specs.Answers.{numberOf, placeOf}
 use Rattle.script.specs.Limits.{nodeLimit, entryLimit}
 use Rattle.script.specs.Rows.{rows, rowOf}
-use Rattle.script.specs.Table.{Table, unused, wellFormed, operands, timesIn, uses, symsAround, tooDeep, treeTest, nodesTest, tableTest}
+use Rattle.script.specs.Table.{Table, nodeOf, unused, wellFormed, operands, timesIn, uses, symsAround, tooDeep, treeTest, nodesTest, tableTest}
 use Rattle.script.specs.Tests.{lowestFrom}
 use Rattle.script.specs.declared.Node.{Node}
 use Rattle.script.specs.declared.Place.{Place}
@@ -25,50 +25,47 @@ lend es ns =
       entryCount = length es;
     }
 
-abbrev pub node : ℕ → ℕ → ℕ → ℕ → Node
-node k x y z = record { kind = k; a = x; b = y; c = z }
-
 abbrev pub int′ : ℕ → Node
-int′ w = node 0 w 0 0
+int′ w = nodeOf 0 w 0 0
 
 abbrev pub true′ : Node
-true′ = node 1 0 0 0
+true′ = nodeOf 1 0 0 0
 
 abbrev pub false′ : Node
-false′ = node 2 0 0 0
+false′ = nodeOf 2 0 0 0
 
 abbrev pub var′ : ℕ → Node
-var′ k = node 3 k 0 0
+var′ k = nodeOf 3 k 0 0
 
 abbrev pub add′ : ℕ → ℕ → Node
-add′ x y = node 4 x y 0
+add′ x y = nodeOf 4 x y 0
 
 abbrev pub eq′ : ℕ → ℕ → Node
-eq′ x y = node 5 x y 0
+eq′ x y = nodeOf 5 x y 0
 
 abbrev pub and′ : ℕ → ℕ → Node
-and′ x y = node 7 x y 0
+and′ x y = nodeOf 7 x y 0
 
 abbrev pub if′ : ℕ → ℕ → ℕ → Node
-if′ x y z = node 8 x y z
+if′ x y z = nodeOf 8 x y z
 
 abbrev pub let′ : ℕ → ℕ → Node
-let′ x y = node 9 x y 0
+let′ x y = nodeOf 9 x y 0
 
 abbrev pub ref′ : ℕ → Node
-ref′ x = node 10 x 0 0
+ref′ x = nodeOf 10 x 0 0
 
 abbrev pub get′ : ℕ → Node
-get′ x = node 11 x 0 0
+get′ x = nodeOf 11 x 0 0
 
 abbrev pub set′ : ℕ → ℕ → Node
-set′ x y = node 12 x y 0
+set′ x y = nodeOf 12 x y 0
 
 abbrev pub typed′ : ℕ → Node
-typed′ x = node 13 x 0 0
+typed′ x = nodeOf 13 x 0 0
 
 abbrev pub sym′ : ℕ → Node
-sym′ x = node 14 x 0 0
+sym′ x = nodeOf 14 x 0 0
 
 -- ---- rows
 
@@ -112,12 +109,12 @@ cases =
     -- 4: an operand that is no earlier node, also the node itself; a kind with no word; a number out of its range; an unused operand; before 5
     ∷ tests [] (true′ ∷ true′ ∷ add′ 1 2 ∷ []) (unsound 4 (At 2))
     ∷ tests [] (sym′ 0 ∷ []) (unsound 4 (At 0))
-    ∷ tests [] (true′ ∷ node 15 0 0 0 ∷ node 16 0 0 0 ∷ []) (unsound 4 (At 1))
+    ∷ tests [] (true′ ∷ nodeOf 15 0 0 0 ∷ nodeOf 16 0 0 0 ∷ []) (unsound 4 (At 1))
     ∷ tests [] (var′ 144 ∷ []) (unsound 4 (At 0))
     ∷ tests [] (var′ 143 ∷ []) sound
     ∷ tests [] (int′ 4294967296 ∷ []) (unsound 4 (At 0))
     ∷ tests [] (int′ 4294967295 ∷ []) sound
-    ∷ tests [] (node 1 0 0 7 ∷ []) (unsound 4 (At 0))
+    ∷ tests [] (nodeOf 1 0 0 7 ∷ []) (unsound 4 (At 0))
     -- 5: a node used twice, in one node or in two, and one that is not used
     ∷ tests [] (int′ 1 ∷ add′ 0 0 ∷ []) (unsound 5 (At 0))
     ∷ tests [] (int′ 1 ∷ int′ 2 ∷ add′ 0 1 ∷ add′ 2 1 ∷ []) (unsound 5 (At 1))

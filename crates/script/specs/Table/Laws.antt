@@ -117,7 +117,7 @@ each-earlier i os e k h = ltb-true (getD os k 0) i (all-getD (λ o. ltb o i) os 
 each-most : (m : ℕ) (os : List ℕ) → all (λ o. leb o m) os ≡ true → (k : ℕ) → k < length os → getD os k 0 ≤ m
 each-most m os e k h = leb-true (getD os k 0) m (all-getD (λ o. leb o m) os e k 0 h)
 
-each-zero : (os : List ℕ) → all (λ o. eqb o 0) os ≡ true → (k : ℕ) → k < length os → getD os k 0 ≡ 0
+pub each-zero : (os : List ℕ) → all (λ o. eqb o 0) os ≡ true → (k : ℕ) → k < length os → getD os k 0 ≡ 0
 each-zero os e k h = eqb-true (getD os k 0) 0 (all-getD (λ o. eqb o 0) os e k 0 h)
 
 module _ (i : ℕ) (n : Node) where

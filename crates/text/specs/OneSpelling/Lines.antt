@@ -7,11 +7,10 @@ use Prim.Native.Nat.{ℕ, suc, _≤_}
 use lib.Dec.{eqb}
 use lib.ListN.{length, take}
 use borrow.Author.Tests.{eqb-true}
-use Rattle.script.specs.Flat.{nodeOf}
 use Rattle.script.specs.Limits.{wordLimit, typeLimit}
 use Rattle.script.specs.Rows.{Row, rowOf}
 use Rattle.script.specs.Rows as Rows
-use Rattle.script.specs.Table.{fields}
+use Rattle.script.specs.Table.{nodeOf, fields}
 use Rattle.script.specs.Tests.{pick}
 use Rattle.script.specs.Tests.Laws.{some-not-none}
 use Rattle.script.specs.declared.Node.{Node}

@@ -6,15 +6,15 @@ use mathlib.Core.Path.{_≡_, refl, sym, ap, ap₂, _∙_}
 use Prim.Native.Nat.{ℕ, zero, suc, _+_, _≤_, _<_}
 use native.Mathlib.Omega.{arith}
 use lib.Dec.{leb, ltb, eqb}
-use lib.ListN.{length, take, drop, getD, length-map, length-take}
-use borrow.Author.Tests.{ltb-true, leb-true, eqb-true, le-leb, eq-eqb, ne-eqb}
-use Rattle.script.specs.Flat.{nodeOf}
+use lib.ListN.{length, take, drop, length-map, length-take}
+use borrow.Author.Tests.{ltb-true, leb-true, le-leb, eq-eqb, ne-eqb}
 use Rattle.script.specs.Limits.{nodeLimit, wordLimit, typeLimit}
 use Rattle.script.specs.Rows.{Row, Form, rowOf, intForm, varForm, ifForm, letForm, typedForm, symForm, truthForm, unaryForm, binaryForm}
 use Rattle.script.specs.Rows as Rows
-use Rattle.script.specs.Table.{fields, rightOperands, rightNode}
+use Rattle.script.specs.Table.{nodeOf, fields, rightOperands, rightNode}
+use Rattle.script.specs.Table.Laws.{each-zero}
 use Rattle.script.specs.Tests.{all}
-use Rattle.script.specs.Tests.Laws.{both-true, all-getD}
+use Rattle.script.specs.Tests.Laws.{both-true}
 use Rattle.script.specs.declared.Node.{Node}
 use Rattle.text.specs.Bytes.{tab, lf, letter-r, entryWord}
 use Rattle.text.specs.Fields.{isDigit, typeAfter, typeOf, sameBytes}
@@ -121,17 +121,14 @@ module _ (m : ℕ) (w : m ≤ wordLimit) where
 
 -- ---- a node line, without its LF
 
-all-zero : (os : List ℕ) → all (λ o. eqb o 0) os ≡ true → (k : ℕ) → k < length os → getD os k 0 ≡ 0
-all-zero os e k h = eqb-true (getD os k 0) 0 (all-getD (λ o. eqb o 0) os e k 0 h)
-
 node-with : (n : Node) (c : ℕ) → c ≤ 3 → all (λ o. eqb o 0) (drop c (fields n)) ≡ true → nodeWith (n .kind) (some (take c (fields n))) ≡ some (nodeLine n)
 node-with n zero h e =
-    let u = all-zero (fields n) e in
+    let u = each-zero (fields n) e in
     ap₂ (λ (a : ℕ) (f : ℕ × ℕ). some (nodeLine (nodeOf (n .kind) a (f .0) (f .1)))) (sym (u 0 (omega arith))) (cc (u 1 (omega arith), u 2 (omega arith)))
 node-with n (suc zero) h e =
-    let u = all-zero (n .b ∷ n .c ∷ []) e in
+    let u = each-zero (n .b ∷ n .c ∷ []) e in
     ap₂ (λ (b c : ℕ). some (nodeLine (nodeOf (n .kind) (n .a) b c))) (sym (u 0 (omega arith))) (sym (u 1 (omega arith)))
-node-with n (suc (suc zero)) h e = ap (λ (c : ℕ). some (nodeLine (nodeOf (n .kind) (n .a) (n .b) c))) (sym (all-zero (n .c ∷ []) e 0 (omega arith)))
+node-with n (suc (suc zero)) h e = ap (λ (c : ℕ). some (nodeLine (nodeOf (n .kind) (n .a) (n .b) c))) (sym (each-zero (n .c ∷ []) e 0 (omega arith)))
 node-with n (suc (suc (suc zero))) h e = refl
 node-with n (suc (suc (suc (suc c)))) h e = absurd (omega arith)
 

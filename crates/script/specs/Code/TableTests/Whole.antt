@@ -8,7 +8,7 @@ use lib.Dec.{leb, ltb}
 use lib.ListN.{length, take, replicate}
 use borrow.Author.Tests.{le-leb, lt-leb, leb-true, lt-ltb, le-ltb, not-false}
 use Rattle.script.specs.Flat.{nodesIn, tableIn}
-use Rattle.script.specs.Flat.Laws.{length-nodesIn}
+use Rattle.script.specs.Flat.Laws.{length-nodesIn, enough-nodes}
 use Rattle.script.specs.Limits.{nodeLimit, entryLimit, typeLimit, sizeOf, pickSized, countsFit, scriptOf}
 use Rattle.script.specs.Rows.Laws.{same-anywhere}
 use Rattle.script.specs.Table.{Table, nodesOf, entriesOf, wellFormed, nodesTest, tableTest}
@@ -79,17 +79,14 @@ module _ (xs : List ℕ) (n : ℕ) (es : List ℕ) (m : ℕ) where
   table-few-nodes h = let l = length-nodesIn xs in rw (lt-leb nodeLimit (length (nodesIn xs)) (omega arith)) refl
 
   module _ (nodes-lent : nodeLimit ≤ length xs / 4) where
-    nodes-enough : leb nodeLimit (length (nodesIn xs)) ≡ true
-    nodes-enough = let l = length-nodesIn xs in le-leb nodeLimit (length (nodesIn xs)) (omega arith)
-
     pub table-few-entries : length es < entryLimit → Refused TableTooSmall ≡ testedBy (tableTest (tableIn xs n es m))
     unfolding tableTest
-    table-few-entries h = rw (nodes-enough, lt-leb entryLimit (length es) h) refl
+    table-few-entries h = rw (enough-nodes xs nodes-lent, lt-leb entryLimit (length es) h) refl
 
     module _ (entries-lent : entryLimit ≤ length es) (s : Sized) (sized : s ≡ scriptOf n m) where
       pub table-too-many : s ≡ TooLarge → Refused TooMany ≡ testedBy (tableTest (tableIn xs n es m))
       unfolding tableTest
-      table-too-many e = rw (nodes-enough, le-leb entryLimit (length es) entries-lent, too-large (countsFit n m) (sizeOf n m) (sym sized ∙ e)) refl
+      table-too-many e = rw (enough-nodes xs nodes-lent, le-leb entryLimit (length es) entries-lent, too-large (countsFit n m) (sizeOf n m) (sym sized ∙ e)) refl
 
       module _ (x : Script) (fits : s ≡ Fits x) where
         counts-fit : countsFit n m ≡ true
@@ -97,7 +94,7 @@ module _ (xs : List ℕ) (n : ℕ) (es : List ℕ) (m : ℕ) where
 
         pub table-within : testedBy (usedTest (tableIn xs n es m)) ≡ testedBy (tableTest (tableIn xs n es m))
         unfolding tableTest usedTest
-        table-within = rw (nodes-enough, le-leb entryLimit (length es) entries-lent, counts-fit) refl
+        table-within = rw (enough-nodes xs nodes-lent, le-leb entryLimit (length es) entries-lent, counts-fit) refl
 
         pub table-lent : Lent xs n × (m ≤ length es)
         table-lent =

@@ -6,11 +6,11 @@ use Prim.Native.Nat.{ℕ, zero, suc, _+_, _≤_, _<_}
 use native.Mathlib.Numerals.{add-one}
 use native.Mathlib.Omega.{arith}
 use lib.Dec.{ltb}
-use lib.ListN.{length, getD, getElem?, take, drop, length-append}
+use lib.ListN.{length, getD, take, drop, length-append}
 use lib.Seq.{drop-cons, getD-take, drop-length, length-take-le}
-use Rattle.script.specs.Rows.{Row, rows, rowOf, countBy, operandCount}
+use Rattle.script.specs.Rows.{Row, rowOf, countBy, operandCount}
+use Rattle.script.specs.Rows.Laws.{row-some}
 use Rattle.script.specs.Table.{nodeAt, unused}
-use Rattle.script.specs.Tests.Laws.{some-not-none}
 use Rattle.script.specs.declared.Node.{Node}
 use Rattle.text.specs.Bytes.{lf, tab}
 use Rattle.text.specs.Code.Output.{wordBy, wordOf, operandIf}
@@ -33,16 +33,11 @@ node-parts-by : (o : Option Row) (n : Node) → (o ≡ none → ⊥) → ((r : R
 node-parts-by none n h m = absurd (h refl)
 node-parts-by (some r) n h m = rw (operands-parts (r .count) (n .a) (n .b) (n .c) (m r refl)) (simp append-assoc)
 
-in-range : {A : Type 0} (xs : List A) (k : ℕ) → k < length xs → getElem? xs k ≡ none → ⊥
-in-range [] k h e = omega arith
-in-range (x ∷ xs) zero h e = some-not-none x e
-in-range (x ∷ xs) (suc k) h e = in-range xs k (omega arith) e
-
 -- the parts of a node line, where the code knows the operand count as k
 module _ (n : Node) {k : ℕ} (h : n .kind < 15) (e : k ≡ operandCount (n .kind)) where
   pub node-parts : nodeText n ≡ wordOf (n .kind) ++ operandIf (ltb 0 k) (n .a) ++ operandIf (ltb 1 k) (n .b) ++ operandIf (ltb 2 k) (n .c) ++ (lf ∷ [])
-  unfolding nodeText wordOf operandCount rowOf rows
-  node-parts = rw e (node-parts-by (rowOf (n .kind)) n (in-range rows (n .kind) h) (λ r q. row-most (n .kind) r q))
+  unfolding nodeText wordOf operandCount
+  node-parts = rw e (node-parts-by (rowOf (n .kind)) n (row-some (n .kind) h) (λ r q. row-most (n .kind) r q))
 
   pub node-length : length (nodeText n) ≡ length (wordOf (n .kind)) + length (operandIf (ltb 0 k) (n .a)) + length (operandIf (ltb 1 k) (n .b)) + length (operandIf (ltb 2 k) (n .c)) + 1
   node-length = ap length node-parts ∙ simp length-append

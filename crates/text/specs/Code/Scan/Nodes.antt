@@ -9,10 +9,10 @@ use native.Mathlib.Omega.{arith}
 use lib.Dec.{ltb}
 use lib.ListN.{length, drop}
 use borrow.Author.Tests.{ltb-true, ltb-false}
-use Rattle.script.specs.Flat.{nodeOf}
 use Rattle.script.specs.Rows.{Row, rowOf, operandCount, takesIn, takesOf}
 use Rattle.script.specs.Rows as Rows
 use Rattle.script.specs.Rows.Laws.{row-some}
+use Rattle.script.specs.Table.{nodeOf}
 use Rattle.script.specs.Tests.{pick}
 use Rattle.script.specs.Tests.Laws.{true-or-false}
 use Rattle.script.specs.declared.table.Takes.{Takes}

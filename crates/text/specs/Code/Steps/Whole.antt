@@ -1,15 +1,13 @@
 -- A whole call of the reader: 32 and 31 before the lines, and what every lent number holds after the unused places are cleared. Assumes nothing.
-use mathlib.Core.Bool.{true}
 use mathlib.Core.List.{List, [], _++_}
 use mathlib.Core.Path.{_≡_, refl, sym, ap, _∙_}
 use Prim.Native.Nat.{ℕ, _-_, _*_, _/_, _≤_, _<_}
 use native.Mathlib.Omega.{arith}
-use lib.Dec.{leb}
 use lib.ListN.{length, take, drop, replicate, length-append, length-replicate, take-append-drop}
 use lib.Seq.{length-take-le, take-length}
 use borrow.Author.Tests.{le-leb, lt-leb}
 use Rattle.script.specs.Flat.{flat, nodesIn}
-use Rattle.script.specs.Flat.Laws.{length-nodesIn, flat-nodesIn}
+use Rattle.script.specs.Flat.Laws.{length-nodesIn, flat-nodesIn, enough-nodes}
 use Rattle.script.specs.Limits.{nodeLimit, entryLimit, byteLimit}
 use Rattle.script.specs.Table.{unused}
 use Rattle.script.specs.declared.Reading.{Reading}
@@ -37,20 +35,17 @@ module _ (text xs es : List ℕ) where
       rw (lt-leb nodeLimit (length (nodesIn xs)) (omega arith)) refl
 
   module _ (h : nodeLimit ≤ length xs / 4) where
-    enough-nodes : leb nodeLimit (length (nodesIn xs)) ≡ true
-    enough-nodes = let l = length-nodesIn xs in le-leb nodeLimit (length (nodesIn xs)) (omega arith)
-
     pub few-entries : length es < entryLimit → triedIn ≡ refused TableTooSmall
-    few-entries l = rw (enough-nodes, lt-leb entryLimit (length es) l) refl
+    few-entries l = rw (enough-nodes xs h, lt-leb entryLimit (length es) l) refl
 
     module _ (l : entryLimit ≤ length es) where
       pub too-long : byteLimit < length text → triedIn ≡ refused TextTooLong
       unfolding meaningOf
-      too-long b = rw (enough-nodes, le-leb entryLimit (length es) l, lt-leb (length text) byteLimit b) refl
+      too-long b = rw (enough-nodes xs h, le-leb entryLimit (length es) l, lt-leb (length text) byteLimit b) refl
 
       pub not-too-long : length text ≤ byteLimit → triedIn ≡ linesFrom 0 [] [] (parts lf text)
       unfolding meaningOf
-      not-too-long b = rw (enough-nodes, le-leb entryLimit (length es) l, le-leb (length text) byteLimit b) refl
+      not-too-long b = rw (enough-nodes xs h, le-leb entryLimit (length es) l, le-leb (length text) byteLimit b) refl
 
 -- ---- every lent number
 
