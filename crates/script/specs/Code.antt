@@ -1,3 +1,3 @@
--- What the contracts of the parts of the tests of a table say. Nothing here has to be believed but the code's answer, `testedBy`: the contract of
--- `test_table` cites `tableTest`, and the proofs tie these to it. Assumes nothing.
+-- What the contracts of the parts of the tests of a table say. Nothing here has to be believed: the contract of `test_table` cites `tableTest`, and the
+-- proofs tie these to it. Assumes nothing.
 pub mod TableTests

@@ -65,15 +65,17 @@ pub record Outcome : Type 0 where
   pub answer : Writing
   pub bytes : List ℕ
 
+-- what a call gives and leaves
+abbrev pub outcome : Writing → List ℕ → Outcome
+outcome answer bytes = record { answer = answer; bytes = bytes }
+
 unfoldable pub longEnough : List ℕ → List ℕ → Bool
 longEnough out text = leb (length text) (length out)
 
 abbrev pub outcomeOf : Option Refusal → List ℕ → List ℕ → Outcome
-outcomeOf (some r) text out = record { answer = Writing.Refused r; bytes = out }
+outcomeOf (some r) text out = outcome (Writing.Refused r) out
 outcomeOf none text out =
-    pick (longEnough out text)
-    (record { answer = Writing.Wrote (length text); bytes = text ++ drop (length text) out })
-    (record { answer = Writing.Refused OutputTooShort; bytes = out })
+    pick (longEnough out text) (outcome (Writing.Wrote (length text)) (text ++ drop (length text) out)) (outcome (Writing.Refused OutputTooShort) out)
 
 unfoldable pub writing : Table → List ℕ → Outcome
 writing t out = outcomeOf (tableTest t) (textOf (entriesOf t) (nodesOf t)) out

@@ -7,7 +7,7 @@ ghost use lib.ListN.{length, take, replicate};
 ghost use Rattle.script.specs.Flat.{nodesIn};
 ghost use Rattle.script.specs.Limits.{nodeLimit, entryLimit, byteLimit};
 ghost use Rattle.script.specs.Table.{treeTest};
-ghost use Rattle.script.specs.Code.TableTests.{FormedNodes};
+ghost use Rattle.script.specs.Flat.{FormedNodes};
 ghost use Rattle.script.specs.Tests.{need};
 ghost use Rattle.script.specs.declared.Refusal.the-variants.{NoNode};
 ghost use Rattle.text.specs.Bytes.{lf};

@@ -1,13 +1,12 @@
 -- The tests of a table as the code makes them: its answer, one operand at a time, the counts of uses and the numbers of `sym` around that two
 -- lists hold, and the tests by these lists. Assumes nothing.
-use mathlib.Core.Bool.{Bool, true, false, not, _&&_}
+use mathlib.Core.Bool.{Bool, false, not, _&&_}
 use mathlib.Core.List.{List}
 use mathlib.Core.Option.{Option, none, some}
 use mathlib.Core.Path.{_≡_}
 use Prim.Native.Nat.{ℕ, suc, _+_, _*_, _≤_, _<_, pred}
 use lib.Dec.{leb, ltb, eqb}
-use lib.ListN.{length, take, drop, getD}
-use Rattle.script.specs.Flat.{nodesIn}
+use lib.ListN.{length, drop, getD}
 use Rattle.script.specs.Limits.{nodeLimit, nestingLimit, wordLimit, typeLimit}
 use Rattle.script.specs.Rows.{Row, numberUpTo}
 use Rattle.script.specs.Table.{Table, nodesOf, entriesOf, nodeAt, wellFormed, isSymNode, timesIn, uses, symsAround, tooDeep, nodesTest}
@@ -15,28 +14,15 @@ use Rattle.script.specs.Tests.{pick, all, lowest, need, needNone}
 use Rattle.script.specs.declared.Node.{Node}
 use Rattle.script.specs.declared.Refusal.{Refusal}
 use Rattle.script.specs.declared.Refusal.the-variants.{NoNode, BadTypeCode, BadOperand, NotUsedOnce, TooDeep}
-use Rattle.script.specs.declared.table.Tested.{Tested}
-use Rattle.script.specs.declared.table.Tested.the-variants.{Passed, Refused}
 pub mod Counts
 pub mod Laws
 pub mod Lowest
 pub mod Whole
 
--- the code's answer
-abbrev pub testedBy : Option Refusal → Tested
-testedBy none = Passed
-testedBy (some r) = Refused r
-
 -- the first n nodes are lent, and within the limit
 pub record Lent (xs : List ℕ) (n : ℕ) : Type 0 where
   pub most : n ≤ nodeLimit
   pub room : 4 * n ≤ length xs
-
--- they are well formed too
-pub record FormedNodes (xs : List ℕ) (n : ℕ) : Type 0 where
-  pub most : n ≤ nodeLimit
-  pub room : 4 * n ≤ length xs
-  pub formed : (i : ℕ) → i < n → wellFormed (take n (nodesIn xs)) i ≡ true
 
 -- ---- 4
 

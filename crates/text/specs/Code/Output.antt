@@ -1,4 +1,4 @@
--- What a part of the writer does to the lent bytes, which bytes a part is, and what a whole call gives: for the writer's contracts. Assumes nothing.
+-- What a part of the writer does to the lent bytes, and which bytes a part is: for the writer's contracts. Assumes nothing.
 use mathlib.Core.Bool.{Bool}
 use mathlib.Core.List.{List, [], _∷_}
 use mathlib.Core.Option.{Option, none, some}
@@ -9,9 +9,8 @@ use lib.Seq.{sets}
 use Rattle.script.specs.Rows.{Row, rowOf}
 use Rattle.script.specs.Table.{Table, nodesOf, entriesOf}
 use Rattle.script.specs.Tests.{pick}
-use Rattle.script.specs.declared.Writing.{Writing}
 use Rattle.text.specs.Bytes.{tab}
-use Rattle.text.specs.Writing.{Outcome, digits, textOf}
+use Rattle.text.specs.Writing.{digits, textOf}
 pub mod Fields
 pub mod Laws
 pub mod Lines
@@ -37,7 +36,3 @@ operandIf wanted o = pick wanted (tab ∷ digits o) []
 -- the text of a table
 abbrev pub textIn : Table → List ℕ
 textIn t = textOf (entriesOf t) (nodesOf t)
-
--- what a call of the writer gives and leaves
-abbrev pub outcome : Writing → List ℕ → Outcome
-outcome answer bytes = record { answer = answer; bytes = bytes }

@@ -3,7 +3,7 @@ use borrow.Author.Needs.{needs}
 use mathlib.Core.Path.{ap, _∙_}
 use lib.ListN.{take}
 use Rattle.script.specs.Flat.{nodesIn}
-use Rattle.script.specs.Code.TableTests.{testedBy}
+use Rattle.script.specs.Flat.{testedBy}
 use Rattle.script.specs.Code.TableTests.Counts.{nesting-depths}
 use Rattle.script.specs.Code.TableTests.Whole.{zeros-made}
 use Rattle.script.proofs.tests.test_nesting.Statement.{statement}

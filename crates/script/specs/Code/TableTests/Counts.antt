@@ -18,7 +18,8 @@ use Rattle.script.specs.Rows.Laws.{node-operands-most}
 use Rattle.script.specs.Table.{nodeAt, fields, wellFormed, isSymNode, operands, timesIn, uses, symsAround, tooDeep}
 use Rattle.script.specs.Table.Laws.{operand-earlier, uses-suc}
 use Rattle.script.specs.Table.Uses.{length-operands, operand-at, timesIn-suc, timesIn-most, timesIn-none, uses-none, uses-most, around-none, around-step, around-most, around-from-first}
-use Rattle.script.specs.Code.TableTests.{Lent, FormedNodes, Zeros, Within, Small, Counted, Spread, UseCounts, Nestings, usesTest, depthsTest, countsTest, nestingTest, deepAt}
+use Rattle.script.specs.Code.TableTests.{Lent, Zeros, Within, Small, Counted, Spread, UseCounts, Nestings, usesTest, depthsTest, countsTest, nestingTest, deepAt}
+use Rattle.script.specs.Flat.{FormedNodes}
 use Rattle.script.specs.Code.TableTests.Laws.{lent-length, same-node}
 use Rattle.script.specs.Tests.{pick, needNone}
 use Rattle.script.specs.Tests.Loops.{lowest-same}

@@ -15,7 +15,8 @@ use Rattle.script.specs.Flat.Laws.{nodesIn-holds}
 use Rattle.script.specs.Rows.{Row, rowOf, numberUpTo, takesBy, takesIn, takesOf, countBy, operandCount}
 use Rattle.script.specs.Rows.Laws.{row-some, row-none}
 use Rattle.script.specs.Table.{unused, nodeAt, fields, rightOperands, rightNode, wellFormed, uses, treeTest, nodesTest}
-use Rattle.script.specs.Code.TableTests.{testedBy, Lent, rightOperand, rightField, operandsTest, usesTest, depthsTest}
+use Rattle.script.specs.Code.TableTests.{Lent, rightOperand, rightField, operandsTest, usesTest, depthsTest}
+use Rattle.script.specs.Flat.{testedBy}
 use Rattle.script.specs.Tests.{pick, all, lowest, needNone}
 use Rattle.script.specs.Tests.Loops.{Looked, look-found, look-none}
 use Rattle.script.specs.declared.Node.{Node}

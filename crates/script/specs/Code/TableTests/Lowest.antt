@@ -11,7 +11,8 @@ use borrow.Author.Tests.{le-leb, lt-leb, eq-eqb, ne-eqb}
 use Rattle.script.specs.Flat.{nodesIn}
 use Rattle.script.specs.Limits.{typeLimit}
 use Rattle.script.specs.Table.{nodeAt, wellFormed}
-use Rattle.script.specs.Code.TableTests.{testedBy, Lent, operandsTest, countsTest, deepAt, nestingTest}
+use Rattle.script.specs.Code.TableTests.{Lent, operandsTest, countsTest, deepAt, nestingTest}
+use Rattle.script.specs.Flat.{testedBy}
 use Rattle.script.specs.Code.TableTests.Laws.{refused-at, passed-all, lent-length, same-node}
 use Rattle.script.specs.Tests.{all}
 use Rattle.script.specs.Tests.Laws.{getD-all, getD-not-all}

@@ -12,7 +12,8 @@ use Rattle.script.specs.Flat.Laws.{length-nodesIn, enough-nodes}
 use Rattle.script.specs.Limits.{nodeLimit, entryLimit, typeLimit, sizeOf, pickSized, countsFit, scriptOf}
 use Rattle.script.specs.Rows.Laws.{same-anywhere}
 use Rattle.script.specs.Table.{Table, nodesOf, entriesOf, wellFormed, nodesTest, tableTest}
-use Rattle.script.specs.Code.TableTests.{testedBy, Lent, FormedNodes, Zeros, operandsTest, usedTest}
+use Rattle.script.specs.Code.TableTests.{Lent, Zeros, operandsTest, usedTest}
+use Rattle.script.specs.Flat.{testedBy, FormedNodes}
 use Rattle.script.specs.Code.TableTests.Laws.{lent-length, passed-none}
 use Rattle.script.specs.Tests.{all}
 use Rattle.script.specs.Tests.Laws.{both-true, lowest-none, needNone-none}
