@@ -1,9 +1,18 @@
 // Filling and comparing slices.
+ghost use mathlib.Core.Path.{_≡_};
+ghost use lib.Dec.{eqb};
+ghost use lib.ListN.{length, drop, replicate};
+ghost use Rattle.script.specs.Flat.{nodesIn};
+ghost use Rattle.script.specs.Tests.{all};
+ghost use Rattle.text.specs.Fields.{sameBytes};
+ghost use Rattle.texts.specs.Slices.{isUnused};
 use script::Node;
 use script::table::node_at;
 
 // Puts `w` into every place.
-pub fn fill_words(s: &mut [u32], w: u32) {
+pub fn fill_words(s: &mut [u32], w: u32)
+    ensures { λ _. ⌜ now (s .exit) ≡ replicate (length (now (s .entry))) w ⌝ }
+{
     let mut i = 0;
     while i < s.len() {
         s[i] = w;
@@ -12,7 +21,9 @@ pub fn fill_words(s: &mut [u32], w: u32) {
 }
 
 // Puts `b` into every place.
-pub fn fill_bytes(s: &mut [u8], b: u8) {
+pub fn fill_bytes(s: &mut [u8], b: u8)
+    ensures { λ _. ⌜ now (s .exit) ≡ replicate (length (now (s .entry))) b ⌝ }
+{
     let mut i = 0;
     while i < s.len() {
         s[i] = b;
@@ -21,7 +32,9 @@ pub fn fill_bytes(s: &mut [u8], b: u8) {
 }
 
 // Whether the two hold the same bytes.
-pub fn same(a: &[u8], b: &[u8]) -> bool {
+pub fn same(a: &[u8], b: &[u8]) -> bool
+    ensures { λ r. ⌜ r ≡ sameBytes (now (a .entry)) (now (b .entry)) ⌝ }
+{
     if a.len() != b.len() {
         return false;
     }
@@ -36,7 +49,9 @@ pub fn same(a: &[u8], b: &[u8]) -> bool {
 }
 
 // Whether every byte is `b`.
-pub fn all_bytes(s: &[u8], b: u8) -> bool {
+pub fn all_bytes(s: &[u8], b: u8) -> bool
+    ensures { λ r. ⌜ r ≡ all (λ c. eqb c b) (now (s .entry)) ⌝ }
+{
     let mut i = 0;
     while i < s.len() {
         if s[i] != b {
@@ -48,7 +63,9 @@ pub fn all_bytes(s: &[u8], b: u8) -> bool {
 }
 
 // Whether every entry from `from` on is 0.
-pub fn entries_clear(entries: &[u32], from: usize) -> bool {
+pub fn entries_clear(entries: &[u32], from: usize) -> bool
+    ensures { λ r. ⌜ r ≡ all (λ c. eqb c 0) (drop from (now (entries .entry))) ⌝ }
+{
     let mut i = from;
     while i < entries.len() {
         if entries[i] != 0 {
@@ -60,7 +77,9 @@ pub fn entries_clear(entries: &[u32], from: usize) -> bool {
 }
 
 // Whether this is `false`, kind 2 with operands 0, which unused places hold.
-fn is_false(n: Node) -> bool {
+fn is_false(n: Node) -> bool
+    ensures { λ r. ⌜ r ≡ isUnused n ⌝ }
+{
     if n.kind != 2 {
         return false;
     }
@@ -74,7 +93,9 @@ fn is_false(n: Node) -> bool {
 }
 
 // Whether every node of the table from `from` on is `false`.
-pub fn nodes_clear(table: &[u32], from: usize) -> bool {
+pub fn nodes_clear(table: &[u32], from: usize) -> bool
+    ensures { λ r. ⌜ r ≡ all isUnused (drop from (nodesIn (now (table .entry)))) ⌝ }
+{
     let nodes = table.len() / 4;
     let mut i = from;
     while i < nodes {
