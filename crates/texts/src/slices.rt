@@ -4,7 +4,6 @@ ghost use lib.Dec.{eqb};
 ghost use lib.ListN.{length, drop, replicate};
 ghost use Rattle.script.specs.Flat.{nodesIn};
 ghost use Rattle.script.specs.Tests.{all};
-ghost use Rattle.text.specs.Fields.{sameBytes};
 ghost use Rattle.texts.specs.Slices.{isUnused};
 use script::Node;
 use script::table::node_at;
@@ -29,23 +28,6 @@ pub fn fill_bytes(s: &mut [u8], b: u8)
         s[i] = b;
         i += 1;
     }
-}
-
-// Whether the two hold the same bytes.
-pub fn same(a: &[u8], b: &[u8]) -> bool
-    ensures { λ r. ⌜ r ≡ sameBytes (now (a .entry)) (now (b .entry)) ⌝ }
-{
-    if a.len() != b.len() {
-        return false;
-    }
-    let mut i = 0;
-    while i < a.len() {
-        if a[i] != b[i] {
-            return false;
-        }
-        i += 1;
-    }
-    true
 }
 
 // Whether every byte is `b`.

@@ -4,7 +4,6 @@ use crate::slices::entries_clear;
 use crate::slices::fill_bytes;
 use crate::slices::fill_words;
 use crate::slices::nodes_clear;
-use crate::slices::same;
 use libc::STDOUT_FILENO;
 use script::Place;
 use script::Reading;
@@ -71,7 +70,7 @@ fn say_kept(out: &[u8], from: usize) {
 // Prints whether the output begins with a text of this length, and it is `text`.
 fn say_same(text: &[u8], out: &[u8], length: usize) {
     if length <= out.len() {
-        say_either(same(text, &out[..length]), b"same", b"differs");
+        say_either(check::same(text, &out[..length]), b"same", b"differs");
     } else {
         say(b"\tdiffers");
     }

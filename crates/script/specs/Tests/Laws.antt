@@ -1,15 +1,16 @@
 -- What the tests tell: the lowest place that passes a test, in both directions and one step at a time for a loop; every element of a list that
 -- passes; and a row of tests that refuses nothing. Assumes nothing.
 use mathlib.Core.Bool.{Bool, true, false, _&&_, _||_, true≢false}
-use mathlib.Core.List.{List, [], _∷_}
+use mathlib.Core.List.{List, [], _∷_, _++_}
 use mathlib.Core.Logic.{_⊎_, inl, inr}
 use mathlib.Core.Option.{Option, none, some}
 use mathlib.Core.Path.{_≡_, refl, sym, ap, _∙_}
 use Prim.Native.Nat.{ℕ, zero, suc, _+_, _≤_, _<_}
 use native.Mathlib.Decide.{ℕ-discrete}
 use native.Mathlib.Omega.{arith}
-use lib.ListN.{length, getD, getElem?}
+use lib.ListN.{length, getD, getElem?, length-append, List·getD-append}
 use Rattle.script.specs.Tests.{all, lowestFrom, lowest, need, needNone}
+use lib.Seq.{getD-at}
 
 -- ---- tests
 
@@ -163,6 +164,15 @@ module _ {A : Type 0} (p : A → Bool) where
       go : (t : Bool) → all p xs ≡ t → all p xs ≡ false
       go true e = absurd (true-or-false (p (getD xs i d)) (all-getD xs e i d h) f)
       go false e = e
+
+-- what holds of each element and of one more
+pub each-snoc : {A : Type 0} (d : A) (P : ℕ → A → Type 0) (xs : List A) (x : A) → ((i : ℕ) → i < length xs → P i (getD xs i d)) → P (length xs) x
+    → (i : ℕ) → i < length (xs ++ (x ∷ [])) → P i (getD (xs ++ (x ∷ [])) i d)
+each-snoc d P xs x h l i b = go (ℕ-discrete (length xs) i)
+  where
+    go : Dec (length xs ≡ i) → P i (getD (xs ++ (x ∷ [])) i d)
+    go (yes q) = rw (getD-at xs x [] d i q) (rw q at l)
+    go (no n) = let c = length-append xs (x ∷ []) in let m : i < length xs = omega arith in rw (List·getD-append xs (x ∷ []) d i m) (h i m)
 
 -- ---- a row of tests
 

@@ -1,10 +1,9 @@
--- The fifteen words as the code keeps them, and the kind of a word, one kind at a time. Assumes nothing.
-use mathlib.Core.Bool.{true, false}
+-- The fifteen words as the code keeps them, and the kind of a word. Assumes nothing.
+use mathlib.Core.Bool.{Bool, true}
 use mathlib.Core.List.{List, [], _∷_}
 use mathlib.Core.Option.{Option, none, some}
 use mathlib.Core.Path.{_≡_, refl, sym, ap, _∙_}
 use Prim.Native.Nat.{ℕ, zero, suc, _+_, _*_, _-_, _≤_, _<_}
-use native.Mathlib.Numerals.{add-one}
 use native.Mathlib.Omega.{arith}
 use lib.Dec.{leb}
 use lib.ListN.{getD, getElem?, take, drop}
@@ -12,8 +11,8 @@ use lib.Seq.{drop-drop}
 use borrow.Author.Tests.{leb-true}
 use Rattle.script.specs.Rows.{Row, rows, rowOf}
 use Rattle.script.specs.Rows.Laws.{row-some}
-use Rattle.script.specs.Tests.{lowestFrom}
-use Rattle.script.specs.Tests.Laws.{lowestFrom-here, lowestFrom-next, lowestFrom-zero, lowest-some}
+use Rattle.script.specs.Tests.{lowest}
+use Rattle.script.specs.Tests.Laws.{lowest-some}
 use Rattle.text.specs.Fields.{sameBytes, wordIs, kindOf}
 use Rattle.text.specs.Code.Output.{wordBy, wordOf}
 
@@ -75,34 +74,14 @@ word-is k f h = go (rowOf k) refl
     go none e = absurd (row-some k h e)
     go (some r) e = refl
 
--- ---- the kind of a word, one kind at a time
+-- ---- the kind of a word, as the lowest of 15
 
--- the lowest kind from k on whose word this is
-unfoldable pub kindFrom : List ℕ → ℕ → Option ℕ
-kindFrom f k = lowestFrom (λ k. wordIs (rowOf k) f) k (15 - k)
+abbrev pub isKindOf : List ℕ → ℕ → Bool
+isKindOf f k = wordIs (rowOf k) f
 
-module _ (f : List ℕ) where
-  pub kind-start : kindFrom f 0 ≡ kindOf f
-  unfolding kindFrom kindOf rows
-  kind-start = refl
-
-  pub kind-here : (k : ℕ) → k < 15 → wordIs (rowOf k) f ≡ true → kindFrom f k ≡ some k
-  unfolding kindFrom
-  kind-here k h e =
-      let l : 15 - k ≡ suc (14 - k) = omega arith in
-      rw l (lowestFrom-here (λ k. wordIs (rowOf k) f) k (14 - k) e)
-
-  pub kind-next : (k : ℕ) → k < 15 → wordIs (rowOf k) f ≡ false → kindFrom f k ≡ kindFrom f (k + 1)
-  unfolding kindFrom
-  kind-next k h e =
-      let l : 15 - k ≡ suc (14 - k) = omega arith in
-      let m : 15 - suc k ≡ 14 - k = omega arith in
-      rw (l, add-one k, m) (lowestFrom-next (λ k. wordIs (rowOf k) f) k (14 - k) e)
-
-  pub kind-end : kindFrom f 15 ≡ none
-  unfolding kindFrom
-  kind-end = lowestFrom-zero (λ k. wordIs (rowOf k) f) 15
+pub kind-lowest : (f : List ℕ) → kindOf f ≡ lowest (isKindOf f) 15
+unfolding kindOf rows
+kind-lowest f = refl
 
 pub kind-below : (f : List ℕ) (k : ℕ) → kindOf f ≡ some k → k < 15
-unfolding kindOf rows
-kind-below f k e = lowest-some (λ k. wordIs (rowOf k) f) 15 k e .below
+kind-below f k e = lowest-some (isKindOf f) 15 k (sym (kind-lowest f) ∙ e) .below

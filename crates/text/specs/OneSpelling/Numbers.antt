@@ -2,7 +2,7 @@
 use mathlib.Core.Bool.{true, false, not, _&&_}
 use mathlib.Core.List.{List, [], _∷_, _++_, append-nil}
 use mathlib.Core.Option.{some}
-use mathlib.Core.Path.{_≡_, refl, sym, ap, _∙_}
+use mathlib.Core.Path.{_≡_, refl, ap, _∙_}
 use Prim.Native.Nat.{ℕ, suc, _+_, _*_, _-_, _/_, _%_, _≤_}
 use native.Mathlib.Omega.{arith}
 use lib.Dec.{leb, eqb}
@@ -14,16 +14,8 @@ use Rattle.script.specs.Tests.Laws.{both-true, true-or-false}
 use Rattle.text.specs.Bytes.{digit0, digit9}
 use Rattle.text.specs.OneSpelling.Fields.{given-some}
 use Rattle.text.specs.Fields.{isDigit, decimal, valueAfter, decimalUpTo}
-use Rattle.text.specs.SameTable.Numbers.{Below, oneDigit, moreDigits, below-word, digits-one, digits-more}
+use Rattle.text.specs.SameTable.Numbers.{Below, oneDigit, moreDigits, below-word, digits-one, digits-more, same-digits}
 use Rattle.text.specs.Writing.{digitsIn, digits}
-
--- how many digits are allowed does not matter, where they are enough
-same-digits : (j k n : ℕ) → Below j n → Below k n → digitsIn j n ≡ digitsIn k n
-same-digits j k n (oneDigit {k = j′} h) (oneDigit {k = k′} l) = digits-one j′ n h ∙ sym (digits-one k′ n l)
-same-digits j k n (oneDigit h) (moreDigits l b) = absurd (omega arith)
-same-digits j k n (moreDigits h a) (oneDigit l) = absurd (omega arith)
-same-digits j k n (moreDigits {k = j′} h a) (moreDigits {k = k′} l b) =
-    digits-more j′ n h ∙ ap (λ (xs : List ℕ). xs ++ ((digit0 + n % 10) ∷ [])) (same-digits j′ k′ (n / 10) a b) ∙ sym (digits-more k′ n l)
 
 -- f is how n is written
 record Spells (f : List ℕ) (n : ℕ) : Type 0 where

@@ -4,17 +4,16 @@ use mathlib.Core.List.{List, [], _∷_, _++_, append-nil, append-assoc}
 use mathlib.Core.Option.{Option, none, some}
 use mathlib.Core.Path.{_≡_, refl, _∙_}
 use Prim.Native.Nat.{ℕ, suc, _≤_, _<_}
-use native.Mathlib.Decide.{ℕ-discrete}
 use native.Mathlib.Omega.{arith}
 use lib.Dec.{ltb}
-use lib.ListN.{length, getD, length-append, List·getD-append}
-use lib.Seq.{append-snoc, getD-at}
+use lib.ListN.{length, getD, length-append}
+use lib.Seq.{append-snoc}
 use borrow.Author.Tests.{ltb-true}
 use Rattle.script.specs.Limits.{nodeLimit, entryLimit, typeLimit}
 use Rattle.script.specs.Rows.{rowOf}
 use Rattle.script.specs.Table.{unused, rightNode, wellFormed, treeTest}
 use Rattle.script.specs.Tests.{pick, need}
-use Rattle.script.specs.Tests.Laws.{need-none}
+use Rattle.script.specs.Tests.Laws.{need-none, each-snoc}
 use Rattle.script.specs.declared.Node.{Node}
 use Rattle.script.specs.declared.Refusal.{Refusal}
 use Rattle.script.specs.declared.Refusal.the-variants.{TooManyAt, BadOperand, NoNode}
@@ -130,15 +129,6 @@ taken-text taken-end = rw append-nil refl
 taken-text (taken-more {p = p} {q = q} {ps = ps} t r) = taken-text r ∙ rw (took-text t, append-assoc, append-snoc p lf) refl
 
 -- ---- the tests that they pass
-
--- what holds of each element and of one more
-each-snoc : {A : Type 0} (d : A) (P : ℕ → A → Type 0) (xs : List A) (x : A) → ((i : ℕ) → i < length xs → P i (getD xs i d)) → P (length xs) x
-    → (i : ℕ) → i < length (xs ++ (x ∷ [])) → P i (getD (xs ++ (x ∷ [])) i d)
-each-snoc d P xs x h l i b = go (ℕ-discrete (length xs) i)
-  where
-    go : Dec (length xs ≡ i) → P i (getD (xs ++ (x ∷ [])) i d)
-    go (yes q) = rw (getD-at xs x [] d i q) (rw q at l)
-    go (no n) = let c = length-append xs (x ∷ []) in let m : i < length xs = omega arith in rw (List·getD-append xs (x ∷ []) d i m) (h i m)
 
 -- entries and nodes that the tests line by line let through
 pub record Kept (es : List ℕ) (ns : List Node) : Type 0 where

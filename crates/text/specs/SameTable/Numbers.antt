@@ -2,7 +2,7 @@
 use mathlib.Core.Bool.{Bool, true, false}
 use mathlib.Core.List.{List, [], _∷_, _++_}
 use mathlib.Core.Option.{some}
-use mathlib.Core.Path.{_≡_, refl}
+use mathlib.Core.Path.{_≡_, refl, sym, ap, _∙_}
 use Prim.Native.Nat.{ℕ, zero, suc, _+_, _*_, _-_, _/_, _%_, _≤_, _<_}
 use native.Mathlib.Decide.{ℕ-discrete}
 use native.Mathlib.Omega.{arith}
@@ -47,6 +47,14 @@ digits-one k n h = rw (lt-ltb n 10 h) refl
 pub digits-more : (k n : ℕ) → 10 ≤ n → digitsIn (suc k) n ≡ digitsIn k (n / 10) ++ ((digit0 + n % 10) ∷ [])
 unfolding digitsIn
 digits-more k n h = rw (le-ltb n 10 h) refl
+
+-- how many digits are allowed does not matter, where they are enough
+pub same-digits : (j k n : ℕ) → Below j n → Below k n → digitsIn j n ≡ digitsIn k n
+same-digits j k n (oneDigit {k = j′} h) (oneDigit {k = k′} l) = digits-one j′ n h ∙ sym (digits-one k′ n l)
+same-digits j k n (oneDigit h) (moreDigits l b) = absurd (omega arith)
+same-digits j k n (moreDigits h a) (oneDigit l) = absurd (omega arith)
+same-digits j k n (moreDigits {k = j′} h a) (moreDigits {k = k′} l b) =
+    digits-more j′ n h ∙ ap (λ (xs : List ℕ). xs ++ ((digit0 + n % 10) ∷ [])) (same-digits j′ k′ (n / 10) a b) ∙ sym (digits-more k′ n l)
 
 pub value-append : (n : ℕ) (xs ys : List ℕ) → valueAfter n (xs ++ ys) ≡ valueAfter (valueAfter n xs) ys
 unfolding valueAfter

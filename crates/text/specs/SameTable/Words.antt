@@ -6,8 +6,8 @@ use Prim.Native.Nat.{ℕ, _+_, _*_, _≤_, _<_}
 use lib.Dec.{leb, eqb}
 use lib.ListN.{length}
 use borrow.Author.Tests.{not-true, not-false, eqb-true, leb-true}
-use Rattle.script.specs.Rows.{Row, rows, rowOf, numberUpTo}
-use Rattle.script.specs.Rows.Laws.{row-kind}
+use Rattle.script.specs.Rows.{Row, rows, rowOf, numberUpTo, operandCount}
+use Rattle.script.specs.Rows.Laws.{row-kind, operands-most}
 use Rattle.script.specs.Tests.{all, lowestFrom}
 use Rattle.script.specs.Tests.Laws.{all-getElem?, lowest-none, true-or-false}
 use Rattle.text.specs.Bytes.{tab, lf, entryWord}
@@ -63,8 +63,8 @@ module _ (k : ℕ) (r : Row) (e : rowOf k ≡ some r) where
   word-lf = is-free lf (r .word) (row-passes (λ r. isFree lf (r .word)) refl k r e)
 
   pub row-most : r .count ≤ 3
-  unfolding rows
-  row-most = leb-true (r .count) 3 (row-passes (λ r. leb (r .count) 3) refl k r e)
+  unfolding operandCount
+  row-most = rw e at (operands-most k)
 
   -- the longest lines are those of `int` and `if`
   pub row-width : length (r .word) + r .count * width (numberUpTo (r .form)) ≤ 14

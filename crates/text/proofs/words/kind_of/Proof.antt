@@ -1,22 +1,22 @@
--- `text::words::kind_of` meets its contract. The loop's invariant: the lowest kind from k on whose word the field is, is the lowest. Assumes nothing.
+-- `text::words::kind_of` meets its contract. The loop looks for the lowest kind whose word the field is. Assumes nothing.
 use borrow.Author.Needs.{needs}
-use mathlib.Core.Path.{_≡_, sym, ap, _∙_}
-use Prim.Native.Nat.{_≤_, _-_}
+use mathlib.Core.Path.{sym, ap, _∙_}
+use Prim.Native.Nat.{_-_}
 use native.Mathlib.Omega.{arith}
-use Rattle.text.specs.Fields.{kindOf}
-use Rattle.text.specs.Fields.Words.{word-most, word-part, word-is, kindFrom, kind-start, kind-here, kind-next, kind-end}
+use Rattle.script.specs.Tests.Loops.{Looked, look, look-on, look-found, look-none}
+use Rattle.text.specs.Fields.Words.{word-most, word-part, word-is, isKindOf, kind-lowest}
 use Rattle.text.specs.Code.Scan.{saidBy}
 use Rattle.text.proofs.words.kind_of.Statement.{statement}
 use Rattle.text.proofs.words.kind_of.Tie as tie
 
 abbrev Inv-loop : tie.InvT-loop
-Inv-loop f words lengths k₀ k = (k ≤ 15) × (kindFrom f k ≡ kindOf f)
+Inv-loop f words lengths k₀ k = Looked (isKindOf f) 15 k
 
 abbrev μ-loop : tie.MeasureT-loop
 μ-loop f words lengths k₀ k = 15 - k
 
 loop-holds : tie.Need-loop-holds Inv-loop μ-loop
-loop-holds c = (omega arith, kind-start (c .before .args .f .now))
+loop-holds c = look (isKindOf (c .before .args .f .now)) 15
 
 add-end : tie.Need-add-end Inv-loop μ-loop
 add-end c = omega (arith, word-most (c .before .loop .k))
@@ -30,7 +30,7 @@ returns c =
     let l = c .before .before .before .before .before .loop in
     let w = rw (← word-part (l .k)) at (c .before .same .ensures) in
     let e = word-is (l .k) f (omega arith) ∙ sym w ∙ c .if1 .taken in
-    sym (ap saidBy (sym (l .inv .1) ∙ kind-here f (l .k) (omega arith) e))
+    sym (ap saidBy (kind-lowest f ∙ look-found (isKindOf f) 15 (l .k) (l .inv) (omega arith) e))
 
 loop-again : tie.Need-loop-again Inv-loop μ-loop
 loop-again c =
@@ -38,14 +38,13 @@ loop-again c =
     let l = c .before .before .before .before .before .loop in
     let w = rw (← word-part (l .k)) at (c .before .same .ensures) in
     let e = word-is (l .k) f (omega arith) ∙ sym w ∙ c .if1 .left in
-    (omega arith, sym (kind-next f (l .k) (omega arith) e) ∙ l .inv .1)
+    look-on (isKindOf f) 15 (l .k) (l .inv) (omega arith) e
 
 returns-2 : tie.Need-returns-2 Inv-loop μ-loop
 returns-2 c =
     let f = c .before .before .before .args .f .now in
     let l = c .before .loop in
-    let e : l .k ≡ 15 = omega arith in
-    sym (ap saidBy (sym (rw e at (l .inv .1)) ∙ kind-end f))
+    sym (ap saidBy (kind-lowest f ∙ look-none (isKindOf f) 15 (l .k) (l .inv) (omega arith)))
 
 pub kind-of-spec : {M : Type 1} → statement M
 kind-of-spec =

@@ -6,14 +6,14 @@ use mathlib.Core.Path.{_≡_, refl, sym, ap, _∙_}
 use Prim.Native.Nat.{ℕ, zero, suc, _+_, _-_, _≤_, _<_}
 use native.Mathlib.Numerals.{add-one}
 use native.Mathlib.Omega.{arith}
-use lib.Dec.{eqb}
+use lib.Dec.{eqb, eqb·suc-zero, eqb·zero-suc, eqb·suc-suc}
 use lib.ListN.{length, drop, getD, length-append, length-drop}
 use lib.Seq.{drop-drop, drop-cons}
-use borrow.Author.Tests.{eqb-true, eq-eqb, ne-eqb}
+use borrow.Author.Tests.{eqb-true}
 use Rattle.script.specs.Rows.{Row}
 use Rattle.script.specs.Rows as Rows
 use Rattle.script.specs.Tests.{pick}
-use Rattle.script.specs.Tests.Laws.{true-or-false, both-ways}
+use Rattle.script.specs.Tests.Laws.{true-or-false}
 use Rattle.text.specs.Bytes.{lf, tab, entryWord}
 use Rattle.text.specs.Fields.{decimalUpTo, typeOf, sameBytes, kindOf}
 use Rattle.text.specs.Grammar.{parts, onFirst, onNumbers, numbersUpTo, nodeWith, nodeBy, entryWith, entryFrom, lineFrom, lineOf, upTo}
@@ -57,15 +57,12 @@ exactly zero m (f ∷ fs) = none
 exactly (suc n) m [] = none
 exactly (suc n) m (f ∷ fs) = onNumbers (decimalUpTo m f) (exactly n m fs)
 
-eqb-suc : (a b : ℕ) → eqb (suc a) (suc b) ≡ eqb a b
-eqb-suc a b = both-ways (eqb (suc a) (suc b)) (eqb a b) (λ e. eq-eqb a b (let h = eqb-true (suc a) (suc b) e in omega arith)) (λ e. eq-eqb (suc a) (suc b) (ap suc (eqb-true a b e)))
-
 exactly-is : (n m : ℕ) (fs : List (List ℕ)) → exactly n m fs ≡ pick (eqb (length fs) n) (numbersUpTo m fs) none
 unfolding exactly numbersUpTo
 exactly-is zero m [] = refl
-exactly-is zero m (f ∷ fs) = rw (ne-eqb (suc (length fs)) 0 (λ q. omega arith)) refl
-exactly-is (suc n) m [] = rw (ne-eqb 0 (suc n) (λ q. omega arith)) refl
-exactly-is (suc n) m (f ∷ fs) = rw (eqb-suc (length fs) n) (ap (onNumbers (decimalUpTo m f)) (exactly-is n m fs) ∙ go (eqb (length fs) n) (decimalUpTo m f))
+exactly-is zero m (f ∷ fs) = rw (eqb·suc-zero (length fs)) refl
+exactly-is (suc n) m [] = rw (eqb·zero-suc n) refl
+exactly-is (suc n) m (f ∷ fs) = rw (eqb·suc-suc (length fs) n) (ap (onNumbers (decimalUpTo m f)) (exactly-is n m fs) ∙ go (eqb (length fs) n) (decimalUpTo m f))
   where
     go : (b : Bool) (o : Option ℕ) → onNumbers o (pick b (numbersUpTo m fs) none) ≡ pick b (onNumbers o (numbersUpTo m fs)) none
     go true o = refl

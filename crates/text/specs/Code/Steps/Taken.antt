@@ -4,18 +4,18 @@ use mathlib.Core.List.{List, [], _∷_, _++_}
 use mathlib.Core.Option.{Option, none, some}
 use mathlib.Core.Path.{_≡_, refl, sym, ap, _∙_}
 use Prim.Native.Nat.{ℕ, suc, _+_, _*_, _≤_, _<_}
-use native.Mathlib.Decide.{ℕ-discrete}
 use native.Mathlib.Numerals.{add-one}
 use native.Mathlib.Omega.{arith}
 use lib.Dec.{ltb, eqb}
-use lib.ListN.{length, take, drop, set, length-drop, length-set, List·getD-append}
-use lib.Seq.{sets, length-sets, length-take-le, take-suc-set, drop-set-lt, getD-append-seam}
+use lib.ListN.{length, take, drop, set, length-drop, length-set, length-append}
+use lib.Seq.{sets, length-sets, length-take-le, take-suc-set, drop-set-lt}
 use borrow.Author.Tests.{eqb-true, eqb-false, ltb-true}
 use Rattle.script.specs.Flat.{nodesIn}
 use Rattle.script.specs.Flat.Laws.{length-nodesIn, nodesIn-sets}
 use Rattle.script.specs.Limits.{nodeLimit, entryLimit, sizeOf, pickSized}
 use Rattle.script.specs.Rows.{rowOf}
-use Rattle.script.specs.Table.{unused, nodeAt, rightNode, wellFormed}
+use Rattle.script.specs.Table.{unused, rightNode, wellFormed}
+use Rattle.script.specs.Tests.Laws.{each-snoc}
 use Rattle.script.specs.Tests.{pick}
 use Rattle.script.specs.declared.Node.{Node}
 use Rattle.script.specs.declared.Refusal.the-variants.{BadLine, TooManyAt, BadOperand}
@@ -203,16 +203,10 @@ module _ (text : List ℕ) (at i : ℕ) (s : Script) (xs es : List ℕ) (k : Kep
 
     formed-more : rightNode (rowOf (n .kind)) (s .nodes) n ≡ true → (j : ℕ) → j < s .nodes + 1 → wellFormed (nodesBy s xs ++ (n ∷ [])) j ≡ true
     unfolding wellFormed
-    formed-more e j h = go (ℕ-discrete j (s .nodes)) (k .formed j)
-      where
-        go : Dec (j ≡ s .nodes) → (j < s .nodes → wellFormed (nodesBy s xs) j ≡ true) → rightNode (rowOf (nodeAt (nodesBy s xs ++ (n ∷ [])) j .kind)) j (nodeAt (nodesBy s xs ++ (n ∷ [])) j) ≡ true
-        go (yes q) f =
-            let p : nodeAt (nodesBy s xs ++ (n ∷ [])) j ≡ n = rw (q ∙ sym nodes-length) (getD-append-seam (nodesBy s xs) n [] unused) in
-            rw (p, q) e
-        go (no q) f =
-            let l = nodes-length in
-            let p : nodeAt (nodesBy s xs ++ (n ∷ [])) j ≡ nodeAt (nodesBy s xs) j = List·getD-append (nodesBy s xs) (n ∷ []) unused j (omega arith) in
-            rw p (f (omega arith))
+    formed-more e j h =
+        let l = nodes-length in
+        let m = length-append (nodesBy s xs) (n ∷ []) in
+        each-snoc unused (λ i n. rightNode (rowOf (n .kind)) i n ≡ true) (nodesBy s xs) n (λ i b. k .formed i (omega arith)) (rw l e) j (omega arith)
 
     node-kept : rightNode (rowOf (n .kind)) (s .nodes) n ≡ true → Kept (sizeOf (s .nodes + 1) (s .entries)) (stored n) es
     node-kept e =
