@@ -130,9 +130,6 @@ unfolding nodeRest exactly
 rest-bad k m os n at [] e = located-none (lineEnds []) (at + length (lineIn []) + 1)
 rest-bad k m os n at (c ∷ ds) e = go (eqb c tab) refl (decimalUpTo m (fieldIn ds)) refl e
   where
-    none-behind : (o : Option (List ℕ)) → behind os (onNumbers none o) ≡ none
-    none-behind o = refl
-
     go : (b : Bool) → eqb c tab ≡ b → (o : Option ℕ) → decimalUpTo m (fieldIn ds) ≡ o → pick b (operandBy o (at + 1 + length (fieldIn ds))) Operand.Bad ≡ Operand.Bad
         → located (lineEnds (c ∷ ds)) (nodeWith k (behind os (exactly (suc n) m (pick b (parts tab (lineIn ds)) [])))) (at + length (lineIn (c ∷ ds)) + 1) ≡ Scanned.Bad
     go true t none f e = rw (goes-on ds .fields-are, f) (located-none (lineEnds (c ∷ ds)) (at + length (lineIn (c ∷ ds)) + 1))
