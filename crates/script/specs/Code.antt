@@ -1,3 +1,4 @@
--- What the contracts of the parts of the tests of a table say. Nothing here has to be believed: the contract of `test_table` cites `tableTest`, and the
--- proofs tie these to it. Assumes nothing.
+-- What the contracts of inner functions say. Nothing here has to be believed: the contracts of the calls cite the definitions, and the proofs tie these
+-- to them. Assumes nothing.
+pub mod Forms
 pub mod TableTests

@@ -1,6 +1,6 @@
 // The plain data that all layers share, declared once: the node record, values, refusals and answers, and the limits of a script.
 ghost use mathlib.Core.Path.{_≡_};
-ghost use Rattle.script.specs.Answers.{numberOf, placeOf};
+ghost use Rattle.script.specs.Answers.{numberOf, placeOf, kindOf, bitsOf};
 ghost use Rattle.script.specs.Limits.{scriptOf, sizeOf, withNode, withEntry};
 
 pub mod table;
@@ -19,6 +19,35 @@ pub enum Value {
     Word(u32),
     Truth(bool),
     Location(u32),
+}
+
+impl Value {
+    // Its kind: 0 word, 1 truth, 2 location.
+    pub fn kind(self) -> u32
+        ensures { λ r. ⌜ r ≡ kindOf self ⌝ }
+    {
+        match self {
+            Value::Word(_) => 0,
+            Value::Truth(_) => 1,
+            Value::Location(_) => 2,
+        }
+    }
+
+    // Its 32 bits.
+    pub fn bits(self) -> u32
+        ensures { λ r. ⌜ r ≡ bitsOf self ⌝ }
+    {
+        match self {
+            Value::Word(w) => w,
+            Value::Truth(b) => {
+                if b {
+                    return 1;
+                }
+                0
+            }
+            Value::Location(l) => l,
+        }
+    }
 }
 
 // Why an input is turned down, with the line or the node where it has a place. `number` gives document 01's number.

@@ -15,7 +15,35 @@ use crate::Script;
 // How many kinds of node there are.
 pub const KINDS: u32 = 15;
 
-// The kind of `sym`.
+// The kinds of the words, in document 01's order.
+pub const INT: u32 = 0;
+
+pub const TRUE: u32 = 1;
+
+pub const FALSE: u32 = 2;
+
+pub const VAR: u32 = 3;
+
+pub const ADD: u32 = 4;
+
+pub const EQ: u32 = 5;
+
+pub const NOT: u32 = 6;
+
+pub const AND: u32 = 7;
+
+pub const IF: u32 = 8;
+
+pub const LET: u32 = 9;
+
+pub const REF: u32 = 10;
+
+pub const GET: u32 = 11;
+
+pub const SET: u32 = 12;
+
+pub const TYPED: u32 = 13;
+
 pub const SYM: u32 = 14;
 
 // How many operands each kind takes: the one table of operand counts, for the reader, the writer and the tests of a table.
@@ -48,8 +76,8 @@ pub fn kind_takes(kind: u32) -> Takes
     ensures { λ r. ⌜ r ≡ takesOf kind ⌝ }
 {
     match kind {
-        0 => Takes::Number(Script::WORD),
-        3 => Takes::Number(Script::VARIABLE),
+        INT => Takes::Number(Script::WORD),
+        VAR => Takes::Number(Script::VARIABLE),
         _ => Takes::Nodes,
     }
 }
@@ -83,12 +111,14 @@ pub fn is_sym(n: Node) -> bool
     n.kind == SYM
 }
 
-// The operand o at place k of a node with number i: an earlier node or a number in its range where the kind takes it, else 0.
-fn right_field(kind: u32, k: u32, o: u32, i: usize) -> bool
+// The operand o at place k of a node with number i, whose kind takes `count` operands: an earlier node or a number in its range where the kind
+// takes it, else 0.
+fn right_field(kind: u32, count: u32, k: u32, o: u32, i: usize) -> bool
+    requires { ⌜ count ≡ operandCount kind ⌝ }
     ensures { λ r. ⌜ r ≡ rightField (rowOf kind) k o i ⌝ }
 {
     if kind < KINDS {
-        if k < operand_count(kind) {
+        if k < count {
             return match kind_takes(kind) {
                 Takes::Number(most) => o <= most,
                 Takes::Nodes => (o as usize) < i,
@@ -103,9 +133,10 @@ fn right_field(kind: u32, k: u32, o: u32, i: usize) -> bool
 pub fn well_formed(n: Node, i: usize) -> bool
     ensures { λ r. ⌜ r ≡ rightNode (rowOf (n .kind)) i n ⌝ }
 {
-    if right_field(n.kind, 0, n.a, i) {
-        if right_field(n.kind, 1, n.b, i) {
-            return right_field(n.kind, 2, n.c, i);
+    let count = operand_count(n.kind);
+    if right_field(n.kind, count, 0, n.a, i) {
+        if right_field(n.kind, count, 1, n.b, i) {
+            return right_field(n.kind, count, 2, n.c, i);
         }
     }
     false

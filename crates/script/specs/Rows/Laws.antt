@@ -60,23 +60,19 @@ row-none k h = go (rowOf k) refl
 
 -- ---- the operand counts and what operands are, as the code has them
 
-counts-at : (rs : List Row) (k : ℕ) → countBy (getElem? rs k) ≡ getD (map (λ (r : Row). r .count) rs) k 0
-counts-at [] k = refl
-counts-at (r ∷ rs) zero = refl
-counts-at (r ∷ rs) (suc k) = counts-at rs k
+-- what is said of each row and of none, by the place
+pub rows-at : {A : Type 0} (f : Option Row → A) (rs : List Row) (k : ℕ) → f (getElem? rs k) ≡ getD (map (λ (r : Row). f (some r)) rs) k (f none)
+rows-at f [] k = refl
+rows-at f (r ∷ rs) zero = refl
+rows-at f (r ∷ rs) (suc k) = rows-at f rs k
 
 -- the operand counts of the kinds, in their order
 pub operand-counts : (k : ℕ) → getD (1 ∷ 0 ∷ 0 ∷ 1 ∷ 2 ∷ 2 ∷ 1 ∷ 2 ∷ 3 ∷ 2 ∷ 1 ∷ 1 ∷ 2 ∷ 1 ∷ 1 ∷ []) k 0 ≡ operandCount k
 unfolding operandCount rowOf rows
-operand-counts k = sym (counts-at rows k)
+operand-counts k = sym (rows-at countBy rows k)
 
 pub no-operands : (k : ℕ) → 15 ≤ k → operandCount k ≡ 0
 no-operands k h = sym (operand-counts k) ∙ List·getD-eq-default (1 ∷ 0 ∷ 0 ∷ 1 ∷ 2 ∷ 2 ∷ 1 ∷ 2 ∷ 3 ∷ 2 ∷ 1 ∷ 1 ∷ 2 ∷ 1 ∷ 1 ∷ []) 0 h
-
-takes-at : (rs : List Row) (k : ℕ) → takesIn (getElem? rs k) ≡ getD (map (λ (r : Row). takesIn (some r)) rs) k Nodes
-takes-at [] k = refl
-takes-at (r ∷ rs) zero = refl
-takes-at (r ∷ rs) (suc k) = takes-at rs k
 
 pub same-anywhere : {A : Type 0} (m : ℕ) (a : A) (k : ℕ) → getD (replicate m a) k a ≡ a
 same-anywhere zero a k = refl
@@ -98,7 +94,7 @@ takes-nodes zero n m = absurd (n refl)
 takes-nodes (suc zero) n m = refl
 takes-nodes (suc (suc zero)) n m = refl
 takes-nodes (suc (suc (suc zero))) n m = absurd (m refl)
-takes-nodes (suc (suc (suc (suc k)))) n m = takes-at (drop 4 rows) k ∙ same-anywhere 11 Nodes k
+takes-nodes (suc (suc (suc (suc k)))) n m = rows-at takesIn (drop 4 rows) k ∙ same-anywhere 11 Nodes k
 
 most-three : (k : ℕ) (r : Row) → rowOf k ≡ some r → leb (r .count) 3 ≡ true
 unfolding rowOf rows

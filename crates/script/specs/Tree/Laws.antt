@@ -1,4 +1,4 @@
--- The unrolling law: where all nodes are well-formed, the tree of a node is its form over the trees of its operands. `Unrolled` is the same as a
+-- The unrolling law: the tree of a well-formed node is its form over the trees of its operands. `Unrolled` is the same as a
 -- view, with a constructor for each form, for whatever recurses over the flat table. Assumes nothing.
 use mathlib.Core.Bool.{Bool, true, false}
 use mathlib.Core.List.{List, [], _∷_, _++_}
@@ -79,20 +79,20 @@ same-shape i n f ts us (typedNode a b c) h = rw (h (n .a) a) refl
 same-shape i n f ts us (symNode a b c) h = rw (h (n .a) a) refl
 
 -- the tree of node i by its row
-pub tree-shape : (ns : List Node) → ((j : ℕ) → j < length ns → wellFormed ns j ≡ true) → (i : ℕ) → i < length ns → (f : FormedAt i (nodeAt ns i))
+pub tree-shape : (ns : List Node) (i : ℕ) → i < length ns → (f : FormedAt i (nodeAt ns i))
     → treeAt (trees ns) i ≡ shape (f .row .form) i (nodeAt ns i .a) (treeAt (trees ns) (nodeAt ns i .a)) (treeAt (trees ns) (nodeAt ns i .b)) (treeAt (trees ns) (nodeAt ns i .c))
 unfolding trees treeBy
-tree-shape ns w i h f =
+tree-shape ns i h f =
     treesFrom-at [] ns i i h (zero-add i)
     ∙ ap (λ (o : Option Row). treeBy o i (nodeAt ns i) (treesFrom [] (take i ns))) (f .is-row)
     ∙ same-shape i (nodeAt ns i) (f .row .form) (trees (take i ns)) (trees ns) (f .formed) (λ k l. trees-take ns i k (omega arith) l)
 
-pub unrolling : (ns : List Node) → ((j : ℕ) → j < length ns → wellFormed ns j ≡ true) → (i : ℕ) → i < length ns
+pub unrolling : (ns : List Node) (i : ℕ) → i < length ns → wellFormed ns i ≡ true
     → treeAt (trees ns) i ≡ treeBy (rowOf (nodeAt ns i .kind)) i (nodeAt ns i) (trees ns)
 unfolding treeBy
-unrolling ns w i h =
-    let f = formed-at ns i (w i h) in
-    tree-shape ns w i h f ∙ ap (λ (o : Option Row). treeBy o i (nodeAt ns i) (trees ns)) (sym (f .is-row))
+unrolling ns i h w =
+    let f = formed-at ns i w in
+    tree-shape ns i h f ∙ ap (λ (o : Option Row). treeBy o i (nodeAt ns i) (trees ns)) (sym (f .is-row))
 
 -- ---- the view
 
@@ -127,7 +127,7 @@ view-of ns i r f e q (letNode a b c) = is-let e q a b
 view-of ns i r f e q (typedNode a b c) = is-typed e q a
 view-of ns i r f e q (symNode a b c) = is-sym e q a
 
-pub unroll : (ns : List Node) → ((j : ℕ) → j < length ns → wellFormed ns j ≡ true) → (i : ℕ) → i < length ns → Unrolled ns i (treeAt (trees ns) i)
-unroll ns w i h =
-    let f = formed-at ns i (w i h) in
-    subst (Unrolled ns i) (sym (tree-shape ns w i h f)) (view-of ns i (f .row) (f .row .form) (f .is-row) refl (f .formed))
+pub unroll : (ns : List Node) (i : ℕ) → i < length ns → wellFormed ns i ≡ true → Unrolled ns i (treeAt (trees ns) i)
+unroll ns i h w =
+    let f = formed-at ns i w in
+    subst (Unrolled ns i) (sym (tree-shape ns i h f)) (view-of ns i (f .row) (f .row .form) (f .is-row) refl (f .formed))

@@ -102,7 +102,7 @@ module _ (ns : List Node) (w : (j : ℕ) → j < length ns → wellFormed ns j �
   unfolding sizeAt
   size-at i h =
       let f = formed-at ns i (w i h) in
-      ap size (tree-shape ns w i h f)
+      ap size (tree-shape ns i h f)
       ∙ size-shape (treeAt (trees ns)) (f .row .form) i (nodeAt ns i)
       ∙ ap (λ (os : List ℕ). suc (sumOver (sizeAt ns) os)) (sym (operands-of (nodeAt ns i) (f .row) (f .is-row)))
 

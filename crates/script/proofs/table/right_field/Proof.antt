@@ -6,23 +6,23 @@ use Rattle.script.proofs.table.right_field.Tie as tie
 
 returns : tie.Need-returns
 returns c =
-    let a = c .before .before .before .before .before .before .before .args in
-    let n = c .before .before .before .before .before .operand-count in
+    let s = c .before .before .before .before .before .before in
+    let a = s .args in
     let t = c .before .before .before .kind-takes in
-    right-number (a .kind) (a .k) (a .o) (a .i) (t .result) (n .result) _ (t .ensures) (n .ensures) (c .before .before .before .before .if2 .taken) (c .before .most .given .1)
+    right-number (a .kind) (a .k) (a .o) (a .i) (t .result) (a .count) _ (t .ensures) (s .pre) (c .before .before .before .before .if2 .taken) (c .before .most .given .1)
 
 returns-2 : tie.Need-returns-2
 returns-2 c =
-    let a = c .before .before .before .before .before .before .args in
-    let n = c .before .before .before .before .operand-count in
+    let s = c .before .before .before .before .before in
+    let a = s .args in
     let t = c .before .before .kind-takes in
-    right-earlier (a .kind) (a .k) (a .o) (a .i) (t .result) (n .result) (t .ensures) (n .ensures) (c .before .before .before .if2 .taken) (c .enum-told .given .1)
+    right-earlier (a .kind) (a .k) (a .o) (a .i) (t .result) (a .count) (t .ensures) (s .pre) (c .before .before .before .if2 .taken) (c .enum-told .given .1)
 
 returns-3 : tie.Need-returns-3
 returns-3 c =
-    let a = c .before .before .before .args in
-    let n = c .before .operand-count in
-    right-zero (a .kind) (a .k) (a .o) (a .i) (n .result) (c .before .before .if1 .taken) (n .ensures) (c .if2 .left)
+    let s = c .before .before in
+    let a = s .args in
+    right-zero (a .kind) (a .k) (a .o) (a .i) (a .count) (c .before .if1 .taken) (s .pre) (c .if2 .left)
 
 returns-4 : tie.Need-returns-4
 returns-4 c = let a = c .before .args in right-no-kind (a .kind) (a .k) (a .o) (a .i) (c .if1 .left)
@@ -31,7 +31,6 @@ pub right-field-spec : {M : Type 1} → statement M
 right-field-spec =
     tie.close
     (tie.spec
-    (λ c κs. search needs)
     (λ c κs. search needs)
     (λ c. search needs)
     (λ c. search needs)
