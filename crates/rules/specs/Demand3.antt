@@ -19,9 +19,10 @@ use Rattle.script.specs.declared.Refusal.the-variants.{BadCells, BadValues}
 use Rattle.script.specs.declared.Value.{Value}
 use Rattle.rules.specs.Checking.{check, answered, checkTable}
 use Rattle.rules.specs.Evaluation.{Outcome}
+use Rattle.rules.specs.Evaluation.Every.{noValue, oneValue}
 use Rattle.rules.specs.Evaluation.Laws.{cellsOf}
 use Rattle.rules.specs.Running.{Run, valuesOf, finished, ranBy, rightCells, rightValues, withinLimits, runTest, runTable, lentLimit}
-use Rattle.rules.specs.Running.Laws.{InRange, wordInRange, truthInRange, locationInRange, AllInRange, noValue, oneValue, values-bytes}
+use Rattle.rules.specs.Running.Laws.{InRange, wordInRange, truthInRange, locationInRange, AllInRange, values-bytes}
 use Rattle.rules.specs.Running.Room.{outcome, cells-suffice}
 use Rattle.rules.specs.Typings.{HasType, is-word, is-truth, is-location, empty, also, Fits, HaveTypes, Extends}
 use Rattle.rules.specs.Typings.Laws.{at-below, each-length}

@@ -1,5 +1,7 @@
 -- Evaluation (document 01, 'Evaluation'): a value and the cells, or the node of the error state and the cells as they were then. The used count is
 -- the length of the cells. Assumes nothing.
+pub mod Every
+pub mod Inside
 pub mod Laws
 use mathlib.Core.Bool.{Bool, true, false, not, _&&_, Bool·beq}
 use mathlib.Core.List.{List, [], _∷_, _++_}

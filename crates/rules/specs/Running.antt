@@ -1,6 +1,8 @@
 -- The runner's whole answer (document 01, 'Evaluation' and 'Turned down'): the tests of the table, 35, 34, and then evaluation, with values and cells
 -- in their 5-byte form: kind, then 32 bits, low byte first. Assumes nothing.
+pub mod Inside
 pub mod Laws
+pub mod Ranges
 pub mod Room
 use mathlib.Core.Bool.{Bool, true, false, _&&_}
 use mathlib.Core.List.{List, [], _∷_, _++_}

@@ -1,16 +1,18 @@
 -- The 5-byte form is read as it was written: the bytes of values in their range are those values, and bytes that are valid are the bytes of their
--- values. Assumes nothing.
+-- values; and the value at a place. Assumes nothing.
 use mathlib.Core.Bool.{Bool, true, false, false≢true}
 use mathlib.Core.List.{List, [], _∷_, _++_}
+use mathlib.Core.Option.{none, some}
 use mathlib.Core.Path.{_≡_, refl, ap, ap₂, sym, _∙_}
 use Prim.Native.Nat.{ℕ, zero, suc, _+_, _*_, _/_, _%_, _^_, _<_, _≤_}
 use native.Mathlib.Nat.{div-div-eq-div-mul, mod-eq-of-lt}
 use native.Mathlib.Omega.{arith}
 use lib.Arith.{digits-div, digits-mod}
 use lib.Dec.{eqb}
-use lib.ListN.{length, getD, take, drop, length-drop, take-append-drop}
-use lib.Seq.{take-add, getD-drop}
+use lib.ListN.{length, getD, getElem?, take, drop, length-drop, take-append-drop}
+use lib.Seq.{take-add, getD-drop, drop-drop}
 use borrow.Author.Tests.{leb-true}
+use Rattle.rules.specs.Evaluation.Every.{Every, noValue, oneValue}
 use Rattle.script.specs.Tests.Laws.{both-true}
 use Rattle.script.specs.Answers.{kindOf, bitsOf}
 use Rattle.script.specs.declared.Value.{Value}
@@ -23,9 +25,8 @@ pub data InRange : Value → Type 0 where
   truthInRange : {b : Bool} → InRange (Truth b)
   locationInRange : {l : ℕ} → l < 2 ^ 32 → InRange (Location l)
 
-pub data AllInRange : List Value → Type 0 where
-  noValue : AllInRange []
-  oneValue : {v : Value} {vs : List Value} → InRange v → AllInRange vs → AllInRange (v ∷ vs)
+abbrev pub AllInRange : List Value → Type 0
+AllInRange vs = Every InRange vs
 
 -- ---- four digits
 
@@ -171,3 +172,19 @@ pub values-in-range : (n : ℕ) {bs : List ℕ} → Bytes bs → AllInRange (val
 unfolding valuesOf
 values-in-range zero y = noValue
 values-in-range (suc n) y = oneValue (bytes-in-range y) (values-in-range n (bytes-drop 5 y))
+
+-- ---- one of several values
+
+pub values-some : (n i : ℕ) (bs : List ℕ) → i < n → getElem? (valuesOf n bs) i ≡ some (valueAt (drop (5 * i) bs))
+unfolding valuesOf
+values-some zero i bs h = absurd (omega arith)
+values-some (suc n) zero bs h = refl
+values-some (suc n) (suc i) bs h =
+    let m : 5 + 5 * i ≡ 5 * suc i = omega arith in
+    values-some n i (drop 5 bs) (omega arith) ∙ ap (λ r. some (valueAt r)) (drop-drop (5 * i) 5 bs ∙ ap (λ k. drop k bs) m)
+
+pub values-none : (n i : ℕ) (bs : List ℕ) → n ≤ i → getElem? (valuesOf n bs) i ≡ none
+unfolding valuesOf
+values-none zero i bs h = refl
+values-none (suc n) zero bs h = absurd (omega arith)
+values-none (suc n) (suc i) bs h = values-none n i (drop 5 bs) (omega arith)
