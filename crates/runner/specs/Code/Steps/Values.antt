@@ -1,0 +1,124 @@
+-- Values in lent bytes: the bytes that hold values are read as these values, and a value put at a place or behind the last one gives the bytes of the
+-- values so changed. Assumes nothing.
+use mathlib.Core.List.{List, [], _∷_, _++_}
+use mathlib.Core.Path.{_≡_, refl, ap, sym, _∙_}
+use Prim.Native.Nat.{ℕ, zero, suc, _+_, _*_, _-_, _≤_, _<_}
+use native.Mathlib.Nat.{add-zero}
+use native.Mathlib.Numerals.{unary-clauses}
+use native.Mathlib.Omega.{arith}
+use lib.Dec.{eqb}
+use lib.ListN.{length, getD, set, take, drop, length-append, length-set, take-append-drop}
+use lib.Seq.{sets, getD-drop, sets-eq, length-front, length-take-le, take-at, take-set-le, drop-append-add, drop-drop}
+use Rattle.script.specs.Answers.{kindOf}
+use Rattle.script.specs.declared.Value.{Value}
+use Rattle.script.specs.declared.Value.the-variants.{Word, Truth, Location}
+use Rattle.rules.specs.Running.{bytesOf, allBytes, bitsAt, valueBy, valueAt, valuesOf, stored}
+use Rattle.rules.specs.Running.Laws.{AllInRange, values-bytes, length-bytes}
+use Rattle.runner.specs.Code.Steps.{Holds}
+
+-- ---- lists
+
+take-sets : (n : ℕ) (l : List ℕ) (i : ℕ) (vs : List ℕ) → n ≤ i → take n (sets l i vs) ≡ take n l
+take-sets n l i [] h = refl
+take-sets n l i (a ∷ vs) h = take-sets n (set l i a) (suc i) vs (omega arith) ∙ take-set-le n l i a h
+
+drop-behind : (p q : List ℕ) (m n : ℕ) → length p ≡ m → m ≤ n → drop n (p ++ drop m q) ≡ drop n q
+drop-behind p q m n e h =
+    let there : n ≡ length p + (n - m) = omega arith in
+    let here : m + (n - m) ≡ n = omega arith in
+    ap (λ k. drop k (p ++ drop m q)) there
+    ∙ drop-append-add p (drop m q) (n - m)
+    ∙ drop-drop (n - m) m q
+    ∙ ap (λ k. drop k q) here
+
+-- ---- bytes of several values
+
+bytes-next : (vs : List Value) (v : Value) → allBytes (vs ++ (v ∷ [])) ≡ allBytes vs ++ bytesOf v
+unfolding allBytes
+bytes-next [] v = refl
+bytes-next (u ∷ vs) v = ap (λ r. bytesOf u ++ r) (bytes-next vs v)
+
+sets-value : (vs : List Value) (rest : List ℕ) (i : ℕ) → i < length vs → (w : Value)
+    → sets (allBytes vs ++ rest) (5 * i) (bytesOf w) ≡ allBytes (set vs i w) ++ rest
+unfolding allBytes
+sets-value [] rest i h w = absurd (omega arith)
+sets-value (v ∷ vs) rest zero h w = refl
+sets-value (v ∷ vs) rest (suc i) h w =
+    let m : 5 * suc i ≡ suc (suc (suc (suc (suc (5 * i))))) = omega arith in
+    rw m (ap (λ r. bytesOf v ++ r) (sets-value vs rest i (omega arith) w))
+
+-- ---- read
+
+pub holds-stored : {bs : List ℕ} {vs : List Value} → Holds bs vs → stored bs vs ≡ bs
+holds-stored {bs} {vs} h = rw (← h .bytes) (take-append-drop (5 * length vs) bs)
+
+pub holds-values : {bs : List ℕ} {vs : List Value} → Holds bs vs → valuesOf (length vs) bs ≡ vs
+holds-values {bs} {vs} h =
+    sym (ap (valuesOf (length vs)) (holds-stored h)) ∙ values-bytes (drop (5 * length vs) bs) (h .ranged)
+
+-- bytes that begin as others do hold what those hold
+pub holds-front : {bs left : List ℕ} {vs : List Value} → take (5 * length vs) left ≡ take (5 * length vs) bs → Holds bs vs → Holds left vs
+holds-front e h = record { bytes = e ∙ h .bytes; ranged = h .ranged }
+
+-- ---- written
+
+pub stored-holds : (bs : List ℕ) {vs : List Value} → AllInRange vs → Holds (stored bs vs) vs
+stored-holds bs {vs} r = record { bytes = take-at (allBytes vs) (drop (5 * length vs) bs) (5 * length vs) (length-bytes vs); ranged = r }
+
+pub stored-length : (bs : List ℕ) (vs : List Value) → 5 * length vs ≤ length bs → length (stored bs vs) ≡ length bs
+stored-length bs vs h = length-front bs (allBytes vs) (5 * length vs) (length-bytes vs ∙ sym (length-take-le (5 * length vs) bs h))
+
+pub stored-over : (bs : List ℕ) (vs ws : List Value) → length vs ≤ length ws → stored (stored bs vs) ws ≡ stored bs ws
+stored-over bs vs ws h =
+    ap (λ r. allBytes ws ++ r) (drop-behind (allBytes vs) bs (5 * length vs) (5 * length ws) (length-bytes vs) (omega arith))
+
+pub stored-set : {bs : List ℕ} {vs : List Value} → Holds bs vs → (i : ℕ) → i < length vs → (w : Value) → sets bs (5 * i) (bytesOf w) ≡ stored bs (set vs i w)
+stored-set {bs} {vs} h i l w =
+    ap (λ r. sets r (5 * i) (bytesOf w)) (sym (holds-stored h))
+    ∙ sets-value vs (drop (5 * length vs) bs) i l w
+    ∙ ap (λ k. allBytes (set vs i w) ++ drop (5 * k) bs) (sym (length-set vs i w))
+
+pub stored-next : {bs : List ℕ} {vs : List Value} → Holds bs vs → 5 * length vs + 4 < length bs → (v : Value)
+    → sets bs (5 * length vs) (bytesOf v) ≡ stored bs (vs ++ (v ∷ []))
+stored-next {bs} {vs} h l v =
+    let m : 5 * length vs + 5 ≡ 5 * length (vs ++ (v ∷ [])) = simp length-append (omega arith) in
+    sets-eq (bytesOf v) bs (5 * length vs) (omega arith)
+    ∙ rw (h .bytes, m, bytes-next vs v)
+
+-- what stands before a stored value stays
+pub kept-next : (bs : List ℕ) (i : ℕ) (v : Value) → take i (sets bs i (bytesOf v)) ≡ take i bs
+kept-next bs i v = take-sets i bs i (bytesOf v) (omega arith)
+
+-- ---- as the code reads and stores them
+
+pub first-drop : (n : ℕ) (bs : List ℕ) → getD (drop n bs) 0 0 ≡ getD bs n 0
+first-drop n bs = getD-drop n bs 0 0 ∙ ap (λ k. getD bs k 0) (add-zero n)
+
+pub bits-read : (bs : List ℕ) (i a b c d : ℕ) → a ≡ getD bs (5 * i + 1) 0 → b ≡ getD bs (5 * i + 2) 0 → c ≡ getD bs (5 * i + 3) 0
+    → d ≡ getD bs (5 * i + 4) 0 → a + 256 * b + 65536 * c + 16777216 * d ≡ bitsAt (drop (5 * i) bs)
+bits-read bs i a b c d e f g h = simp (e, f, g, h, getD-drop)
+
+pub word-kind : (k bits : ℕ) → k ≡ 0 → Word bits ≡ valueBy k bits
+word-kind k bits e = rw e
+
+pub truth-kind : (k bits : ℕ) → k ≡ 1 → Truth (eqb bits 1) ≡ valueBy k bits
+truth-kind k bits e = rw e
+
+pub location-kind : (k bits : ℕ) → (k ≡ 0 → ⊥) → (k ≡ 1 → ⊥) → Location bits ≡ valueBy k bits
+location-kind zero bits e f = absurd (e refl)
+location-kind (suc zero) bits e f = absurd (f refl)
+location-kind (suc (suc k)) bits e f = refl
+
+-- a value by the kind and the bits that the code reads at place i
+pub value-read : (bs : List ℕ) (i : ℕ) {bits : ℕ} → bits ≡ bitsAt (drop (5 * i) bs) → valueBy (getD bs (5 * i) 0) bits ≡ valueAt (drop (5 * i) bs)
+value-read bs i e = rw (e, first-drop (5 * i) bs)
+
+pub kind-small : (v : Value) → kindOf v ≤ 2
+kind-small (Word w) = omega arith
+kind-small (Truth b) = omega arith
+kind-small (Location l) = omega arith
+
+-- the five stores of a value, as the code writes their places
+pub value-stores : (bs : List ℕ) (at k a b c d : ℕ)
+    → set (set (set (set (set bs at k) (at + 1) a) (at + 2) b) (at + 3) c) (at + 4) d ≡ sets bs at (k ∷ a ∷ b ∷ c ∷ d ∷ [])
+value-stores bs at k a b c d = simp unary-clauses

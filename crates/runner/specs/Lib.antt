@@ -1,0 +1,3 @@
+pub mod Answered
+pub mod Code
+pub mod Demand3

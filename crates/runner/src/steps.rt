@@ -1,0 +1,137 @@
+// Evaluation by the table: each node runs its operands, whose numbers are smaller, and then its rule.
+ghost use mathlib.Core.Path.{_≡_};
+ghost use lib.Dec.{eqb};
+ghost use Rattle.rules.specs.Evaluation.{eval};
+ghost use Rattle.rules.specs.Running.{valuesOf};
+ghost use Rattle.rules.specs.Running.Laws.{InRange};
+ghost use Rattle.script.specs.Rows.{nodeOperands};
+ghost use Rattle.script.specs.Code.Forms.{formOf, nodeIn, treeIn};
+ghost use Rattle.runner.specs.Code.Steps.{Variables, nextOn, boundOn, Bound, restOn, Ready, Halfway, Runs};
+use crate::operators::leaf;
+use crate::operators::one;
+use crate::operators::two;
+use crate::values::store;
+use script::Value;
+use script::table::ADD;
+use script::table::GET;
+use script::table::IF;
+use script::table::LET;
+use script::table::NOT;
+use script::table::REF;
+use script::table::SYM;
+use script::table::TYPED;
+use script::table::node_at;
+
+// The kinds below this one are those of leaves, whose operands are no nodes: `int`, `true`, `false` and `var`.
+const LEAVES: u32 = ADD;
+
+// What a node comes to: a value and the used count, or the node of the error state and the used count.
+pub enum Step {
+    Gave(Value, u32),
+    Failed(u32, u32),
+}
+
+// The operand of a node that comes after its first, or a condition that is no truth.
+pub enum Next {
+    Operand(u32),
+    Wrong,
+}
+
+// A node of this kind has one operand that is a node.
+fn has_one(kind: u32) -> bool
+    ensures { λ r. ⌜ r ≡ eqb (nodeOperands kind) 1 ⌝ }
+{
+    match kind {
+        NOT => true,
+        REF => true,
+        GET => true,
+        TYPED => true,
+        SYM => true,
+        _ => false,
+    }
+}
+
+// The operand of a node that comes after the first, which gave v: of an `if` the branch that is taken.
+fn next_operand(kind: u32, b: u32, c: u32, v: Value) -> Next
+    ensures { λ r. ⌜ r ≡ nextOn (formOf kind) v b c ⌝ }
+{
+    if kind == IF {
+        return match v {
+            Value::Word(_) => Next::Wrong,
+            Value::Truth(t) => {
+                if t {
+                    return Next::Operand(b);
+                }
+                Next::Operand(c)
+            }
+            Value::Location(_) => Next::Wrong,
+        };
+    }
+    Next::Operand(b)
+}
+
+// The environment of that operand: a `let` adds v. Answers how many variables it has.
+fn bind(environment: &mut [u8], depth: usize, kind: u32, v: Value) -> usize
+    requires { ⌜ Variables (now environment) depth 1 ⌝ }
+    requires { ⌜ InRange v ⌝ }
+    ensures { λ r. ⌜ Bound (now (environment .entry)) depth (boundOn (formOf kind) v (valuesOf depth (now (environment .entry)))) (now (environment .exit)) r ⌝ }
+{
+    if kind == LET {
+        store(environment, depth, v);
+        return depth + 1;
+    }
+    depth
+}
+
+// Goes on with node n once its first operand gave v: runs the next operand, and then the rule.
+fn rest(
+    table: &[u32],
+    environment: &mut [u8],
+    depth: usize,
+    cells: &mut [u8],
+    used: u32,
+    n: u32,
+    v: Value,
+) -> Step
+    requires { ⌜ Halfway (now table) (now environment) depth (now cells) used n v ⌝ }
+    ensures { λ r. ⌜ Runs (restOn (now (table .entry)) n (nodeIn (now (table .entry)) n) v (valuesOf depth (now (environment .entry))) (valuesOf used (now (cells .entry)))) depth (now (environment .entry)) (now (environment .exit)) r (now (cells .entry)) (now (cells .exit)) ⌝ }
+{
+    let node = node_at(table, n as usize);
+    match next_operand(node.kind, node.b, node.c, v) {
+        Next::Wrong => Step::Failed(n, used),
+        Next::Operand(m) => {
+            let inner = bind(environment, depth, node.kind, v);
+            match run_node(table, environment, inner, cells, used, m) {
+                Step::Gave(w, count) => two(node.kind, v, w, cells, count, n),
+                Step::Failed(at, count) => Step::Failed(at, count),
+            }
+        }
+    }
+}
+
+// Runs node n: the environment is its first `depth` values, the cells their first `used`.
+pub fn run_node(
+    table: &[u32],
+    environment: &mut [u8],
+    depth: usize,
+    cells: &mut [u8],
+    used: u32,
+    n: u32,
+) -> Step
+    requires { ⌜ Ready (now table) (now environment) depth (now cells) used n ⌝ }
+    ensures { λ r. ⌜ Runs (eval (treeIn (now (table .entry)) n) (valuesOf depth (now (environment .entry))) (valuesOf used (now (cells .entry)))) depth (now (environment .entry)) (now (environment .exit)) r (now (cells .entry)) (now (cells .exit)) ⌝ }
+{
+    let node = node_at(table, n as usize);
+    if node.kind < LEAVES {
+        return leaf(node.kind, node.a, environment, depth, used, n);
+    }
+    match run_node(table, environment, depth, cells, used, node.a) {
+        Step::Failed(at, count) => Step::Failed(at, count),
+        Step::Gave(v, count) => {
+            if has_one(node.kind) {
+                return one(node.kind, v, cells, count, n);
+            }
+            rest(table, environment, depth, cells, count, n, v)
+        }
+    }
+}
