@@ -1,15 +1,14 @@
 // Tries the reader and the writer of script text on framed texts, and prints a line for each: its name, a tab, and what came of it.
 // A frame is a line `LENGTH<tab>OUT<tab>NAME`, then LENGTH bytes of text and an LF; OUT bytes are lent to the writer.
 // Names tell what is tried.
-mod frames;
+mod rounds;
 mod slices;
-mod trial;
 
-use frames::Frame;
-use frames::frame_at;
-use frames::name_end;
+use rounds::try_text;
+use trial::Header;
+use trial::header_at;
+use trial::name_end;
 use trial::say;
-use trial::try_text;
 
 // Tries the frame at `at`, with `out` to lend from, and answers where the next one starts; 0 after a malformed one.
 fn try_frame(
@@ -19,7 +18,12 @@ fn try_frame(
     entries: &mut [u32],
     out: &mut [u8],
 ) -> usize {
-    let Frame::Text { name, length, lent } = frame_at(input, at) else {
+    let Header::Is {
+        first: length,
+        second: lent,
+        name,
+    } = header_at(input, at)
+    else {
         return 0;
     };
     let stop = name_end(input, name);
@@ -50,7 +54,7 @@ fn try_all(input: &[u8], table: &mut [u32], entries: &mut [u32], out: &mut [u8])
     while at < input.len() {
         let next = try_frame(input, at, table, entries, out);
         if next <= at {
-            say(b"bad frame\n");
+            say(b"malformed\n");
             return;
         }
         at = next;

@@ -1,9 +1,9 @@
--- `texts::frames::name_end` meets its contract: it returns a place that the loop's test passed, or `at`. Assumes nothing.
+-- `trial::name_end` meets its contract: it returns a place that the loop's test passed, or `at`. Assumes nothing.
 use borrow.Author.Needs.{needs}
 use Prim.Native.Nat.{_-_}
 use lib.ListN.{length}
-use Rattle.texts.proofs.frames.name_end.Statement.{statement}
-use Rattle.texts.proofs.frames.name_end.Tie as tie
+use Rattle.trial.proofs.name_end.Statement.{statement}
+use Rattle.trial.proofs.name_end.Tie as tie
 
 abbrev Inv-loop : tie.InvT-loop
 Inv-loop input at i₀ i = Unit {0}

@@ -4,52 +4,18 @@ use crate::slices::entries_clear;
 use crate::slices::fill_bytes;
 use crate::slices::fill_words;
 use crate::slices::nodes_clear;
-use libc::STDOUT_FILENO;
-use script::Place;
 use script::Reading;
-use script::Refusal;
 use script::Writing;
+use trial::say;
+use trial::say_either;
+use trial::say_number;
+use trial::say_refusal;
 
 // What the table and the entries hold before a reading: no place of it is `false`, no entry 0.
 const STALE: u32 = 7;
 
 // What the writer's output holds before a writing.
 const BLANK: u8 = b'.';
-
-// Prints bytes.
-pub fn say(s: &[u8]) {
-    io::write_all(STDOUT_FILENO, s);
-}
-
-// Prints one of two words, after a tab.
-fn say_either(first: bool, a: &[u8], b: &[u8]) {
-    say(b"\t");
-    if first {
-        say(a);
-    } else {
-        say(b);
-    }
-}
-
-// Prints a number, after a tab.
-fn say_number(n: u64) {
-    say(b"\t");
-    io::print_decimal(STDOUT_FILENO, n);
-}
-
-// Prints a refusal: the word, its number, its place or `-`.
-fn say_refusal(r: Refusal) {
-    say(b"refused");
-    say_number(r.number() as u64);
-    match r.place() {
-        Place::At(i) => {
-            say_number(i as u64);
-        }
-        Place::Nowhere => {
-            say(b"\t-");
-        }
-    }
-}
 
 // Prints whether the places from these counts on hold what reading leaves in unused places.
 fn say_clean(table: &[u32], nodes: usize, entries: &[u32], used: usize) {

@@ -1,0 +1,137 @@
+// What the programs that try the other crates share: the headers of the frames in their input, and what they print.
+ghost use Prim.Native.Nat.{_≤_, _<_};
+ghost use lib.ListN.{length};
+ghost use Rattle.trial.specs.Numbers.{largest, Within, BothWithin};
+use libc::STDOUT_FILENO;
+use script::Place;
+use script::Refusal;
+
+// What a frame's header says: two numbers, and where its name starts.
+pub enum Header {
+    Is {
+        first: usize,
+        second: usize,
+        name: usize,
+    },
+    Bad,
+}
+
+// A number and where the next field starts; or not of the form.
+pub enum Number {
+    Is(usize, usize),
+    Bad,
+}
+
+// The decimal digit that a byte spells, or 10.
+fn digit(b: u8) -> usize
+    ensures { λ r. ⌜ r ≤ 10 ⌝ }
+{
+    if b'0' <= b {
+        if b <= b'9' {
+            return (b - b'0') as usize;
+        }
+    }
+    10
+}
+
+// The number at `at`, of one to seven digits, with the byte `stop` after it.
+pub fn number_until(input: &[u8], at: usize, stop: u8) -> Number
+    ensures { λ r. ⌜ Within largest r ⌝ }
+{
+    let mut value: usize = 0;
+    let mut i = at;
+    while i < input.len() {
+        let b = input[i];
+        if b == stop {
+            if i == at {
+                return Number::Bad;
+            }
+            return Number::Is(value, i + 1);
+        }
+        let d = digit(b);
+        if d == 10 {
+            return Number::Bad;
+        }
+        if 999999 < value {
+            return Number::Bad;
+        }
+        value = value * 10 + d;
+        i += 1;
+    }
+    Number::Bad
+}
+
+// The header at `at`: two numbers, each with a tab after it, and a name.
+pub fn header_at(input: &[u8], at: usize) -> Header
+    ensures { λ r. ⌜ BothWithin largest r ⌝ }
+{
+    match number_until(input, at, b'\t') {
+        Number::Is(first, next) => match number_until(input, next, b'\t') {
+            Number::Is(second, name) => Header::Is {
+                first,
+                second,
+                name,
+            },
+            Number::Bad => Header::Bad,
+        },
+        Number::Bad => Header::Bad,
+    }
+}
+
+// The place of the LF after the name at `at`; `at` itself if there is no LF, no name, or a byte below the blank in it, as a tab.
+pub fn name_end(input: &[u8], at: usize) -> usize
+    ensures { λ r. ⌜ (at < r → r < length (now (input .entry))) ⌝ }
+{
+    let mut i = at;
+    while i < input.len() {
+        let b = input[i];
+        if b == b'\n' {
+            return i;
+        }
+        if b < b' ' {
+            return at;
+        }
+        i += 1;
+    }
+    at
+}
+
+// Prints bytes.
+pub fn say(s: &[u8]) {
+    io::write_all(STDOUT_FILENO, s);
+}
+
+// Prints one of two words, after a tab.
+pub fn say_either(first: bool, a: &[u8], b: &[u8]) {
+    say(b"\t");
+    if first {
+        say(a);
+    } else {
+        say(b);
+    }
+}
+
+// Prints a number.
+pub fn say_decimal(n: u64) {
+    io::print_decimal(STDOUT_FILENO, n);
+}
+
+// Prints a number, after a tab.
+pub fn say_number(n: u64) {
+    say(b"\t");
+    say_decimal(n);
+}
+
+// Prints a refusal: the word, its number, its place or `-`.
+pub fn say_refusal(r: Refusal) {
+    say(b"refused");
+    say_number(r.number() as u64);
+    match r.place() {
+        Place::At(i) => {
+            say_number(i as u64);
+        }
+        Place::Nowhere => {
+            say(b"\t-");
+        }
+    }
+}
