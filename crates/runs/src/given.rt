@@ -1,0 +1,82 @@
+// What a stored run gives after its header: lines of bytes, and the text of the script.
+ghost use Prim.Native.Nat.{_≤_, _<_};
+ghost use lib.ListN.{length};
+ghost use Rattle.trial.specs.Numbers.{Within};
+use trial::Number;
+use trial::number_until;
+
+// A byte of a line and what comes after it: where the next byte starts, or where the next line does; or not of the form.
+pub enum Byte {
+    More(u8, usize),
+    Last(u8, usize),
+    Bad,
+}
+
+// The decimal byte at `at`, with a blank or an LF after it.
+fn byte_at(input: &[u8], at: usize) -> Byte {
+    match number_until(input, at, b' ') {
+        Number::Is(value, next) => {
+            if value <= 255 {
+                return Byte::More(value as u8, next);
+            }
+            Byte::Bad
+        }
+        Number::Bad => match number_until(input, at, b'\n') {
+            Number::Is(value, next) => {
+                if value <= 255 {
+                    return Byte::Last(value as u8, next);
+                }
+                Byte::Bad
+            }
+            Number::Bad => Byte::Bad,
+        },
+    }
+}
+
+// Reads the line of decimal bytes at `at`, parted by blanks or none at all, into `out`: how many they are, and where the next line starts.
+pub fn bytes_line(input: &[u8], at: usize, out: &mut [u8]) -> Number
+    ensures { λ r. ⌜ Within (length (now (out .entry))) r ⌝ }
+{
+    if input.len() <= at {
+        return Number::Bad;
+    }
+    if input[at] == b'\n' {
+        return Number::Is(0, at + 1);
+    }
+    let mut i = at;
+    let mut n = 0;
+    while n < out.len() {
+        match byte_at(input, i) {
+            Byte::More(b, next) => {
+                out[n] = b;
+                n += 1;
+                i = next;
+            }
+            Byte::Last(b, next) => {
+                out[n] = b;
+                return Number::Is(n + 1, next);
+            }
+            Byte::Bad => {
+                return Number::Bad;
+            }
+        }
+    }
+    Number::Bad
+}
+
+// The end of the text at `at`: where the first empty line stands from there on, or the input's end.
+pub fn text_end(input: &[u8], at: usize) -> usize
+    ensures { λ r. ⌜ (r < length (now (input .entry)) → at ≤ r) ⌝ }
+{
+    let mut i = at;
+    let mut starts = true;
+    while i < input.len() {
+        let ends = input[i] == b'\n';
+        if starts && ends {
+            return i;
+        }
+        starts = ends;
+        i += 1;
+    }
+    input.len()
+}
