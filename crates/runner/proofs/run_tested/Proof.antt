@@ -1,19 +1,25 @@
 -- `runner::run_tested` meets its contract: the last node is run, with the entry values as its variables. Assumes nothing.
 use borrow.Author.Needs.{needs}
 use native.Mathlib.Omega.{arith}
+use Rattle.rules.specs.Running.Laws.{Bytes}
 use Rattle.runner.specs.Code.Whole.{last-ready, last-does}
 use Rattle.runner.proofs.run_tested.Statement.{statement}
 use Rattle.runner.proofs.run_tested.Tie as tie
 
 run-node-requires : tie.Need-run-node-requires
 run-node-requires c κs =
-    let s = c .before .before .before .before .before .before .before .before in
-    last-ready (s .pre) _ (omega (arith, s .pre .nodesLeast)) (record { byte = λ i. omega (arith, c .before .before .before .before .before .before .shared-slice-known2 .given i) }) _ _ (c .before .before .before .copy .ensures .1) (record { byte = λ i. omega (arith, c .before .before .before .before .before .slice-known .given i) }) (omega (arith, c .before .before .environment2 .given))
+    let p = c .before .before .before in
+    let s = p .before .before .before .before .before in
+    let values : Bytes (s .args .values .now) = record { byte = λ i. omega (arith, p .before .before .before .shared-slice-known2 .given i) } in
+    let cells : Bytes (s .args .cells .now) = record { byte = λ i. omega (arith, p .before .before .slice-known .given i) } in
+    last-ready (s .pre) _ (omega (arith, s .pre .nodesLeast)) values _ _ (p .copy .ensures .1) cells (omega (arith, c .before .before .environment2 .given))
 
 returns : tie.Need-returns
 returns c =
-    let s = c .before .before .before .before .before .before .before .before .before .before .before .before in
-    last-does (s .pre) _ (omega (arith, s .pre .nodesLeast)) (record { byte = λ i. omega (arith, c .before .before .before .before .before .before .before .before .before .before .shared-slice-known2 .given i) }) _ _ (c .before .before .before .before .before .before .before .copy .ensures .1) (c .before .before .before .run-node .ensures)
+    let p = c .before .before .before .before .before .before .before in
+    let s = p .before .before .before .before .before in
+    let values : Bytes (s .args .values .now) = record { byte = λ i. omega (arith, p .before .before .before .shared-slice-known2 .given i) } in
+    last-does (s .pre) _ (omega (arith, s .pre .nodesLeast)) values _ _ (p .copy .ensures .1) (c .before .before .before .run-node .ensures)
 
 pub run-tested-spec : {M : Type 1} → statement M
 run-tested-spec =
