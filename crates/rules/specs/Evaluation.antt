@@ -2,6 +2,7 @@
 -- the length of the cells. Assumes nothing.
 pub mod Every
 pub mod Inside
+pub mod Keeps
 pub mod Laws
 use mathlib.Core.Bool.{Bool, true, false, not, _&&_, Bool·beq}
 use mathlib.Core.List.{List, [], _∷_, _++_}

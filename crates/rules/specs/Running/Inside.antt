@@ -10,7 +10,8 @@ use Rattle.script.specs.Table.{Table}
 use Rattle.script.specs.Tests.Laws.{both-true}
 use Rattle.script.specs.Tree.{treeOf}
 use Rattle.rules.specs.Evaluation.Every.{noValue, oneValue}
-use Rattle.rules.specs.Evaluation.Inside.{Inside, wordInside, truthInside, locationInside, AllInside, OutcomeInside, eval-inside}
+use Rattle.rules.specs.Evaluation.Inside.{Inside, wordInside, truthInside, locationInside, AllInside, eval-inside}
+use Rattle.rules.specs.Evaluation.Keeps.{OutcomeHas}
 use Rattle.rules.specs.Running.{bitsAt, valueBy, valuesOf, validBy, allValid, rightCells, rightValues, withinLimits}
 use Rattle.rules.specs.Running.Laws.{length-values}
 use Rattle.rules.specs.Running.Room.{values-fit, outcome}
@@ -31,10 +32,10 @@ valid-inside used (suc n) bs h =
 
 -- THE LAW: within the limits a run stays inside, whatever its table
 pub outcome-inside : (t : Table) (values cells : List ℕ) (used : ℕ) → withinLimits t values cells used ≡ true
-    → OutcomeInside (outcome t values cells used)
+    → OutcomeHas Inside (outcome t values cells used)
 outcome-inside t values cells used h =
     let q = values-fit (t .entryCount) values cells used (both-true (rightCells cells used) (rightValues (t .entryCount) values cells used) h .1) in
     let few = sym (length-values used cells) in
-    eval-inside (treeOf t)
+    eval-inside (treeOf t) (valuesOf (t .entryCount) values) (valuesOf used cells)
     (subst (λ (m : ℕ). AllInside m (valuesOf (t .entryCount) values)) few (valid-inside used (t .entryCount) values (q .valuesValid)))
     (subst (λ (m : ℕ). AllInside m (valuesOf used cells)) few (valid-inside used used cells (q .cellsValid)))

@@ -7,13 +7,13 @@ use Prim.Native.Nat.{ℕ, zero, suc, _+_, _≤_, _<_}
 use native.Mathlib.Omega.{arith}
 use lib.Dec.{leb, eqb}
 use lib.ListN.{take, drop, getD, replicate}
-use lib.Seq.{getD-take}
 use borrow.Author.Tests.{leb-true}
+use Rattle.script.specs.Code.TableTests.Laws.{same-node}
 use Rattle.script.specs.Flat.{FormedNodes, nodesIn}
 use Rattle.script.specs.Flat.Laws.{nodesIn-holds}
 use Rattle.script.specs.Rows.{Row, Form, truthForm, rows, rowOf, numberUpTo, countBy, operandCount, takesBy, takesIn, takesOf, nodesOnly, nodeOperands}
 use Rattle.script.specs.Rows.Laws.{countOf, row-count, row-kind, row-some, rows-at, same-anywhere}
-use Rattle.script.specs.Table.{nodeAt, unused, rightNode, wellFormed}
+use Rattle.script.specs.Table.{nodeAt, rightNode, wellFormed}
 use Rattle.script.specs.Table.Laws.{formed-at}
 use Rattle.script.specs.Tests.Laws.{all-getElem?}
 use Rattle.script.specs.Tree.{Expr, treeAt, trees}
@@ -122,7 +122,7 @@ treeIn table n = treeAt (trees (nodesIn table)) n
 formed-take : (xs : List ℕ) (k m i : ℕ) → i < k → i < m → wellFormed (take k (nodesIn xs)) i ≡ true → wellFormed (take m (nodesIn xs)) i ≡ true
 unfolding wellFormed
 formed-take xs k m i h l e =
-    ap (λ (n : Node). rightNode (rowOf (n .kind)) i n) (getD-take m (nodesIn xs) i unused l ∙ sym (getD-take k (nodesIn xs) i unused h)) ∙ e
+    ap (λ (n : Node). rightNode (rowOf (n .kind)) i n) (sym (same-node xs m i l) ∙ same-node xs k i h) ∙ e
 
 -- fewer nodes are formed too
 pub formed-less : {xs : List ℕ} {n : ℕ} (m : ℕ) → m ≤ n → FormedNodes xs n → FormedNodes xs m
@@ -136,7 +136,7 @@ formed-less {xs} {n} m h f =
 formed-here : {xs : List ℕ} {n : ℕ} → FormedNodes xs (suc n) → wellFormed (nodesIn xs) n ≡ true
 unfolding wellFormed
 formed-here {xs} {n} f =
-    ap (λ (m : Node). rightNode (rowOf (m .kind)) n m) (sym (getD-take (suc n) (nodesIn xs) n unused (omega arith))) ∙ f .formed n (omega arith)
+    ap (λ (m : Node). rightNode (rowOf (m .kind)) n m) (same-node xs (suc n) n (omega arith)) ∙ f .formed n (omega arith)
 
 -- a formed node has a word
 pub formed-kind : {xs : List ℕ} {n : ℕ} → FormedNodes xs (suc n) → nodeIn xs n .kind < 15
