@@ -2,8 +2,10 @@
 -- 'Typed mode', 'Symbolic mode', 'Turned down'). The path limit is a parameter: certification has 64. Assumes nothing.
 use mathlib.Core.List.{List, [], _∷_, _++_, map}
 use mathlib.Core.Option.{Option, none, some}
+use mathlib.Core.Path.{_≡_}
 use Prim.Native.Nat.{ℕ}
 use lib.ListN.{length, getElem?}
+use Rattle.script.specs.Flat.{tableIn}
 use Rattle.script.specs.Table.{Table, entriesOf, tableTest}
 use Rattle.script.specs.Tree.{Expr, int, truth, var, unary, binary, ifElse, letIn, typedBlock, symBlock, treeOf}
 use Rattle.script.specs.declared.Checked.{Checked}
@@ -57,3 +59,7 @@ answered (some r) c = Refused r
 -- the checker's whole answer
 unfoldable pub checkTable : ℕ → Table → Checked
 checkTable limit t = answered (tableTest t) (check limit (treeOf t) (entriesOf t))
+
+-- what a call of the checker promises of its answer, where the table is lent in flat form
+abbrev pub CheckedBy : ℕ → List ℕ → ℕ → List ℕ → ℕ → Checked → Type 0
+CheckedBy limit table nodes entries entryCount r = r ≡ checkTable limit (tableIn table nodes entries entryCount)

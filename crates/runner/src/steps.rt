@@ -1,10 +1,8 @@
 // Evaluation by the table: each node runs its operands, whose numbers are smaller, and then its rule.
 ghost use mathlib.Core.Path.{_≡_};
-ghost use lib.Dec.{eqb};
 ghost use Rattle.rules.specs.Evaluation.{eval};
 ghost use Rattle.rules.specs.Running.{valuesOf};
 ghost use Rattle.rules.specs.Running.Laws.{InRange};
-ghost use Rattle.script.specs.Rows.{nodeOperands};
 ghost use Rattle.script.specs.Code.Forms.{formOf, nodeIn, treeIn};
 ghost use Rattle.runner.specs.Code.Steps.{Variables, nextOn, boundOn, Bound, restOn, Ready, Halfway, Runs};
 use crate::operators::leaf;
@@ -12,18 +10,11 @@ use crate::operators::one;
 use crate::operators::two;
 use crate::values::store;
 use script::Value;
-use script::table::ADD;
-use script::table::GET;
 use script::table::IF;
+use script::table::LEAVES;
 use script::table::LET;
-use script::table::NOT;
-use script::table::REF;
-use script::table::SYM;
-use script::table::TYPED;
+use script::table::has_one;
 use script::table::node_at;
-
-// The kinds below this one are those of leaves, whose operands are no nodes: `int`, `true`, `false` and `var`.
-const LEAVES: u32 = ADD;
 
 // What a node comes to: a value and the used count, or the node of the error state and the used count.
 pub enum Step {
@@ -35,20 +26,6 @@ pub enum Step {
 pub enum Next {
     Operand(u32),
     Wrong,
-}
-
-// A node of this kind has one operand that is a node.
-fn has_one(kind: u32) -> bool
-    ensures { λ r. ⌜ r ≡ eqb (nodeOperands kind) 1 ⌝ }
-{
-    match kind {
-        NOT => true,
-        REF => true,
-        GET => true,
-        TYPED => true,
-        SYM => true,
-        _ => false,
-    }
 }
 
 // The operand of a node that comes after the first, which gave v: of an `if` the branch that is taken.

@@ -2,6 +2,7 @@
 ghost use mathlib.Core.Path.{_≡_};
 ghost use mathlib.Core.List.{[], _∷_};
 ghost use Prim.Native.Nat.{_+_, _*_, _<_};
+ghost use lib.Dec.{eqb};
 ghost use lib.ListN.{length, getD};
 ghost use lib.Seq.{sets};
 ghost use Rattle.script.specs.Flat.{nodesIn};
@@ -46,6 +47,9 @@ pub const TYPED: u32 = 13;
 
 pub const SYM: u32 = 14;
 
+// The kinds below this one are those of leaves, whose operands are no nodes: `int`, `true`, `false` and `var`.
+pub const LEAVES: u32 = ADD;
+
 // How many operands each kind takes: the one table of operand counts, for the reader, the writer and the tests of a table.
 const COUNTS: [u32; 15] = [1, 0, 0, 1, 2, 2, 1, 2, 3, 2, 1, 1, 2, 1, 1];
 
@@ -89,6 +93,20 @@ pub fn node_operands(kind: u32) -> u32
     match kind_takes(kind) {
         Takes::Number(_) => 0,
         Takes::Nodes => operand_count(kind),
+    }
+}
+
+// A node of this kind has one operand that is a node.
+pub fn has_one(kind: u32) -> bool
+    ensures { λ r. ⌜ r ≡ eqb (nodeOperands kind) 1 ⌝ }
+{
+    match kind {
+        NOT => true,
+        REF => true,
+        GET => true,
+        TYPED => true,
+        SYM => true,
+        _ => false,
     }
 }
 

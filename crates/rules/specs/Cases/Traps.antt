@@ -1,11 +1,14 @@
 -- Rows that tell the rules from document 01's four traps and from the wrong programs of the reviewer's checklist, proved together by computation.
 -- Assumes nothing.
+use mathlib.Core.Bool.{true}
 use mathlib.Core.Path.{_≡_, refl}
 use mathlib.Core.List.{List, [], _∷_, map}
+use Prim.Native.Nat.{_-_, _^_}
 use lib.ListN.{replicate}
 use Rattle.script.specs.Answers.{valueIs}
 use Rattle.script.specs.Table.Cases.{int′, true′, false′, var′, eq′, and′, if′, let′, ref′, get′, set′, typed′, sym′}
 use Rattle.script.specs.declared.Place.the-variants.{At}
+use Rattle.rules.specs.Symbolic.{oppositeEach, sameEach, sameSum, difference, sameAtom}
 use Rattle.rules.specs.Cases.{Case, asking, right, accepts, refuses, ends, computed}
 
 unfoldable pub traps : List Case
@@ -44,3 +47,8 @@ traps =
 pub traps-hold : map asking traps ≡ map right traps
 unfolding traps computed
 traps-hold = refl
+
+-- 2^31 x is its own negation, so 2^31 x = 5 and 2^31 x = -5 are one atom; a script of 128 nodes has no room to show it
+pub one-half-atom : sameAtom (difference (record { constant = 2 ^ 32 - 5; coefficients = 2 ^ 31 ∷ [] })) (difference (record { constant = 5; coefficients = 2 ^ 31 ∷ [] })) ≡ true
+unfolding sameAtom sameSum sameEach oppositeEach
+one-half-atom = refl

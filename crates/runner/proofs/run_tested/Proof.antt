@@ -12,14 +12,14 @@ run-node-requires c κs =
     let s = p .before .before .before .before .before in
     let values : Bytes (s .args .values .now) = record { byte = λ i. omega (arith, p .before .before .before .shared-slice-known2 .given i) } in
     let cells : Bytes (s .args .cells .now) = record { byte = λ i. omega (arith, p .before .before .slice-known .given i) } in
-    last-ready (s .pre) _ (omega (arith, s .pre .nodesLeast)) values _ _ (p .copy .ensures .1) cells (omega (arith, c .before .before .environment2 .given))
+    last-ready (s .pre) _ (omega (arith, s .pre .nodesRooted .least)) values _ _ (p .copy .ensures .1) cells (omega (arith, c .before .before .environment2 .given))
 
 returns : tie.Need-returns
 returns c =
     let p = c .before .before .before .before .before .before .before in
     let s = p .before .before .before .before .before in
     let values : Bytes (s .args .values .now) = record { byte = λ i. omega (arith, p .before .before .before .shared-slice-known2 .given i) } in
-    last-does (s .pre) _ (omega (arith, s .pre .nodesLeast)) values _ _ (p .copy .ensures .1) (c .before .before .before .run-node .ensures)
+    last-does (s .pre) _ (omega (arith, s .pre .nodesRooted .least)) values _ _ (p .copy .ensures .1) (c .before .before .before .run-node .ensures)
 
 pub run-tested-spec : {M : Type 1} → statement M
 run-tested-spec =

@@ -2,7 +2,6 @@
 -- node: a leaf; the operand that comes after the first; the rule after the last. Assumes nothing.
 use mathlib.Core.Bool.{true, false}
 use mathlib.Core.List.{List, [], _∷_, _++_}
-use mathlib.Core.Option.{none, some}
 use mathlib.Core.Path.{_≡_}
 use Prim.Native.Nat.{ℕ, suc, _+_, _*_, _%_, _^_, _≤_}
 use lib.ListN.{length, getElem?, take}

@@ -4,19 +4,17 @@ use mathlib.Core.Bool.{true, false}
 use mathlib.Core.List.{List, _++_}
 use mathlib.Core.Option.{none, some}
 use mathlib.Core.Path.{_≡_, refl, sym, ap, subst, _∙_}
-use Prim.Native.Nat.{ℕ, suc, _+_, _*_, _≤_, pred}
+use Prim.Native.Nat.{ℕ, suc, _+_, _*_, _≤_}
 use native.Mathlib.Omega.{arith}
 use lib.ListN.{length, take}
-use lib.Seq.{length-take-le, take-append-le, take-length}
+use lib.Seq.{take-append-le, take-length}
 use Rattle.script.specs.Code.Forms.{treeIn}
-use Rattle.script.specs.Flat.{FormedNodes, nodesIn, tableIn}
-use Rattle.script.specs.Flat.Laws.{length-nodesIn, nodesIn-holds}
+use Rattle.script.specs.Code.Root.{Rooted, rooted, root-formed, root-tree, root-size}
+use Rattle.script.specs.Flat.{nodesIn, tableIn}
 use Rattle.script.specs.Limits.{nodeLimit, entryLimit}
 use Rattle.script.specs.Table.{tableTest}
-use Rattle.script.specs.Table.Laws.{Sound, passes}
-use Rattle.script.specs.Tree.{Expr, size, treeAt, trees, root, treeOf}
-use Rattle.script.specs.Tree.Laws.{trees-take}
-use Rattle.script.specs.Tree.Size.{size-root}
+use Rattle.script.specs.Table.Laws.{passes}
+use Rattle.script.specs.Tree.{Expr, root, treeOf}
 use Rattle.script.specs.declared.Ran.{Ran}
 use Rattle.script.specs.declared.Refusal.{Refusal}
 use Rattle.script.specs.declared.Value.{Value}
@@ -32,9 +30,7 @@ use Rattle.runner.specs.declared.steps.Step.the-variants.{Gave, Failed}
 
 -- a table, values and cells that a run can take
 pub record Runnable (table : List ℕ) (nodes entries : ℕ) (values cells : List ℕ) (used : ℕ) : Type 0 where
-  pub nodesLeast : 1 ≤ nodes
-  pub formed : FormedNodes table nodes
-  pub sound : Sound (take nodes (nodesIn table))
+  pub nodesRooted : Rooted table nodes
   pub entriesMost : entries ≤ entryLimit
   pub valuesCount : length values ≡ 5 * entries
   pub valuesValid : allValid used entries values ≡ true
@@ -46,19 +42,6 @@ pub record Runnable (table : List ℕ) (nodes entries : ℕ) (values cells : Lis
 
 module _ {table : List ℕ} {nodes entries : ℕ} {values cells : List ℕ} {used : ℕ} (q : Runnable table nodes entries values cells used)
     (m : ℕ) (last : suc m ≡ nodes) where
-  nodes-length : length (take nodes (nodesIn table)) ≡ nodes
-  nodes-length = length-take-le nodes (nodesIn table) (nodesIn-holds table nodes (q .formed .room))
-
-  root-tree : treeIn table m ≡ root (take nodes (nodesIn table))
-  unfolding treeIn root
-  root-tree =
-      let p : pred (length (take nodes (nodesIn table))) ≡ m = ap pred (nodes-length ∙ sym last) in
-      sym (trees-take (nodesIn table) nodes m (nodesIn-holds table nodes (q .formed .room)) (omega arith))
-      ∙ ap (λ (i : ℕ). treeAt (trees (take nodes (nodesIn table))) i) (sym p)
-
-  root-size : size (treeIn table m) ≡ nodes
-  root-size = ap size root-tree ∙ size-root (take nodes (nodesIn table)) (q .sound) (omega (arith, nodes-length, q .nodesLeast)) ∙ nodes-length
-
   module _ (vb : Bytes values) (env rest : List ℕ) (is : env ≡ take (length values) values ++ rest) where
     env-holds : Holds env (valuesOf entries values)
     env-holds =
@@ -76,10 +59,10 @@ module _ {table : List ℕ} {nodes entries : ℕ} {values cells : List ℕ} {use
     pub last-ready : Bytes cells → 5 * (entryLimit + nodeLimit) ≤ length env → Ready table env entries cells used m
     last-ready cb l =
         record {
-          formed = subst (λ (n : ℕ). FormedNodes table n) (sym last) (q .formed);
+          formed = root-formed (q .nodesRooted) m last;
           environment = record {
             held = subst (λ (vs : List Value). Holds env vs) (sym env-values) env-holds;
-            room = omega (arith, l, last, q .formed .most, q .entriesMost);
+            room = omega (arith, l, last, q .nodesRooted .formed .most, q .entriesMost);
           };
           store = record {
             held = record {
@@ -87,7 +70,7 @@ module _ {table : List ℕ} {nodes entries : ℕ} {values cells : List ℕ} {use
               ranged = values-in-range used cb;
             };
             lent = q .lent;
-            room = omega (arith, root-size, q .usedMost, q .formed .most);
+            room = omega (arith, root-size (q .nodesRooted) m last, q .usedMost, q .nodesRooted .formed .most);
           };
         }
 
@@ -95,7 +78,7 @@ module _ {table : List ℕ} {nodes entries : ℕ} {values cells : List ℕ} {use
         → Runs (eval (treeIn table m) (valuesOf entries env) (valuesOf used cells)) entries env envLeft r cells left
         → Does (eval (root (take nodes (nodesIn table))) (valuesOf entries values) (valuesOf used cells)) r cells left
     last-does {left = left} {r = r} d =
-        subst (λ (t : Expr). Does (eval t (valuesOf entries values) (valuesOf used cells)) r cells left) root-tree
+        subst (λ (t : Expr). Does (eval t (valuesOf entries values) (valuesOf used cells)) r cells left) (root-tree (q .nodesRooted) m last)
         (subst (λ (vs : List Value). Does (eval (treeIn table m) vs (valuesOf used cells)) r cells left) env-values (d .does))
 
 -- ---- the ways through the call
@@ -130,18 +113,11 @@ module _ (table : List ℕ) (nodes : ℕ) (es : List ℕ) (entries : ℕ) (value
       module _ (v : rightValues entries values cells used ≡ true) where
         pub runnable : Runnable table nodes entries values cells used
         runnable =
-            let s = passes (tableIn table nodes es entries) p in
             let a = cells-fit cells used c in
             let b = values-fit entries values cells used v in
             record {
-              nodesLeast = s .nodesLeast;
-              formed = record {
-                most = s .nodesMost;
-                room = omega (arith, s .nodesMost, s .lentNodes, length-nodesIn table);
-                formed = λ i h. s .sound .formed i (omega (arith, h, s .nodesLength));
-              };
-              sound = s .sound;
-              entriesMost = s .entriesMost;
+              nodesRooted = rooted table nodes es entries p;
+              entriesMost = few-entries;
               valuesCount = b .counts;
               valuesValid = b .valuesValid;
               usedMost = a .0;

@@ -1,5 +1,5 @@
 -- The form of a kind and the tree of a node, for code that goes by the flat table. Assumes nothing.
-use mathlib.Core.Bool.{true, false}
+use mathlib.Core.Bool.{Bool, true, false}
 use mathlib.Core.List.{List, _∷_, _++_, map}
 use mathlib.Core.Option.{Option, none, some}
 use mathlib.Core.Path.{_≡_, refl, sym, ap, _∙_}
@@ -7,7 +7,7 @@ use Prim.Native.Nat.{ℕ, zero, suc, _+_, _≤_, _<_}
 use native.Mathlib.Omega.{arith}
 use lib.Dec.{leb, eqb}
 use lib.ListN.{take, drop, getD, replicate}
-use borrow.Author.Tests.{leb-true}
+use borrow.Author.Tests.{leb-true, eqb-true, eqb-false}
 use Rattle.script.specs.Code.TableTests.Laws.{same-node}
 use Rattle.script.specs.Flat.{FormedNodes, nodesIn}
 use Rattle.script.specs.Flat.Laws.{nodesIn-holds}
@@ -111,6 +111,13 @@ not-one k d₆ d₁₀ d₁₁ d₁₃ d₁₄ =
     (plain-but 6 _ _ k d₆ λ i e. plain-but 3 _ _ i (λ z. d₁₀ (omega arith)) λ j f. plain-but 0 _ _ j (λ z. d₁₁ (omega arith)) λ l g.
     plain-but 1 _ _ l (λ z. d₁₃ (omega arith)) λ m u. plain-but 0 _ _ m (λ z. d₁₄ (omega arith)) λ p w. plain-all 0 p)
 
+-- what a test for one operand tells of a count
+pub has-one : {r : Bool} (m : ℕ) → r ≡ eqb m 1 → r ≡ true → m ≡ 1
+has-one m e t = eqb-true m 1 (sym e ∙ t)
+
+pub has-more : {r : Bool} (m : ℕ) → 1 ≤ m → r ≡ eqb m 1 → r ≡ false → 2 ≤ m
+has-more m h e f = let n = eqb-false m 1 (sym e ∙ f) in omega arith
+
 -- ---- the nodes and trees of a flat table
 
 abbrev pub nodeIn : List ℕ → ℕ → Node
@@ -143,6 +150,10 @@ pub formed-kind : {xs : List ℕ} {n : ℕ} → FormedNodes xs (suc n) → nodeI
 formed-kind {xs} {n} f =
     let k = formed-at (nodesIn xs) n (formed-here f) in
     row-kind (nodeIn xs n .kind) (k .row) (k .is-row)
+
+-- from `add` on it has an operand that is a node
+pub some-operand : {xs : List ℕ} {n : ℕ} → FormedNodes xs (suc n) → 4 ≤ nodeIn xs n .kind → 1 ≤ nodeOperands (nodeIn xs n .kind)
+some-operand {xs} {n} f h = other-kinds (nodeIn xs n .kind) h (formed-kind f)
 
 -- the tree of a node, where it and those before it are formed
 pub viewed : {xs : List ℕ} {n : ℕ} → FormedNodes xs (suc n) → Unrolled (nodesIn xs) n (treeIn xs n)

@@ -7,14 +7,15 @@ use borrow.Fn.PlainCycle.{Measures, is, falls, and}
 use mathlib.Core.Path.{sym, _∙_}
 use Prim.Native.Nat.{ℕ, _+_, _*_, _<_}
 use native.Mathlib.Omega.{arith}
-use Rattle.runner.specs.Code.Steps.Turns.{has-one, has-more, leaf-runs, some-operand, first-earlier, ready-first, first-failed, first-ranged, one-ready, one-runs, half-ready, rest-runs, wrong-runs, bind-ready, next-earlier, next-ready, next-failed, two-ranged, two-ready, two-runs}
+use Rattle.script.specs.Code.Forms.{has-one, has-more, some-operand}
+use Rattle.runner.specs.Code.Steps.Turns.{leaf-runs, first-earlier, ready-first, first-failed, first-ranged, one-ready, one-runs, half-ready, rest-runs, wrong-runs, bind-ready, next-earlier, next-ready, next-failed, two-ranged, two-ready, two-runs}
 use Rattle.runner.proofs.steps.rest.Reads as rest
 use Rattle.runner.proofs.steps.rest.Kinds as rest-kinds
 use Rattle.runner.proofs.steps.+rest+run_node.Lts-rest as rest-lts
 use Rattle.runner.proofs.steps.run_node.Reads as run-node
 use Rattle.runner.proofs.steps.run_node.Kinds as run-node-kinds
 use Rattle.runner.proofs.steps.+rest+run_node.Lts-run_node as run-node-lts
-use Rattle.runner.proofs.steps.has_one.Reads as has-one-reads
+use Rattle.script.proofs.table.has_one.Reads as has-one-reads
 use Rattle.runner.proofs.operators.leaf.Reads as leaf-reads
 use Rattle.runner.proofs.operators.one.Reads as one-reads
 use Rattle.runner.proofs.operators.two.Reads as two-reads
@@ -160,7 +161,7 @@ run-node-run-node-requires t c κs =
     let o = c .before .before .before in
     let s = o .before .before .before .before .before in
     let node = o .before .node-at .ensures in
-    let h = some-operand (s .pre .1) (rw node at (c .before .before .if1 .left)) in
+    let h = some-operand (s .pre .1 .formed) (rw node at (c .before .before .if1 .left)) in
     rw node (omega (arith, first-earlier (s .pre .1) h, s .pre .0), ready-first (s .pre .1) h)
 
 run-node-one-requires : (t : ℕ) → run-node-lts.Need-one-requires (run-node-calls t) (run-node-at t) run-node.Post
@@ -170,7 +171,7 @@ run-node-one-requires t c κs =
     let s = o .before .before .before .before .before in
     let q = s .pre .1 in
     let node = o .before .node-at .ensures in
-    let h = some-operand q (rw node at (p .before .before .before .if1 .left)) in
+    let h = some-operand (q .formed) (rw node at (p .before .before .before .if1 .left)) in
     let d = rw node at (p .run-node .ensures) in
     let e = c .before .before .before .before .v .given .1 in
     (one-ready q h d e, first-ranged q h d e)
@@ -182,7 +183,7 @@ run-node-returns-2 t c =
     let s = o .before .before .before .before .before in
     let q = s .pre .1 in
     let node = o .before .node-at .ensures in
-    let h = some-operand q (rw node at (p .before .before .before .if1 .left)) in
+    let h = some-operand (q .formed) (rw node at (p .before .before .before .if1 .left)) in
     let d = rw node at (p .run-node .ensures) in
     let k = has-one _ (rw node at (c .before .before .before .before .before .has-one .ensures)) (c .before .before .before .before .if2 .taken) in
     one-runs q h d (c .before .before .before .before .before .before .before .v .given .1) k (rw node at (c .before .before .one .ensures))
@@ -194,7 +195,7 @@ run-node-rest-requires t c κs =
     let s = o .before .before .before .before .before in
     let q = s .pre .1 in
     let node = o .before .node-at .ensures in
-    let h = some-operand q (rw node at (p .before .before .before .if1 .left)) in
+    let h = some-operand (q .formed) (rw node at (p .before .before .before .if1 .left)) in
     let d = rw node at (p .run-node .ensures) in
     let k = has-more _ h (rw node at (c .before .before .before .has-one .ensures)) (c .before .before .if2 .left) in
     (omega (arith, s .pre .0), half-ready q h d (c .before .before .before .before .before .v .given .1) k (c .before .before .before .before .before .before .before .before .before .before .environment .given))
@@ -206,7 +207,7 @@ run-node-returns-3 t c =
     let s = o .before .before .before .before .before in
     let q = s .pre .1 in
     let node = o .before .node-at .ensures in
-    let h = some-operand q (rw node at (p .before .before .before .if1 .left)) in
+    let h = some-operand (q .formed) (rw node at (p .before .before .before .if1 .left)) in
     let d = rw node at (p .run-node .ensures) in
     first-failed q h d (c .before .at .given .1)
 
@@ -217,7 +218,7 @@ run-node-returns-4 t c =
     let s = o .before .before .before .before .before in
     let q = s .pre .1 in
     let node = o .before .node-at .ensures in
-    let h = some-operand q (rw node at (p .before .before .before .if1 .left)) in
+    let h = some-operand (q .formed) (rw node at (p .before .before .before .if1 .left)) in
     let d = rw node at (p .run-node .ensures) in
     let k = has-more _ h (rw node at (c .before .before .before .before .before .before .before .before .has-one .ensures)) (c .before .before .before .before .before .before .before .if2 .left) in
     rest-runs q h d (c .before .before .before .before .before .before .before .before .before .before .v .given .1) k (c .before .before .before .before .rest .ensures)

@@ -1,15 +1,12 @@
 -- From one step of a run to the next: what is known once an operand gave a value or failed, and how the steps of a node make up its evaluation.
 -- Assumes nothing.
-use mathlib.Core.Bool.{Bool, true, false}
 use mathlib.Core.List.{List, [], _∷_}
 use mathlib.Core.Path.{_≡_, refl, sym, ap, subst, _∙_}
 use Prim.Native.Nat.{ℕ, suc, _+_, _*_, _≤_, _<_}
 use native.Mathlib.Omega.{arith}
-use lib.Dec.{eqb}
 use lib.ListN.{length, take, length-append}
 use lib.Seq.{take-take}
-use borrow.Author.Tests.{eqb-true, eqb-false}
-use Rattle.script.specs.Code.Forms.{formOf, leaf-kinds, other-kinds, nodeIn, treeIn, formed-less, formed-kind}
+use Rattle.script.specs.Code.Forms.{formOf, leaf-kinds, nodeIn, treeIn, formed-less}
 use Rattle.script.specs.Rows.{Form, intForm, varForm, ifForm, letForm, typedForm, symForm, truthForm, unaryForm, binaryForm, nodeOperands}
 use Rattle.script.specs.Tree.{Expr, size}
 use Rattle.script.specs.declared.Value.{Value}
@@ -146,13 +143,6 @@ rest-keeps Wrong xs f n v env cs = grows-failed n cs 0 .keeps
 
 -- ---- a node that can run
 
--- one operand or more, by what the code asks
-pub has-one : {r : Bool} (m : ℕ) → r ≡ eqb m 1 → r ≡ true → m ≡ 1
-has-one m e t = eqb-true m 1 (sym e ∙ t)
-
-pub has-more : {r : Bool} (m : ℕ) → 1 ≤ m → r ≡ eqb m 1 → r ≡ false → 2 ≤ m
-has-more m h e f = let n = eqb-false m 1 (sym e ∙ f) in omega arith
-
 grows-from : (e : Expr) (env : List Value) (cells : List ℕ) (used : ℕ) → Grows used (size e) (eval e env (valuesOf used cells))
 grows-from e env cells used =
     subst (λ (n : ℕ). Grows n (size e) (eval e env (valuesOf used cells))) (length-values used cells) (eval-grows e env (valuesOf used cells))
@@ -178,9 +168,6 @@ module _ {xs env : List ℕ} {depth : ℕ} {cells : List ℕ} {used n : ℕ} (q 
       }
 
   -- any other node has an operand; the first is earlier, and can run
-  pub some-operand : 4 ≤ nodeIn xs n .kind → 1 ≤ nodeOperands (nodeIn xs n .kind)
-  some-operand h = other-kinds (nodeIn xs n .kind) h (formed-kind (q .formed))
-
   pub first-earlier : 1 ≤ nodeOperands (nodeIn xs n .kind) → nodeIn xs n .a < n
   first-earlier h = first-of (shaped (q .formed)) h .earlier
 
