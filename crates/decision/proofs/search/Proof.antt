@@ -1,0 +1,63 @@
+-- `decision::search` meets its contract: what the blocks passed allow is found. Assumes nothing.
+use borrow.Author.Needs.{needs}
+use mathlib.Core.Path.{_≡_, refl}
+use Prim.Native.Nat.{_-_}
+use native.Mathlib.Omega.{arith}
+use lib.ListN.{length}
+use Rattle.terms.specs.Terms.{rowLimit}
+use Rattle.decision.specs.Code.Loops.{Searching, searching, searching-on, searching-both, searching-end}
+use Rattle.decision.proofs.search.Statement.{statement}
+use Rattle.decision.proofs.search.Tie as tie
+
+abbrev Inv-loop : tie.InvT-loop
+Inv-loop space condition guard marks blocks n words₀ yes₀ no₀ block₀ words yes' no' block = (length words ≡ rowLimit) × Searching space marks condition guard blocks yes' no' block
+
+abbrev μ-loop : tie.MeasureT-loop
+μ-loop space condition guard marks blocks n words₀ yes₀ no₀ block₀ words yes' no' block = blocks - block
+
+loop-holds : tie.Need-loop-holds Inv-loop μ-loop
+loop-holds c = let a = c .before .before .before .args in (refl, searching (a .space .now) (a .marks .now) (a .condition) (a .guard) (a .blocks))
+
+sweep-requires : tie.Need-sweep-requires Inv-loop μ-loop
+sweep-requires c κs =
+    let r = c .before .before .before .before .before .before .pre .1 in
+    let e = c .before .before .before .above .ensures in
+    let l = c .before .before .loop .inv .0 in
+    (rw e r, omega (arith, r .few))
+
+returns : tie.Need-returns Inv-loop μ-loop
+returns c =
+    let s = c .before .before .before in
+    let l = s .before .before .before in
+    searching-both (c .before .both-found .result) (searching-on (l .before .above .result) (s .sweep .last .1 .1 .1 .1 .0) (l .loop .inv .1) (s .before .before .loop-test .taken) (l .before .above .ensures) (s .sweep .ensures)) (c .before .both-found .ensures) (c .if1 .taken)
+
+loop-again : tie.Need-loop-again Inv-loop μ-loop
+loop-again c =
+    let s = c .before .before .before in
+    let l = s .before .before .before in
+    (search needs, searching-on (l .before .above .result) (s .sweep .last .1 .1 .1 .1 .0) (l .loop .inv .1) (s .before .before .loop-test .taken) (l .before .above .ensures) (s .sweep .ensures))
+
+returns-2 : tie.Need-returns-2 Inv-loop μ-loop
+returns-2 c = searching-end (c .branches-of .result) (c .before .before .loop .inv .1) (c .before .loop-test .left) (c .branches-of .ensures)
+
+pub search-spec : {M : Type 1} → statement M
+search-spec =
+    tie.close
+    (tie.spec
+    Inv-loop
+    μ-loop
+    (λ c κs. search needs)
+    loop-holds
+    (λ c. search needs)
+    sweep-requires
+    (λ c. search needs)
+    (λ c. search needs)
+    (λ c. search needs)
+    (λ c. search needs)
+    (λ c κs. search needs)
+    returns
+    (λ c. search needs)
+    (λ c. search needs)
+    loop-again
+    (λ c κs. search needs)
+    returns-2)

@@ -1,0 +1,133 @@
+-- The decision on the lent numbers, step by step as the code makes it: the rows reached are marked, the atoms among them counted, and the truths of the
+-- rows computed for 64 assignments at a time. Assumes nothing.
+pub mod Laws
+pub mod Loops
+pub mod Whole
+use mathlib.Core.Bool.{Bool, not}
+use mathlib.Core.List.{List, [], _∷_, _++_}
+use Prim.Native.Nat.{ℕ, zero, suc, _+_, _-_, _/_, _%_, _≤_}
+use lib.Bits.{bitAnd, bitOr, bitXor}
+use lib.Dec.{leb, ltb, eqb}
+use lib.ListN.{length, getD, set, replicate}
+use Rattle.script.specs.Tests.{pick}
+use Rattle.terms.specs.Terms.{rowIn, rowLimit, rowsEnd}
+use Rattle.terms.specs.declared.Row.{Row}
+use Rattle.decision.specs.Decision.{branchesOf}
+use Rattle.decision.specs.declared.Decision.{Decision}
+use Rattle.decision.specs.declared.Decision.the-variants.{TooMany}
+
+-- the row after the greater of two
+unfoldable pub above : ℕ → ℕ → ℕ
+above a b = pick (ltb a b) (b + 1) (a + 1)
+
+-- the slice has all its rows, of which the first n have a mark
+pub record Room (ws : List ℕ) (n : ℕ) (ms : List ℕ) : Type 0 where
+  pub lent : rowsEnd ≤ length ws
+  pub few : n ≤ rowLimit
+  pub marks : n ≤ length ms
+
+-- ---- marks
+
+-- below which row an operand of a marked row lies that the operators from `least` to 6 have
+unfoldable pub operandBelow : ℕ → ℕ → ℕ → ℕ → ℕ
+operandBelow least op mark i = pick (eqb mark 0) 0 (pick (ltb op least) 0 (pick (ltb 6 op) 0 i))
+
+unfoldable pub reached : List ℕ → ℕ → ℕ → List ℕ
+reached ms a below = pick (leb below a) ms (set ms a 1)
+
+unfoldable pub markRow : List ℕ → Row → ℕ → List ℕ
+markRow ms r i =
+    reached (reached ms (r .a) (operandBelow 4 (r .op) (getD ms i 0) i)) (r .b) (operandBelow 5 (r .op) (getD ms i 0) i)
+
+-- from the last row down
+unfoldable pub marked : List ℕ → ℕ → List ℕ → List ℕ
+marked ws zero ms = ms
+marked ws (suc j) ms = marked ws j (markRow ms (rowIn ws j) j)
+
+-- ---- atoms
+
+unfoldable pub seenAfter : ℕ → ℕ → ℕ → ℕ
+seenAfter op mark seen = pick (eqb mark 0) seen (pick (ltb op 7) seen (seen + 1))
+
+-- how many of the first rows are marked atoms: the number of the next one
+unfoldable pub rank : List ℕ → List ℕ → ℕ → ℕ
+rank ws ms zero = 0
+rank ws ms (suc i) = seenAfter (rowIn ws i .op) (getD ms i 0) (rank ws ms i)
+
+-- ---- truths of 64 assignments
+
+abbrev pub ones : ℕ
+ones = 0xFFFF_FFFF_FFFF_FFFF
+
+unfoldable pub spreadOf : ℕ → ℕ
+spreadOf b = pick (eqb b 0) 0 ones
+
+-- bit m of each assignment of a block
+unfoldable pub patternOf : ℕ → ℕ → ℕ
+patternOf zero block = 0xAAAA_AAAA_AAAA_AAAA
+patternOf (suc zero) block = 0xCCCC_CCCC_CCCC_CCCC
+patternOf (suc (suc zero)) block = 0xF0F0_F0F0_F0F0_F0F0
+patternOf (suc (suc (suc zero))) block = 0xFF00_FF00_FF00_FF00
+patternOf (suc (suc (suc (suc zero)))) block = 0xFFFF_0000_FFFF_0000
+patternOf (suc (suc (suc (suc (suc zero))))) block = 0xFFFF_FFFF_0000_0000
+patternOf (suc (suc (suc (suc (suc (suc zero)))))) block = spreadOf (block % 2)
+patternOf (suc (suc (suc (suc (suc (suc (suc zero))))))) block = spreadOf (block / 2 % 2)
+patternOf (suc (suc (suc (suc (suc (suc (suc (suc zero)))))))) block = spreadOf (block / 4 % 2)
+patternOf (suc (suc (suc (suc (suc (suc (suc (suc (suc m))))))))) block = spreadOf (block / 8 % 2)
+
+-- a row whose operands are x and y, where atom m is the next one
+unfoldable pub rowWord : Row → ℕ → ℕ → ℕ → ℕ → ℕ
+rowWord r x y m block =
+    pick (leb 7 (r .op)) (patternOf m block)
+    (pick (eqb (r .op) 6) (ones - bitXor x y)
+    (pick (eqb (r .op) 5) (bitAnd x y)
+    (pick (eqb (r .op) 4) (ones - x)
+    (pick (eqb (r .op) 3) (spreadOf (r .a)) 0))))
+
+-- a row by the words of the rows before
+unfoldable pub wordOf : List ℕ → Row → ℕ → ℕ → ℕ → ℕ
+wordOf vs r mark m block = pick (eqb mark 0) 0 (rowWord r (getD vs (r .a) 0) (getD vs (r .b) 0) m block)
+
+-- the first rows
+unfoldable pub words : List ℕ → List ℕ → ℕ → ℕ → List ℕ
+words ws ms block zero = []
+words ws ms block (suc i) =
+    words ws ms block i ++ (wordOf (words ws ms block i) (rowIn ws i) (getD ms i 0) (rank ws ms i) block ∷ [])
+
+-- ---- the blocks
+
+unfoldable pub blocksOf : ℕ → ℕ
+blocksOf n = pick (eqb n 7) 2 (pick (eqb n 8) 4 (pick (eqb n 9) 8 (pick (eqb n 10) 16 1)))
+
+-- the words of the first k blocks in one
+unfoldable pub together : (ℕ → ℕ) → ℕ → ℕ
+together f zero = 0
+together f (suc k) = bitOr (together f k) (f k)
+
+-- the assignments of a block that allow the true branch, and those that allow the false one
+unfoldable pub trueWord : List ℕ → List ℕ → ℕ → ℕ → ℕ → ℕ
+trueWord ws ms c g block = bitAnd (getD (words ws ms block (above c g)) c 0) (getD (words ws ms block (above c g)) g 0)
+
+unfoldable pub falseWord : List ℕ → List ℕ → ℕ → ℕ → ℕ → ℕ
+falseWord ws ms c g block = bitAnd (getD (words ws ms block (above c g)) c 0) (ones - getD (words ws ms block (above c g)) g 0)
+
+abbrev pub nonZero : ℕ → Bool
+nonZero w = not (eqb w 0)
+
+unfoldable pub searched : List ℕ → List ℕ → ℕ → ℕ → ℕ → Decision
+searched ws ms c g blocks = branchesOf (nonZero (together (trueWord ws ms c g) blocks)) (nonZero (together (falseWord ws ms c g) blocks))
+
+-- ---- the decision
+
+-- the marks at first: the two rows asked for
+abbrev pub startMarks : ℕ → ℕ → List ℕ
+startMarks c g = set (set (replicate rowLimit 0) c 1) g 1
+
+unfoldable pub marksFrom : List ℕ → ℕ → ℕ → List ℕ
+marksFrom ws c g = marked ws (above c g) (startMarks c g)
+
+unfoldable pub atomsFrom : List ℕ → ℕ → ℕ → ℕ
+atomsFrom ws c g = rank ws (marksFrom ws c g) (above c g)
+
+unfoldable pub decided : List ℕ → ℕ → ℕ → Decision
+decided ws c g = pick (ltb 10 (atomsFrom ws c g)) TooMany (searched ws (marksFrom ws c g) c g (blocksOf (atomsFrom ws c g)))

@@ -1,0 +1,9 @@
+pub mod Decision
+pub mod Code
+pub mod Bits
+pub mod Patterns
+pub mod Marks
+pub mod Atoms
+pub mod Listed
+pub mod Words
+pub mod Promise

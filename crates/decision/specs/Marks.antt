@@ -1,0 +1,295 @@
+-- What is marked: with a row its operands, and only what stands for a part of a formula that is asked for. Assumes nothing.
+use mathlib.Core.Bool.{Bool, true, false}
+use mathlib.Core.List.{List}
+use mathlib.Core.Logic.{_⊎_, inl, inr}
+use mathlib.Core.Path.{_≡_, refl, _∙_}
+use Prim.Native.Nat.{ℕ, zero, suc, _≤_, _<_}
+use borrow.Author.Tests.{ltb-false, leb-false, eqb-false, ne-eqb, le-ltb, lt-leb}
+use native.Mathlib.Decide.{ℕ-discrete}
+use native.Mathlib.Omega.{arith}
+use lib.Dec.{leb, ltb, eqb}
+use lib.ListN.{length, getD, set, length-set, replicate, length-replicate}
+use lib.Seq.{getD-set-same, getD-set-other}
+use Rattle.script.specs.Tests.{pick}
+use Rattle.rules.specs.Satisfiable.{atomsOf, among}
+use Rattle.rules.specs.Satisfiable.Laws.{in-first, in-second}
+use Rattle.rules.specs.Symbolic.{Atom, Formula, negation, conjunction, equality}
+use Rattle.terms.specs.Terms.{rowIn, rowLimit, TruthRow, constantRow, atomRow, negationRow, conjunctionRow, equalityRow, truthSymbolRow, pairRow, differenceRow}
+use Rattle.terms.specs.declared.Row.{Row}
+use Rattle.decision.specs.Code.{operandBelow, reached, markRow, marked, startMarks}
+use Rattle.decision.specs.Code.Laws.{below-within, reached-length, markRow-length}
+
+-- ---- one operand
+
+-- a row that is an operand of a marked row whose operator is at least `least`
+pub record Operand (least op mark i a : ℕ) : Type 0 where
+  pub marks : 0 < mark
+  pub low : least ≤ op
+  pub high : op ≤ 6
+  pub below : a < i
+
+pick-less : (t : Bool) (a k : ℕ) → a < pick t 0 k → (t ≡ false) × (a < k)
+pick-less true a k h = absurd (omega arith)
+pick-less false a k h = (refl, h)
+
+module _ (least op mark i a : ℕ) where
+  pub below-operand : a < operandBelow least op mark i → Operand least op mark i a
+  unfolding operandBelow
+  below-operand h =
+      let p = pick-less (eqb mark 0) a (pick (ltb op least) 0 (pick (ltb 6 op) 0 i)) h in
+      let q = pick-less (ltb op least) a (pick (ltb 6 op) 0 i) (p .1) in
+      let r = pick-less (ltb 6 op) a i (q .1) in
+      let m = eqb-false mark 0 (p .0) in
+      record { marks = omega arith; low = ltb-false op least (q .0); high = ltb-false 6 op (r .0); below = r .1 }
+
+  pub operand-below : Operand least op mark i a → operandBelow least op mark i ≡ i
+  unfolding operandBelow
+  operand-below o =
+      let m = o .marks in
+      rw (ne-eqb mark 0 (λ e. omega arith), le-ltb op least (o .low), le-ltb 6 op (o .high))
+
+-- ---- one mark more
+
+module _ (ms : List ℕ) (a below : ℕ) where
+  -- what is marked after was marked before, or is the row reached
+  pub reached-from : (k : ℕ) → 0 < getD (reached ms a below) k 0 → (0 < getD ms k 0) ⊎ ((k ≡ a) × (a < below))
+  unfolding reached
+  reached-from k = go (leb below a) refl (ℕ-discrete k a)
+    where
+      go : (t : Bool) → leb below a ≡ t → Dec (k ≡ a) → 0 < getD (pick t ms (set ms a 1)) k 0 → (0 < getD ms k 0) ⊎ ((k ≡ a) × (a < below))
+      go true e d h = inl h
+      go false e (yes q) h = inr (q, leb-false below a e)
+      go false e (no q) h = inl (rw (getD-set-other ms a k 1 0 q) at h)
+
+  -- what was marked is marked
+  pub reached-keeps : (k : ℕ) → 0 < getD ms k 0 → k < length ms → 0 < getD (reached ms a below) k 0
+  unfolding reached
+  reached-keeps k h l = go (leb below a) (ℕ-discrete k a)
+    where
+      go : (t : Bool) → Dec (k ≡ a) → 0 < getD (pick t ms (set ms a 1)) k 0
+      go true d = h
+      go false (yes q) = let e : getD (set ms a 1) k 0 ≡ 1 = rw q (getD-set-same ms a 1 0 (rw q at l)) in omega arith
+      go false (no q) = rw (getD-set-other ms a k 1 0 q) h
+
+  pub reached-there : a < below → a < length ms → 0 < getD (reached ms a below) a 0
+  unfolding reached
+  reached-there h l = rw (lt-leb below a h, getD-set-same ms a 1 0 l) (omega arith)
+
+  -- rows at or above the bound are as they were
+  pub reached-above : (k : ℕ) → below ≤ k → getD (reached ms a below) k 0 ≡ getD ms k 0
+  unfolding reached
+  reached-above k h = go (leb below a) refl
+    where
+      go : (t : Bool) → leb below a ≡ t → getD (pick t ms (set ms a 1)) k 0 ≡ getD ms k 0
+      go true e = refl
+      go false e = let b = leb-false below a e in getD-set-other ms a k 1 0 (λ q. omega arith)
+
+-- ---- the operands of one row
+
+module _ (ms : List ℕ) (r : Row) (i : ℕ) where
+  pub row-keeps : (k : ℕ) → 0 < getD ms k 0 → k < length ms → 0 < getD (markRow ms r i) k 0
+  unfolding markRow
+  row-keeps k h l =
+      let f = operandBelow 4 (r .op) (getD ms i 0) i in
+      let e = reached-length ms (r .a) f in
+      reached-keeps (reached ms (r .a) f) (r .b) (operandBelow 5 (r .op) (getD ms i 0) i) k (reached-keeps ms (r .a) f k h l) (omega arith)
+
+  pub row-above : (k : ℕ) → i ≤ k → getD (markRow ms r i) k 0 ≡ getD ms k 0
+  unfolding markRow
+  row-above k h =
+      let f = operandBelow 4 (r .op) (getD ms i 0) i in
+      let s = operandBelow 5 (r .op) (getD ms i 0) i in
+      let p = below-within 4 (r .op) (getD ms i 0) i in
+      let q = below-within 5 (r .op) (getD ms i 0) i in
+      reached-above (reached ms (r .a) f) (r .b) s k (omega arith) ∙ reached-above ms (r .a) f k (omega arith)
+
+  pub row-first : Operand 4 (r .op) (getD ms i 0) i (r .a) → i ≤ length ms → 0 < getD (markRow ms r i) (r .a) 0
+  unfolding markRow
+  row-first o l =
+      let f = operandBelow 4 (r .op) (getD ms i 0) i in
+      let e = reached-length ms (r .a) f in
+      let p = operand-below 4 (r .op) (getD ms i 0) i (r .a) o in
+      let b = o .below in
+      reached-keeps (reached ms (r .a) f) (r .b) (operandBelow 5 (r .op) (getD ms i 0) i) (r .a) (reached-there ms (r .a) f (omega arith) (omega arith)) (omega arith)
+
+  pub row-second : Operand 5 (r .op) (getD ms i 0) i (r .b) → i ≤ length ms → 0 < getD (markRow ms r i) (r .b) 0
+  unfolding markRow
+  row-second o l =
+      let f = operandBelow 4 (r .op) (getD ms i 0) i in
+      let e = reached-length ms (r .a) f in
+      let p = operand-below 5 (r .op) (getD ms i 0) i (r .b) o in
+      let b = o .below in
+      reached-there (reached ms (r .a) f) (r .b) (operandBelow 5 (r .op) (getD ms i 0) i) (omega arith) (omega arith)
+
+-- ---- all rows
+
+module _ (ws : List ℕ) where
+  pub marked-keeps : (n : ℕ) (ms : List ℕ) (k : ℕ) → 0 < getD ms k 0 → k < length ms → 0 < getD (marked ws n ms) k 0
+  unfolding marked
+  marked-keeps zero ms k h l = h
+  marked-keeps (suc j) ms k h l =
+      let e = markRow-length ms (rowIn ws j) j in
+      marked-keeps j (markRow ms (rowIn ws j) j) k (row-keeps ms (rowIn ws j) j k h l) (omega arith)
+
+  pub marked-above : (n : ℕ) (ms : List ℕ) (k : ℕ) → n ≤ k → getD (marked ws n ms) k 0 ≡ getD ms k 0
+  unfolding marked
+  marked-above zero ms k h = refl
+  marked-above (suc j) ms k h =
+      marked-above j (markRow ms (rowIn ws j) j) k (omega arith) ∙ row-above ms (rowIn ws j) j k (omega arith)
+
+  -- with a row its operands are marked, if one row's operand is marked with it
+  module _ (least : ℕ) (operand : Row → ℕ)
+      (one : (ms : List ℕ) (r : Row) (i : ℕ) → Operand least (r .op) (getD ms i 0) i (operand r) → i ≤ length ms → 0 < getD (markRow ms r i) (operand r) 0) where
+    closed : (n : ℕ) (ms : List ℕ) → n ≤ length ms → (i : ℕ) → i < n
+        → Operand least (rowIn ws i .op) (getD (marked ws n ms) i 0) i (operand (rowIn ws i)) → 0 < getD (marked ws n ms) (operand (rowIn ws i)) 0
+    unfolding marked
+    closed zero ms l i h o = absurd (omega arith)
+    closed (suc j) ms l i h o = go (ℕ-discrete i j) (closed j (markRow ms (rowIn ws j) j))
+      where
+        here : Operand least (rowIn ws j .op) (getD (marked ws j (markRow ms (rowIn ws j) j)) j 0) j (operand (rowIn ws j))
+            → 0 < getD (marked ws j (markRow ms (rowIn ws j) j)) (operand (rowIn ws j)) 0
+        here q =
+            let e = markRow-length ms (rowIn ws j) j in
+            let u = marked-above j (markRow ms (rowIn ws j) j) j (omega arith) ∙ row-above ms (rowIn ws j) j j (omega arith) in
+            let b = q .below in
+            marked-keeps j (markRow ms (rowIn ws j) j) (operand (rowIn ws j)) (one ms (rowIn ws j) j (rw u at q) (omega arith)) (omega arith)
+
+        go : Dec (i ≡ j)
+            → (j ≤ length (markRow ms (rowIn ws j) j) → (i : ℕ) → i < j
+            → Operand least (rowIn ws i .op) (getD (marked ws j (markRow ms (rowIn ws j) j)) i 0) i (operand (rowIn ws i))
+            → 0 < getD (marked ws j (markRow ms (rowIn ws j) j)) (operand (rowIn ws i)) 0)
+            → 0 < getD (marked ws j (markRow ms (rowIn ws j) j)) (operand (rowIn ws i)) 0
+        go (yes q) ih = rw q (here (rw q at o))
+        go (no q) ih = let e = markRow-length ms (rowIn ws j) j in ih (omega arith) i (omega arith) o
+
+  pub closed-first : (n : ℕ) (ms : List ℕ) → n ≤ length ms → (i : ℕ) → i < n
+      → Operand 4 (rowIn ws i .op) (getD (marked ws n ms) i 0) i (rowIn ws i .a) → 0 < getD (marked ws n ms) (rowIn ws i .a) 0
+  closed-first = closed 4 (λ r. r .a) row-first
+
+  pub closed-second : (n : ℕ) (ms : List ℕ) → n ≤ length ms → (i : ℕ) → i < n
+      → Operand 5 (rowIn ws i .op) (getD (marked ws n ms) i 0) i (rowIn ws i .b) → 0 < getD (marked ws n ms) (rowIn ws i .b) 0
+  closed-second = closed 5 (λ r. r .b) row-second
+
+-- ---- what marked rows stand for
+
+-- the atoms of one formula are atoms of another
+pub record Within (f whole : Formula) : Type 0 where
+  pub each : (x : Atom) → among (atomsOf f) x ≡ true → among (atomsOf whole) x ≡ true
+
+-- the row stands for a formula with no other atoms than the whole
+pub data Part (ws : List ℕ) (whole : Formula) (i : ℕ) : Type 0 where
+  part : {f : Formula} → TruthRow ws i f → Within f whole → Part ws whole i
+
+pub record Parts (ws : List ℕ) (whole : Formula) (ms : List ℕ) : Type 0 where
+  pub each : (k : ℕ) → 0 < getD ms k 0 → Part ws whole k
+
+within-negation : {f whole : Formula} → Within (negation f) whole → Within f whole
+unfolding atomsOf
+within-negation w = record { each = w .each }
+
+within-first : (f g : Formula) {whole : Formula} → Within (conjunction f g) whole → Within f whole
+unfolding atomsOf
+within-first f g w = record { each = λ x h. w .each x (in-first (atomsOf f) (atomsOf g) x h) }
+
+within-second : (f g : Formula) {whole : Formula} → Within (conjunction f g) whole → Within g whole
+unfolding atomsOf
+within-second f g w = record { each = λ x h. w .each x (in-second (atomsOf f) (atomsOf g) x h) }
+
+within-equality : (f g : Formula) {whole : Formula} → Within (equality f g) whole → Within (conjunction f g) whole
+unfolding atomsOf
+within-equality f g w = record { each = w .each }
+
+module _ (ws : List ℕ) (whole : Formula) where
+  first-part : {i : ℕ} {f : Formula} → TruthRow ws i f → Within f whole → 4 ≤ rowIn ws i .op → rowIn ws i .op ≤ 6 → Part ws whole (rowIn ws i .a)
+  first-part (constantRow eo ea) w l h = absurd (omega arith)
+  first-part (atomRow (truthSymbolRow eo ea eb) s) w l h = absurd (omega arith)
+  first-part (atomRow (pairRow eo ea eb) s) w l h = absurd (omega arith)
+  first-part (atomRow (differenceRow eo ea eb ja jb p q) s) w l h = absurd (omega arith)
+  first-part (negationRow eo ea ja t) w l h = rw ea (part t (within-negation w))
+  first-part (conjunctionRow {f = f} {g = g} eo ea eb ja jb t u) w l h = rw ea (part t (within-first f g w))
+  first-part (equalityRow {f = f} {g = g} eo ea eb ja jb t u) w l h = rw ea (part t (within-first f g (within-equality f g w)))
+
+  second-part : {i : ℕ} {f : Formula} → TruthRow ws i f → Within f whole → 5 ≤ rowIn ws i .op → rowIn ws i .op ≤ 6 → Part ws whole (rowIn ws i .b)
+  second-part (constantRow eo ea) w l h = absurd (omega arith)
+  second-part (atomRow (truthSymbolRow eo ea eb) s) w l h = absurd (omega arith)
+  second-part (atomRow (pairRow eo ea eb) s) w l h = absurd (omega arith)
+  second-part (atomRow (differenceRow eo ea eb ja jb p q) s) w l h = absurd (omega arith)
+  second-part (negationRow eo ea ja t) w l h = absurd (omega arith)
+  second-part (conjunctionRow {f = f} {g = g} eo ea eb ja jb t u) w l h = rw eb (part u (within-second f g w))
+  second-part (equalityRow {f = f} {g = g} eo ea eb ja jb t u) w l h = rw eb (part u (within-second f g (within-equality f g w)))
+
+  first-of : {i : ℕ} → Part ws whole i → 4 ≤ rowIn ws i .op → rowIn ws i .op ≤ 6 → Part ws whole (rowIn ws i .a)
+  first-of (part t w) l h = first-part t w l h
+
+  second-of : {i : ℕ} → Part ws whole i → 5 ≤ rowIn ws i .op → rowIn ws i .op ≤ 6 → Part ws whole (rowIn ws i .b)
+  second-of (part t w) l h = second-part t w l h
+
+  parts-reached : (ms : List ℕ) (a below : ℕ) → Parts ws whole ms → (a < below → Part ws whole a) → Parts ws whole (reached ms a below)
+  parts-reached ms a below s p = record { each = λ k h. go k (reached-from ms a below k h) }
+    where
+      go : (k : ℕ) → (0 < getD ms k 0) ⊎ ((k ≡ a) × (a < below)) → Part ws whole k
+      go k (inl h) = s .each k h
+      go k (inr h) = rw (h .0) (p (h .1))
+
+  parts-row : (ms : List ℕ) (i : ℕ) → Parts ws whole ms → Parts ws whole (markRow ms (rowIn ws i) i)
+  unfolding markRow
+  parts-row ms i s =
+      parts-reached _ (rowIn ws i .b) _ (parts-reached ms (rowIn ws i .a) _ s one) two
+    where
+      one : rowIn ws i .a < operandBelow 4 (rowIn ws i .op) (getD ms i 0) i → Part ws whole (rowIn ws i .a)
+      one h = let o = below-operand 4 (rowIn ws i .op) (getD ms i 0) i (rowIn ws i .a) h in first-of (s .each i (o .marks)) (o .low) (o .high)
+
+      two : rowIn ws i .b < operandBelow 5 (rowIn ws i .op) (getD ms i 0) i → Part ws whole (rowIn ws i .b)
+      two h = let o = below-operand 5 (rowIn ws i .op) (getD ms i 0) i (rowIn ws i .b) h in second-of (s .each i (o .marks)) (o .low) (o .high)
+
+  pub parts-marked : (n : ℕ) (ms : List ℕ) → Parts ws whole ms → Parts ws whole (marked ws n ms)
+  unfolding marked
+  parts-marked zero ms s = s
+  parts-marked (suc j) ms s = parts-marked j (markRow ms (rowIn ws j) j) (parts-row ms j s)
+
+-- ---- the marks at first
+
+zeros : (n k : ℕ) → getD (replicate {A = ℕ} n 0) k 0 ≡ 0
+zeros zero k = refl
+zeros (suc n) zero = refl
+zeros (suc n) (suc k) = zeros n k
+
+set-from : (ms : List ℕ) (a k : ℕ) → 0 < getD (set ms a 1) k 0 → (0 < getD ms k 0) ⊎ (k ≡ a)
+set-from ms a k h = go (ℕ-discrete k a)
+  where
+    go : Dec (k ≡ a) → (0 < getD ms k 0) ⊎ (k ≡ a)
+    go (yes q) = inr q
+    go (no q) = inl (rw (getD-set-other ms a k 1 0 q) at h)
+
+pub start-parts : (ws : List ℕ) (whole : Formula) (c g : ℕ) → Part ws whole c → Part ws whole g → Parts ws whole (startMarks c g)
+start-parts ws whole c g p q = record { each = λ k h. two k (set-from (set (replicate rowLimit 0) c 1) g k h) }
+  where
+    one : (k : ℕ) → (0 < getD (replicate {A = ℕ} rowLimit 0) k 0) ⊎ (k ≡ c) → Part ws whole k
+    one k (inl h) = let z = zeros rowLimit k in absurd (omega arith)
+    one k (inr e) = rw e p
+
+    two : (k : ℕ) → (0 < getD (set (replicate rowLimit 0) c 1) k 0) ⊎ (k ≡ g) → Part ws whole k
+    two k (inl h) = one k (set-from (replicate rowLimit 0) c k h)
+    two k (inr e) = rw e q
+
+set-keeps : (ms : List ℕ) (a k : ℕ) → 0 < getD ms k 0 → k < length ms → 0 < getD (set ms a 1) k 0
+set-keeps ms a k h l = go (ℕ-discrete k a)
+  where
+    go : Dec (k ≡ a) → 0 < getD (set ms a 1) k 0
+    go (yes q) = let e : getD (set ms a 1) k 0 ≡ 1 = rw q (getD-set-same ms a 1 0 (rw q at l)) in omega arith
+    go (no q) = rw (getD-set-other ms a k 1 0 q) h
+
+set-there : (ms : List ℕ) (a : ℕ) → a < length ms → 0 < getD (set ms a 1) a 0
+set-there ms a l = rw (getD-set-same ms a 1 0 l) (omega arith)
+
+pub start-first : (c g : ℕ) → c < rowLimit → 0 < getD (startMarks c g) c 0
+start-first c g h =
+    let l = length-set {A = ℕ} (replicate rowLimit 0) c 1 in
+    let n = length-replicate {A = ℕ} rowLimit 0 in
+    set-keeps (set (replicate rowLimit 0) c 1) g c (set-there (replicate rowLimit 0) c (omega arith)) (omega arith)
+
+pub start-second : (c g : ℕ) → g < rowLimit → 0 < getD (startMarks c g) g 0
+start-second c g h =
+    let l = length-set {A = ℕ} (replicate rowLimit 0) c 1 in
+    let n = length-replicate {A = ℕ} rowLimit 0 in
+    set-there (set (replicate rowLimit 0) c 1) g (omega arith)
