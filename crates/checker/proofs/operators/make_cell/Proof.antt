@@ -1,0 +1,54 @@
+-- `checker::operators::make_cell` meets its contract: a fresh symbol, and a write of the value. Assumes nothing.
+use borrow.Author.Needs.{needs}
+use Prim.Native.Nat.{_+_}
+use Rattle.checker.specs.Code.State.{nextIn}
+use native.Mathlib.Omega.{arith}
+use lib.ListN.{length-set}
+use Rattle.checker.specs.Code.Rules.Memory.{ref-wrong, ref-lent, ref-few, ref-made}
+use Rattle.checker.proofs.operators.make_cell.Statement.{statement}
+use Rattle.checker.proofs.operators.make_cell.Tie as tie
+
+returns : tie.Need-returns
+returns c = ref-wrong (c .before .before .args .n) (c .before .before .args .t) (c .before .before .args .p) (c .if1 .taken)
+
+add-space : tie.Need-add-space
+add-space c = omega (arith, c .before .before .before .pre .symbols)
+
+mul-write : tie.Need-mul-write
+mul-write c = omega (arith, c .before .before .before .before .pre .symbols)
+
+add-write-2 : tie.Need-add-write-2
+add-write-2 c = omega (arith, c .before .before .before .before .pre .symbols)
+
+write-requires : tie.Need-write-requires
+write-requires c κs = (ref-few (c .before .before .before .before .args .n) (c .before .before .before .before .args .t) (c .before .before .before .before .args .p) (c .before .before .before .before .pre) (c .before .before .if1 .left), ref-lent (c .before .before .before .before .args .n) (c .before .before .before .before .args .t) (c .before .before .before .before .args .p) (c .before .before .before .before .pre) (c .before .before .if1 .left))
+
+mul-t15 : tie.Need-mul-t15
+mul-t15 c = omega (arith, c .before .before .before .before .before .before .before .pre .symbols)
+
+add-t14 : tie.Need-add-t14
+add-t14 c = omega (arith, c .before .before .before .before .before .before .before .pre .symbols)
+
+same-length : tie.Need-same-length
+same-length c = omega (arith, c .before .space .given, length-set (c .before .before .before .before .before .before .before .args .space .now) 1156 (nextIn (c .before .before .before .before .before .before .before .args .space .now) + 1))
+
+returns-2 : tie.Need-returns-2
+returns-2 c = ref-made (c .before .before .before .before .before .before .before .args .n) (c .before .before .before .before .before .before .before .args .t) (c .before .before .before .before .before .before .before .args .p) (c .before .before .before .before .before .before .before .pre) (c .before .before .before .before .before .if1 .left) (c .before .before .write .ensures)
+
+pub make-cell-spec : {M : Type 1} → statement M
+make-cell-spec =
+    tie.close
+    (tie.spec
+    returns
+    (λ c. search needs)
+    add-space
+    (λ c. search needs)
+    (λ c. search needs)
+    mul-write
+    add-write-2
+    write-requires
+    (λ c. search needs)
+    mul-t15
+    add-t14
+    same-length
+    returns-2)

@@ -1,0 +1,27 @@
+-- `checker::operators::sum` meets its contract: a row for the sum of two words. Assumes nothing.
+use borrow.Author.Needs.{needs}
+use Rattle.checker.specs.Code.Rules.Operators.{room-space, sum-wrong, sum-made}
+use Rattle.checker.proofs.operators.sum.Statement.{statement}
+use Rattle.checker.proofs.operators.sum.Tie as tie
+
+returns : tie.Need-returns
+returns c = sum-wrong (c .before .before .args .n) (c .before .before .args .t) (c .before .before .args .p) (c .before .before .args .u) (c .before .before .args .q) λ e f. c .if1 .taken e
+
+returns-2 : tie.Need-returns-2
+returns-2 c = sum-wrong (c .before .before .before .args .n) (c .before .before .before .args .t) (c .before .before .before .args .p) (c .before .before .before .args .u) (c .before .before .before .args .q) λ e f. c .if2 .taken f
+
+push-requires : tie.Need-push-requires
+push-requires c κs = room-space (c .before .before .before .before .pre)
+
+returns-3 : tie.Need-returns-3
+returns-3 c = sum-made (c .before .before .before .before .before .before .before .args .n) (c .before .before .before .before .before .before .before .args .t) (c .before .before .before .before .before .before .before .args .p) (c .before .before .before .before .before .before .before .args .u) (c .before .before .before .before .before .before .before .args .q) (c .before .before .before .before .before .before .before .pre) (c .before .before .before .before .before .if1 .left) (c .before .before .before .before .if2 .left) (c .before .before .push .ensures .0) (c .before .before .push .ensures .1)
+
+pub sum-spec : {M : Type 1} → statement M
+sum-spec =
+    tie.close
+    (tie.spec
+    returns
+    returns-2
+    push-requires
+    (λ c. search needs)
+    returns-3)

@@ -1,0 +1,62 @@
+-- The log as the code reads it, four numbers a write: consistency, what `get` finds, and a write. Assumes nothing.
+pub mod Laws
+pub mod Loops
+use mathlib.Core.Bool.{Bool, true, false, not, _&&_, _||_}
+use mathlib.Core.List.{List}
+use mathlib.Core.Option.{Option, none, some}
+use Prim.Native.Nat.{ℕ, zero, suc, _+_, _*_, _-_, _/_, _%_}
+use lib.Dec.{leb, eqb}
+use lib.ListN.{getD, set}
+use Rattle.script.specs.Tests.{pick}
+use Rattle.rules.specs.Symbolic.{Symbolic}
+use Rattle.checker.specs.Code.State.{writesIn, Means}
+use Rattle.checker.specs.declared.log.Found.{Found}
+use Rattle.checker.specs.declared.log.Found.the-variants.{Value, Nothing}
+
+-- write i: the reference's type and symbol, and the value's type
+abbrev pub rightOn : List ℕ → ℕ → Bool
+rightOn ws i = leb 2 (getD ws (1161 + 4 * i) 0) && eqb (getD ws (1161 + 4 * i) 0 - 2) (getD ws (1161 + 4 * i + 2) 0)
+
+abbrev pub symbolOn : List ℕ → ℕ → ℕ
+symbolOn ws i = getD ws (1161 + 4 * i + 1) 0 / 2
+
+-- write i is right and through the symbol
+abbrev pub mendsOn : List ℕ → ℕ → ℕ → Bool
+mendsOn ws s i = rightOn ws i && eqb (symbolOn ws i) s
+
+-- one of the `more` writes from i on is
+unfoldable pub mendedOn : List ℕ → ℕ → ℕ → ℕ → Bool
+mendedOn ws s i zero = false
+mendedOn ws s i (suc more) = mendsOn ws s i || mendedOn ws s (suc i) more
+
+-- write i is right, or mended by one of the `more` later ones
+abbrev pub settledOn : List ℕ → ℕ → ℕ → Bool
+settledOn ws i more = rightOn ws i || mendedOn ws (symbolOn ws i) (suc i) more
+
+-- each of the first i writes is settled, where `more` follow them
+unfoldable pub consistentOn : List ℕ → ℕ → ℕ → Bool
+consistentOn ws more zero = true
+consistentOn ws more (suc i) = settledOn ws i more && consistentOn ws (suc more) i
+
+-- two places of different symbols that `ref` made
+abbrev pub apartOn : ℕ → ℕ → Bool
+apartOn p q = eqb (p % 2) 1 && eqb (q % 2) 1 && not (eqb (p / 2) (q / 2))
+
+-- what `get` finds among the first i writes
+unfoldable pub lookupOn : List ℕ → ℕ → ℕ → Found
+lookupOn ws q zero = Nothing
+lookupOn ws q (suc i) =
+    let p = getD ws (1161 + 4 * i + 1) 0 in
+    pick (apartOn p q) (lookupOn ws q i)
+    (pick (eqb (p / 2) (q / 2)) (Value (getD ws (1161 + 4 * i + 2) 0) (getD ws (1161 + 4 * i + 3) 0)) Nothing)
+
+-- what that means
+pub data FoundAs (ws : List ℕ) : Found → Option Symbolic → Type 0 where
+  found-none : FoundAs ws Nothing none
+  found-some : {t q : ℕ} {v : Symbolic} → Means ws t q v → FoundAs ws (Value t q) (some v)
+
+-- one write more
+abbrev pub written : List ℕ → ℕ → ℕ → ℕ → ℕ → List ℕ
+written ws t p u q =
+    let at = 1161 + 4 * writesIn ws in
+    set (set (set (set (set ws at t) (at + 1) p) (at + 2) u) (at + 3) q) 1158 (writesIn ws + 1)

@@ -1,0 +1,216 @@
+-- The log as the code reads it is the log of the path: consistency, what `get` finds, and a write. Assumes nothing.
+use mathlib.Core.Bool.{Bool, true, false, not, _&&_, _||_}
+use mathlib.Core.List.{List, [], _∷_}
+use mathlib.Core.Option.{none, some}
+use mathlib.Core.Path.{_≡_, refl, sym, ap, _∙_}
+use Prim.Native.Nat.{ℕ, suc, _+_, _*_, _-_, _/_, _%_, _≤_, _<_}
+use native.Mathlib.Numerals.{add-one}
+use native.Mathlib.Omega.{arith}
+use lib.Dec.{leb, eqb}
+use lib.ListN.{length, getD, set, length-set}
+use lib.Seq.{getD-set-same, getD-set-other}
+use borrow.Author.Tests.{eqb-true, eqb-false, le-leb, eq-eqb, ne-eqb}
+use Rattle.script.specs.Tests.{pick}
+use Rattle.rules.specs.Paths.{Path, Write, writeOf, write, isRight, has, consistentAfter, lookup}
+use Rattle.rules.specs.Symbolic.{Origin, made, other, Symbolic, aReference, typeOf, apart}
+use Rattle.terms.specs.Terms.{countIn, Grown, rowLimit}
+use Rattle.terms.specs.Terms.Laws.{still-distinct, truth-kept}
+use Rattle.checker.specs.Code.Log.{rightOn, symbolOn, mendsOn, mendedOn, consistentOn, apartOn, lookupOn, FoundAs, found-none, found-some, written}
+use Rattle.checker.specs.Code.Rules.{Ruled}
+use Rattle.checker.specs.Code.State.{writesIn, spaceSize, nodeLimit, Means, madeSymbol, otherSymbol, Log, noWrite, aWrite, PathIn}
+use Rattle.checker.specs.Code.State.Laws.{means-type, means-at, log-kept}
+use Rattle.checker.specs.declared.log.Found.the-variants.{Value, Nothing}
+
+-- ---- a reference by its place
+
+abbrev isMade : Origin → Bool
+isMade made = true
+isMade other = false
+
+record PlaceOf (o : Origin) (c s t q : ℕ) : Type 0 where
+  type : t ≡ suc (suc c)
+  symbol : q / 2 ≡ s
+  origin : eqb (q % 2) 1 ≡ isMade o
+
+place-of : {ws : List ℕ} {t q c s : ℕ} {o : Origin} → Means ws t q (aReference o c s) → PlaceOf o c s t q
+place-of {q = q} (madeSymbol e) = record { type = refl; symbol = omega arith; origin = eq-eqb (q % 2) 1 (omega arith) }
+place-of {q = q} (otherSymbol e) = record { type = refl; symbol = omega arith; origin = ne-eqb (q % 2) 1 λ h. omega arith }
+
+-- ---- consistency
+
+eqb-turn : (a b : ℕ) → eqb a b ≡ eqb b a
+eqb-turn a b = go (eqb a b) refl
+  where
+    go : (x : Bool) → eqb a b ≡ x → eqb a b ≡ eqb b a
+    go true e = e ∙ sym (eq-eqb b a (sym (eqb-true a b e)))
+    go false e = e ∙ sym (ne-eqb b a λ h. eqb-false a b e (sym h))
+
+typed-right : (t c u : ℕ) → t ≡ suc (suc c) → (leb 2 t && eqb (t - 2) u) ≡ eqb u c
+typed-right t c u e = let f : t - 2 ≡ c = omega arith in rw (le-leb 2 t (omega arith), f) (eqb-turn c u)
+
+right-is : {ws : List ℕ} (k : ℕ) {c s : ℕ} {o : Origin} {v : Symbolic} → Means ws (getD ws (1161 + 4 * k) 0) (getD ws (1161 + 4 * k + 1) 0) (aReference o c s)
+    → {q : ℕ} → Means ws (getD ws (1161 + 4 * k + 2) 0) q v → rightOn ws k ≡ eqb (typeOf v) c
+right-is {ws} k {c = c} m n =
+    typed-right (getD ws (1161 + 4 * k) 0) c (getD ws (1161 + 4 * k + 2) 0) (place-of m .type) ∙ ap (λ (u : ℕ). eqb u c) (sym (means-type n))
+
+-- where the writes from k on mend the symbols of m
+consistent-from : {ws : List ℕ} {k : ℕ} {l : List Write} → Log ws k l → (more : ℕ) (m : List ℕ) → ((s : ℕ) → mendedOn ws s k more ≡ has m s)
+    → consistentOn ws more k ≡ consistentAfter m l
+unfolding consistentOn consistentAfter mendedOn has
+consistent-from noWrite more m h = refl
+consistent-from {ws} (aWrite {k = k} {o = o} {t = t} {s = s} {v = v} {l = l} r a b) more m h =
+    go (isRight (writeOf o t s v)) refl (λ n i. consistent-from r (suc more) n i)
+  where
+    right : rightOn ws k ≡ isRight (writeOf o t s v)
+    right = right-is k a b
+
+    symbol : symbolOn ws k ≡ s
+    symbol = place-of a .symbol
+
+    go : (x : Bool) → isRight (writeOf o t s v) ≡ x
+        → ((m : List ℕ) → ((u : ℕ) → (mendsOn ws u k || mendedOn ws u (suc k) more) ≡ has m u) → consistentOn ws (suc more) k ≡ consistentAfter m l)
+        → ((rightOn ws k || mendedOn ws (symbolOn ws k) (suc k) more) && consistentOn ws (suc more) k)
+        ≡ pick (isRight (writeOf o t s v)) (consistentAfter (s ∷ m) l) (has m s && consistentAfter m l)
+    go true e f = rw (right, e) (f (s ∷ m) λ u. rw (right, e, symbol, h u))
+    go false e f = rw (right, e, symbol, h s) (ap (λ (z : Bool). has m s && z) (f m λ u. rw (right, e, h u)))
+
+pub consistent-is : {ws : List ℕ} {k : ℕ} {l : List Write} → Log ws k l → consistentOn ws 0 k ≡ consistentAfter [] l
+unfolding mendedOn has
+consistent-is r = consistent-from r 0 [] λ s. refl
+
+-- ---- what `get` finds
+
+apart-is : (o : Origin) (s : ℕ) (p : Origin) (u : ℕ) → apart o s p u ≡ (isMade o && isMade p && not (eqb s u))
+unfolding apart
+apart-is made s made u = refl
+apart-is made s other u = refl
+apart-is other s made u = refl
+apart-is other s other u = refl
+
+pub lookup-is : {ws : List ℕ} {k t q c s : ℕ} {o : Origin} {l : List Write} → Log ws k l → Means ws t q (aReference o c s)
+    → FoundAs ws (lookupOn ws q k) (lookup o s l)
+unfolding lookupOn lookup
+lookup-is noWrite m = found-none
+lookup-is {ws} {q = q} {s = s} {o = o} (aWrite {k = k} {o = p} {s = u} {v = v} {l = l} r a b) m =
+    let x = place-of a in
+    let y = place-of m in
+    let e : apartOn (getD ws (1161 + 4 * k + 1) 0) q ≡ apart p u o s = rw (x .origin, y .origin, x .symbol, y .symbol) (sym (apart-is p u o s)) in
+    rw (e, x .symbol, y .symbol) (go (apart p u o s) (eqb u s) (lookup-is r m))
+  where
+    go : (d same : Bool) → FoundAs ws (lookupOn ws q k) (lookup o s l)
+        → FoundAs ws
+        (pick d (lookupOn ws q k) (pick same (Value (getD ws (1161 + 4 * k + 2) 0) (getD ws (1161 + 4 * k + 3) 0)) Nothing))
+        (pick d (lookup o s l) (pick same (some v) none))
+    go true same f = f
+    go false true f = found-some b
+    go false false f = found-none
+
+-- ---- a write
+
+module _ (ws : List ℕ) (t p u q : ℕ) (lent : spaceSize ≤ length ws) (few : writesIn ws < nodeLimit) (rows : countIn ws ≤ rowLimit) where
+  abbrev one : List ℕ
+  one = set ws (1161 + 4 * writesIn ws) t
+
+  abbrev two : List ℕ
+  two = set one (1161 + 4 * writesIn ws + 1) p
+
+  abbrev three : List ℕ
+  three = set two (1161 + 4 * writesIn ws + 2) u
+
+  abbrev four : List ℕ
+  four = set three (1161 + 4 * writesIn ws + 3) q
+
+  pub written-length : length (written ws t p u q) ≡ length ws
+  written-length = simp length-set
+
+  pub written-writes : writesIn (written ws t p u q) ≡ writesIn ws + 1
+  written-writes = getD-set-same four 1158 (writesIn ws + 1) 0 (simp length-set (omega arith))
+
+  written-place : (k : ℕ) → (k ≡ 1158 → ⊥) → (k ≡ 1161 + 4 * writesIn ws → ⊥) → (k ≡ 1161 + 4 * writesIn ws + 1 → ⊥) → (k ≡ 1161 + 4 * writesIn ws + 2 → ⊥)
+      → (k ≡ 1161 + 4 * writesIn ws + 3 → ⊥) → getD (written ws t p u q) k 0 ≡ getD ws k 0
+  written-place k a b c d e =
+      getD-set-other four 1158 k (writesIn ws + 1) 0 a
+      ∙ getD-set-other three (1161 + 4 * writesIn ws + 3) k q 0 e
+      ∙ getD-set-other two (1161 + 4 * writesIn ws + 2) k u 0 d
+      ∙ getD-set-other one (1161 + 4 * writesIn ws + 1) k p 0 c
+      ∙ getD-set-other ws (1161 + 4 * writesIn ws) k t 0 b
+
+  -- every place but the count and the new write's is as it was
+  pub written-before : (k : ℕ) → (k ≡ 1158 → ⊥) → k < 1161 + 4 * writesIn ws → getD (written ws t p u q) k 0 ≡ getD ws k 0
+  written-before k a l = written-place k a (λ e. omega arith) (λ e. omega arith) (λ e. omega arith) (λ e. omega arith)
+
+  pub written-behind : (k : ℕ) → 1673 ≤ k → getD (written ws t p u q) k 0 ≡ getD ws k 0
+  written-behind k l = written-place k (λ e. omega arith) (λ e. omega arith) (λ e. omega arith) (λ e. omega arith) (λ e. omega arith)
+
+  pub written-type : getD (written ws t p u q) (1161 + 4 * writesIn ws) 0 ≡ t
+  written-type =
+      let n = writesIn ws in
+      getD-set-other four 1158 (1161 + 4 * n) (n + 1) 0 (λ e. omega arith)
+      ∙ getD-set-other three (1161 + 4 * n + 3) (1161 + 4 * n) q 0 (λ e. omega arith)
+      ∙ getD-set-other two (1161 + 4 * n + 2) (1161 + 4 * n) u 0 (λ e. omega arith)
+      ∙ getD-set-other one (1161 + 4 * n + 1) (1161 + 4 * n) p 0 (λ e. omega arith)
+      ∙ getD-set-same ws (1161 + 4 * n) t 0 (omega arith)
+
+  pub written-through : getD (written ws t p u q) (1161 + 4 * writesIn ws + 1) 0 ≡ p
+  written-through =
+      let n = writesIn ws in
+      getD-set-other four 1158 (1161 + 4 * n + 1) (n + 1) 0 (λ e. omega arith)
+      ∙ getD-set-other three (1161 + 4 * n + 3) (1161 + 4 * n + 1) q 0 (λ e. omega arith)
+      ∙ getD-set-other two (1161 + 4 * n + 2) (1161 + 4 * n + 1) u 0 (λ e. omega arith)
+      ∙ getD-set-same one (1161 + 4 * n + 1) p 0 (simp length-set (omega arith))
+
+  pub written-kind : getD (written ws t p u q) (1161 + 4 * writesIn ws + 2) 0 ≡ u
+  written-kind =
+      let n = writesIn ws in
+      getD-set-other four 1158 (1161 + 4 * n + 2) (n + 1) 0 (λ e. omega arith)
+      ∙ getD-set-other three (1161 + 4 * n + 3) (1161 + 4 * n + 2) q 0 (λ e. omega arith)
+      ∙ getD-set-same two (1161 + 4 * n + 2) u 0 (simp length-set (omega arith))
+
+  pub written-value : getD (written ws t p u q) (1161 + 4 * writesIn ws + 3) 0 ≡ q
+  written-value =
+      let n = writesIn ws in
+      getD-set-other four 1158 (1161 + 4 * n + 3) (n + 1) 0 (λ e. omega arith)
+      ∙ getD-set-same three (1161 + 4 * n + 3) q 0 (simp length-set (omega arith))
+
+  pub written-grown : Grown ws (written ws t p u q)
+  written-grown =
+      let e = written-before 288 (λ h. omega arith) (omega arith) in
+      record { grows = omega arith; rows = λ k h l. written-before k (λ z. omega arith) (omega arith) }
+
+  pub written-ruled : Ruled ws (written ws t p u q)
+  written-ruled =
+      let c = written-before 288 (λ h. omega arith) (omega arith) in
+      let n = written-before 1156 (λ h. omega arith) (omega arith) in
+      let m = written-before 1159 (λ h. omega arith) (omega arith) in
+      record {
+        went = record {
+          same = written-length;
+          before = λ k l. written-before k (λ z. omega arith) (omega arith);
+          grown = written-grown;
+          rows = omega arith;
+          symbols = omega arith;
+          writes = omega (arith, written-writes);
+          choices = omega arith;
+        };
+        unchosen = record {
+          met = m;
+          all = written-before 1160 (λ h. omega arith) (omega arith);
+          each = written-behind;
+        };
+      }
+
+  pub written-path : {o : Origin} {c s : ℕ} {v : Symbolic} (path : Path) → PathIn ws path → Means ws t p (aReference o c s) → Means ws u q v
+      → PathIn (written ws t p u q) (write (writeOf o c s v) path)
+  written-path path h m n =
+      let e = written-before 1157 (λ z. omega arith) (omega arith) in
+      let f = written-before 288 (λ z. omega arith) (omega arith) in
+      record {
+        next = written-before 1156 (λ z. omega arith) (omega arith) ∙ h .next;
+        inside = omega (arith, e, f, h .inside);
+        condition = rw e (truth-kept written-grown (h .condition) (h .inside));
+        log = rw (written-writes ∙ add-one (writesIn ws))
+            (aWrite (log-kept (λ j i l. written-before j (λ z. omega arith) l) written-grown (h .log))
+            (means-at written-grown written-type written-through m)
+            (means-at written-grown written-kind written-value n));
+        distinct = still-distinct written-grown (omega (arith, f)) (h .distinct);
+      }

@@ -1,0 +1,239 @@
+-- The decision at an `if`: each answer of the code is the branch that the rules take. Assumes nothing.
+use mathlib.Core.Bool.{Bool, true, false}
+use mathlib.Core.List.{List}
+use mathlib.Core.Path.{_≡_, refl, sym, ap, _∙_}
+use Prim.Native.Nat.{ℕ, _≤_, _<_}
+use native.Mathlib.Omega.{arith}
+use lib.Dec.{leb}
+use lib.ListN.{length}
+use Rattle.script.specs.Tests.{pick}
+use Rattle.script.specs.declared.Refusal.the-variants.{WrongType, TooManyAtoms}
+use Rattle.rules.specs.Paths.{Path, Paths, stops, forks, assume}
+use Rattle.rules.specs.Paths.Next.{follow}
+use Rattle.rules.specs.Satisfiable.{satisfiable, differentAtoms}
+use Rattle.rules.specs.Symbolic.{Formula, negation, conjunction, Symbolic, aTruth}
+use Rattle.rules.specs.SymbolicRules.{branches, decide, atomLimit}
+use Rattle.terms.specs.Terms.{countIn, Space, TruthRow, Grown, rowLimit, symbolLimit}
+use Rattle.terms.specs.Terms.Laws.{still-distinct, grown-trans, truth-kept}
+use Rattle.decision.specs.Code.{decided}
+use Rattle.decision.specs.Decision.{branchesOf, decisionOf}
+use Rattle.decision.specs.Decision.Laws.{decides}
+use Rattle.decision.specs.declared.Decision.{Decision}
+use Rattle.decision.specs.declared.Decision.the-variants.{TooMany, Both, OnlyTrue, OnlyFalse}
+use Rattle.checker.specs.Code.Paths.{Choice, of-none, of-some, TakesChoice, assumed, assumedNot}
+use Rattle.checker.specs.Code.Paths.Conditions.{Joined, joined-went, joined-unchosen, assumed-joined, assumed-path, denied-joined, denied-path}
+use Rattle.checker.specs.Code.Rules.{Decidable, Chosen, first, second, neither, Chooses}
+use Rattle.checker.specs.Code.State.{conditionIn, spaceSize, Means, wordRow, truthRow, madeSymbol, otherSymbol, PathIn, metOn, leftOn, Room, Went}
+use Rattle.checker.specs.Code.State.Laws.{log-kept, went-refl, unchosen-met, unchosen-left}
+use Rattle.checker.specs.declared.path.Branch.{Branch}
+use Rattle.checker.specs.declared.path.Branch.the-variants.{First, Second, Neither}
+
+-- ---- the decision of the rules
+
+-- the condition on the two branches
+abbrev truePath : Formula → Path → Path
+truePath g p = assume (conjunction (p .condition) g) p
+
+abbrev falsePath : Formula → Path → Path
+falsePath g p = assume (conjunction (p .condition) (negation g)) p
+
+abbrev treeOf : Decision → ℕ → Paths → Paths → Paths
+treeOf TooMany n t u = stops (TooManyAtoms n)
+treeOf Both n t u = forks t u
+treeOf OnlyTrue n t u = t
+treeOf OnlyFalse n t u = u
+
+tree-by : (n : ℕ) (p q : Path) (e f : Path → Paths) (D : Decision) (a b c : Bool) → pick a (branchesOf b c) TooMany ≡ D
+    → pick a (branches b c e f p q) (stops (TooManyAtoms n)) ≡ treeOf D n (e p) (f q)
+unfolding branchesOf branches
+tree-by n p q e f D true true true h = ap (λ (d : Decision). treeOf d n (e p) (f q)) h
+tree-by n p q e f D true true false h = ap (λ (d : Decision). treeOf d n (e p) (f q)) h
+tree-by n p q e f D true false c h = ap (λ (d : Decision). treeOf d n (e p) (f q)) h
+tree-by n p q e f D false b c h = ap (λ (d : Decision). treeOf d n (e p) (f q)) h
+
+decide-tree : (n : ℕ) (g : Formula) (p : Path) (e f : Path → Paths) (D : Decision) → decisionOf (p .condition) g ≡ D
+    → decide n (aTruth g) p e f ≡ treeOf D n (e (truePath g p)) (f (falsePath g p))
+unfolding decide decisionOf
+decide-tree n g p e f D h =
+    tree-by n (truePath g p) (falsePath g p) e f D (leb (length (differentAtoms (conjunction (p .condition) g))) atomLimit)
+    (satisfiable (conjunction (p .condition) g)) (satisfiable (conjunction (p .condition) (negation g))) h
+
+-- ---- a fork
+
+fork-first : {ws left : List ℕ} (t u : Paths) → Choice ws left true → follow (forks t u) (metOn ws) (leftOn ws) ≡ follow t (metOn left) (leftOn left)
+unfolding follow
+fork-first t u (of-none a b c) = rw (a, b, c) refl
+fork-first t u (of-some a b) = rw (a, b) refl
+
+fork-second : {ws left : List ℕ} (t u : Paths) → Choice ws left false → follow (forks t u) (metOn ws) (leftOn ws) ≡ follow u (metOn left) (leftOn left)
+unfolding follow
+fork-second t u (of-some a b) = rw (a, b) refl
+
+-- a choice keeps the path
+module _ {ws xs : List ℕ} {r : Bool} (room : Room ws 1) (k : TakesChoice ws r xs) where
+  takes-grown : Grown ws xs
+  takes-grown =
+      let e = k .before 288 (omega arith) in
+      record { grows = omega arith; rows = λ i h l. k .before i (omega (arith, l, room .rows)) }
+
+  takes-path : (p : Path) → PathIn ws p → PathIn xs p
+  takes-path p h =
+      let e = k .before 288 (omega arith) in
+      let c = k .before 1157 (omega arith) in
+      record {
+        next = k .before 1156 (omega arith) ∙ h .next;
+        inside = omega (arith, e, c, h .inside);
+        condition = rw c (truth-kept takes-grown (h .condition) (h .inside));
+        log = rw (k .before 1158 (omega arith)) (log-kept (λ j i l. k .log j i (omega (arith, l, room .writes))) takes-grown (h .log));
+        distinct = still-distinct takes-grown (omega (arith, e)) (h .distinct);
+      }
+
+  pub takes-lent : spaceSize ≤ length xs
+  takes-lent = omega (arith, room .lent, k .same)
+
+  pub takes-space : Space xs 2
+  takes-space = let e = k .before 288 (omega arith) in record { lent = omega (arith, takes-lent); room = omega (arith, e, room .rows) }
+
+  takes-went : {left : List ℕ} → Joined xs left → Went ws left symbolLimit 1
+  takes-went j =
+      let w = joined-went j in
+      let e = k .before 288 (omega arith) in
+      let n = k .before 1156 (omega arith) in
+      let l = k .before 1158 (omega arith) in
+      let o = j .beyond 1156 (omega arith) (λ z. omega arith) in
+      let q = j .beyond 1158 (omega arith) (λ z. omega arith) in
+      let m = j .beyond 1159 (omega arith) (λ z. omega arith) in
+      record {
+        same = w .same ∙ k .same;
+        before = λ i h. w .before i h ∙ k .before i (omega arith);
+        grown = grown-trans takes-grown (w .grown);
+        rows = omega (arith, e, j .rows);
+        symbols = omega arith;
+        writes = omega arith;
+        choices = omega (arith, m, k .counts);
+      }
+
+-- ---- the answers
+
+pub two-free : {ws : List ℕ} → Room ws 1 → Space ws 2
+two-free r = record { lent = omega (arith, r .lent); room = omega (arith, r .rows) }
+
+pub one-free : {ws : List ℕ} → Room ws 1 → Space ws 1
+one-free r = record { lent = omega (arith, r .lent); room = omega (arith, r .rows) }
+
+no-truth : {ws : List ℕ} {n t q : ℕ} {v : Symbolic} {p : Path} → (t ≡ 1 → ⊥) → Means ws t q v → Chosen ws ws n v p (Neither (WrongType n))
+unfolding decide follow
+no-truth d (wordRow l r) = neither λ e f. refl
+no-truth d (truthRow l r) = absurd (d refl)
+no-truth d (madeSymbol x) = neither λ e f. refl
+no-truth d (otherSymbol x) = neither λ e f. refl
+
+pub chooses-no-truth : (n t q : ℕ) (ws : List ℕ) → (t ≡ 1 → ⊥) → Chooses n t q ws (Neither (WrongType n)) ws
+chooses-no-truth n t q ws d = record { went = went-refl ws symbolLimit 1; chosen = λ v p m h. no-truth d m }
+
+below-row : {ws : List ℕ} {q : ℕ} {v : Symbolic} → Means ws 1 q v → q < countIn ws
+below-row (truthRow l r) = l
+
+row-on : {ws xs : List ℕ} {r : Bool} (q : ℕ) → TakesChoice ws r xs → q < countIn ws → q < countIn xs
+row-on q k l = let e = k .before 288 (omega arith) in omega arith
+
+-- the tree of the rules by the decision of the code
+tree-is : (n q : ℕ) (ws : List ℕ) → Room ws 1 → (D : Decision) → D ≡ decided ws (conditionIn ws) q → (g : Formula) (p : Path) → TruthRow ws q g
+    → q < countIn ws → PathIn ws p → (e f : Path → Paths) → decide n (aTruth g) p e f ≡ treeOf D n (e (truePath g p)) (f (falsePath g p))
+tree-is n q ws room D is g p u l h e f =
+    decide-tree n g p e f D
+    (sym (is
+    ∙ decides ws (conditionIn ws) q (p .condition) g (record { lent = omega (arith, room .lent); room = omega (arith, room .rows) }) (h .distinct)
+    (h .condition) u (h .inside) l))
+
+module _ {n q : ℕ} {ws : List ℕ} where
+  module _ (room : Room ws 1) where
+    many : TooMany ≡ decided ws (conditionIn ws) q → (v : Symbolic) (p : Path) → Means ws 1 q v → PathIn ws p → Chosen ws ws n v p (Neither (TooManyAtoms n))
+    unfolding follow
+    many is v p (truthRow {f = g} l u) h =
+        neither λ e f. ap (λ (t : Paths). follow t (metOn ws) (leftOn ws)) (tree-is n q ws room TooMany is g p u l h e f)
+
+    pub chooses-many : (t : ℕ) → t ≡ 1 → TooMany ≡ decided ws (conditionIn ws) q → Chooses n t q ws (Neither (TooManyAtoms n)) ws
+    chooses-many t x is = record { went = went-refl ws symbolLimit 1; chosen = λ v p m h. many is v p (rw x at m) h }
+
+    only-true : OnlyTrue ≡ decided ws (conditionIn ws) q → (v : Symbolic) (p : Path) → Means ws 1 q v → PathIn ws p → Chosen ws (assumed ws q) n v p First
+    only-true is v p (truthRow {f = g} l u) h =
+        let j = joined-unchosen (assumed-joined (one-free room) (room .lent) q) in
+        first (assumed-path (one-free room) (room .lent) q p l u h) λ e f.
+        rw (unchosen-met j, unchosen-left j)
+        (ap (λ (t : Paths). follow t (metOn ws) (leftOn ws)) (tree-is n q ws room OnlyTrue is g p u l h e f))
+
+    pub chooses-true : (t : ℕ) → t ≡ 1 → OnlyTrue ≡ decided ws (conditionIn ws) q → Chooses n t q ws First (assumed ws q)
+    chooses-true t x is =
+        record {
+          went = joined-went (assumed-joined (one-free room) (room .lent) q);
+          chosen = λ v p m h. only-true is v p (rw x at m) h;
+        }
+
+    only-false : OnlyFalse ≡ decided ws (conditionIn ws) q → (v : Symbolic) (p : Path) → Means ws 1 q v → PathIn ws p
+        → Chosen ws (assumedNot ws q) n v p Second
+    only-false is v p (truthRow {f = g} l u) h =
+        let j = joined-unchosen (denied-joined (two-free room) (room .lent) q) in
+        second (denied-path (two-free room) (room .lent) q p l u h) λ e f.
+        rw (unchosen-met j, unchosen-left j)
+        (ap (λ (t : Paths). follow t (metOn ws) (leftOn ws)) (tree-is n q ws room OnlyFalse is g p u l h e f))
+
+    pub chooses-false : (t : ℕ) → t ≡ 1 → OnlyFalse ≡ decided ws (conditionIn ws) q → Chooses n t q ws Second (assumedNot ws q)
+    chooses-false t x is =
+        record {
+          went = joined-went (denied-joined (two-free room) (room .lent) q);
+          chosen = λ v p m h. only-false is v p (rw x at m) h;
+        }
+
+    module _ (is : Both ≡ decided ws (conditionIn ws) q) {xs : List ℕ} where
+      both-true : TakesChoice ws true xs → (v : Symbolic) (p : Path) → Means ws 1 q v → PathIn ws p → Chosen ws (assumed xs q) n v p First
+      both-true k v p (truthRow {f = g} l u) h =
+          let s = takes-space room k in
+          let o : Space xs 1 = record { lent = s .lent; room = omega (arith, s .room) } in
+          let j = joined-unchosen (assumed-joined o (takes-lent room k) q) in
+          first (assumed-path o (takes-lent room k) q p (row-on q k l) (truth-kept (takes-grown room k) u l) (takes-path room k p h)) λ e f.
+          rw (unchosen-met j, unchosen-left j)
+          (ap (λ (t : Paths). follow t (metOn ws) (leftOn ws)) (tree-is n q ws room Both is g p u l h e f)
+          ∙ fork-first (e (truePath g p)) (f (falsePath g p)) (k .choice))
+
+      pub chooses-first : (t : ℕ) → t ≡ 1 → TakesChoice ws true xs → Chooses n t q ws First (assumed xs q)
+      chooses-first t x k =
+          let s = takes-space room k in
+          let o : Space xs 1 = record { lent = s .lent; room = omega (arith, s .room) } in
+          record {
+            went = takes-went room k (assumed-joined o (takes-lent room k) q);
+            chosen = λ v p m h. both-true k v p (rw x at m) h;
+          }
+
+      both-false : TakesChoice ws false xs → (v : Symbolic) (p : Path) → Means ws 1 q v → PathIn ws p → Chosen ws (assumedNot xs q) n v p Second
+      both-false k v p (truthRow {f = g} l u) h =
+          let s = takes-space room k in
+          let j = joined-unchosen (denied-joined s (takes-lent room k) q) in
+          second (denied-path s (takes-lent room k) q p (row-on q k l) (truth-kept (takes-grown room k) u l) (takes-path room k p h)) λ e f.
+          rw (unchosen-met j, unchosen-left j)
+          (ap (λ (t : Paths). follow t (metOn ws) (leftOn ws)) (tree-is n q ws room Both is g p u l h e f)
+          ∙ fork-second (e (truePath g p)) (f (falsePath g p)) (k .choice))
+
+      pub chooses-second : (t : ℕ) → t ≡ 1 → TakesChoice ws false xs → Chooses n t q ws Second (assumedNot xs q)
+      chooses-second t x k =
+          record {
+            went = takes-went room k (denied-joined (takes-space room k) (takes-lent room k) q);
+            chosen = λ v p m h. both-false k v p (rw x at m) h;
+          }
+
+-- ---- as the code has it
+
+pub chooses-as : {n t q : ℕ} {ws left xs : List ℕ} {r : Branch} → left ≡ xs → Chooses n t q ws r xs → Chooses n t q ws r left
+chooses-as e k = rw e k
+
+pub takes-as : {ws left : List ℕ} {r b : Bool} → TakesChoice ws r left → r ≡ b → TakesChoice ws b left
+takes-as k e = rw e at k
+
+pub takes-one : {ws xs : List ℕ} {r : Bool} → Room ws 1 → TakesChoice ws r xs → Space xs 1
+takes-one room k = let s = takes-space room k in record { lent = s .lent; room = omega (arith, s .room) }
+
+-- what the decision asks
+pub decide-needs : (ws : List ℕ) (t q : ℕ) → t ≡ 1 → Decidable ws t q → (1156 ≤ length ws) × ((conditionIn ws < rowLimit) × (q < rowLimit))
+decide-needs ws t q e d =
+    let m = below-row (rw e at (d .valued .means)) in
+    (omega (arith, d .room .lent), (omega (arith, d .holds .inside, d .room .rows), omega (arith, m, d .room .rows)))

@@ -1,0 +1,196 @@
+-- The start of a path: row 0 is `true`, and each variable in turn becomes a symbol. Assumes nothing.
+use mathlib.Core.Bool.{true}
+use mathlib.Core.List.{List, [], _∷_, _++_}
+use mathlib.Core.Path.{_≡_, refl, sym, ap, _∙_}
+use Prim.Native.Nat.{ℕ, suc, _+_, _*_, _≤_, _<_}
+use native.Mathlib.Numerals.{add-one}
+use native.Mathlib.Omega.{arith}
+use lib.ListN.{length, getD, set, length-set}
+use lib.Seq.{getD-set-same, getD-set-other, set-getD}
+use Rattle.rules.specs.Paths.{start}
+use Rattle.rules.specs.Symbolic.{Symbolic, symbol, symbols}
+use Rattle.terms.specs.Terms.{countIn, Space, pushed, Distinct, Grown, symbolLimit}
+use Rattle.terms.specs.Terms.Laws.{pushed-length, pushed-count, pushed-above, made-constant}
+use Rattle.checker.specs.Code.Paths.{Fresh, Blank, Starting}
+use Rattle.checker.specs.Code.Rules.{restarted, Started, choicesOn}
+use Rattle.checker.specs.Code.State.{choicesIn, spaceSize, typesOn, Means, Variables, noVariable, oneMore, Log, noWrite, PathIn, choicesAt, Room}
+use Rattle.checker.specs.Code.State.Laws.{types-length, variables-kept, means-at, path-kept, distinct-same, same-grown, choices-kept}
+
+-- an empty log has no write
+empty-log : {ws : List ℕ} {k : ℕ} → Log ws k [] → k ≡ 0
+empty-log noWrite = refl
+
+-- one variable more is one symbol more
+symbols-last : (s : ℕ) (ts : List ℕ) (t : ℕ) → symbols s (ts ++ (t ∷ [])) ≡ symbols s ts ++ (symbol t (s + length ts) ∷ [])
+unfolding symbols
+symbols-last s [] t = let e : s + 0 ≡ s = omega arith in rw e refl
+symbols-last s (u ∷ ts) t =
+    let e : suc s + length ts ≡ s + suc (length ts) = omega arith in
+    ap (λ (vs : List Symbolic). symbol u s ∷ vs) (symbols-last (suc s) ts t ∙ rw e refl)
+
+types-last : (types : List ℕ) (i : ℕ) → symbols 0 (typesOn types (suc i)) ≡ symbols 0 (typesOn types i) ++ (symbol (getD types (2 * i) 0) i ∷ [])
+unfolding typesOn
+types-last types i =
+    let e : 0 + length (typesOn types i) ≡ i = let l = types-length types i in omega arith in
+    symbols-last 0 (typesOn types i) (getD types (2 * i) 0)
+    ∙ ap (λ (k : ℕ). symbols 0 (typesOn types i) ++ (symbol (getD types (2 * i) 0) k ∷ [])) e
+
+-- where no choice and none met changes, all choices are as before
+choices-same : (ws left : List ℕ) → choicesIn left ≡ choicesIn ws → ((k : ℕ) → 1673 ≤ k → getD left k 0 ≡ getD ws k 0) → choicesOn left ≡ choicesOn ws
+choices-same ws left e b = rw e (choices-kept ws left 0 (choicesIn ws) λ j h l. b j (omega arith))
+
+-- ---- row 0
+
+module _ {ws : List ℕ} (b : Blank ws) where
+  pub blank-space : Space ws 1
+  blank-space = record { lent = omega (arith, b .lent); room = omega (arith, b .zeros 288) }
+
+  blank-distinct : Distinct ws
+  blank-distinct = record {
+    differences = λ i l e. absurd (omega (arith, l, b .zeros 288));
+    apart = λ i j x y h l u v. absurd (omega (arith, l, b .zeros 288));
+  }
+
+  abbrev first-row : List ℕ
+  first-row = pushed ws 3 1 0
+
+  first-beyond : (k : ℕ) → 292 ≤ k → getD first-row k 0 ≡ 0
+  first-beyond k l = pushed-above blank-space 3 1 0 k (omega (arith, l, b .zeros 288)) ∙ b .zeros k
+
+  pub first-started : (types left : List ℕ) → left ≡ first-row → Starting types left 0
+  unfolding typesOn symbols choicesAt
+  first-started types left e =
+      let m = made-constant blank-space blank-distinct true 0 in
+      let c = pushed-count blank-space 3 1 0 in
+      let z = b .zeros 288 in
+      let l = pushed-length blank-space 3 1 0 in
+      let d = first-beyond 1157 (omega arith) in
+      rw e
+      (record {
+        lent = omega (arith, l, b .lent);
+        rows = omega arith;
+        first = omega arith;
+        next = first-beyond 1156 (omega arith);
+        condition = d;
+        met = first-beyond 1159 (omega arith);
+        free = rw (first-beyond 1160 (omega arith)) refl;
+        path = record {
+          next = first-beyond 1156 (omega arith);
+          inside = omega arith;
+          condition = rw (d ∙ sym z) (m .is);
+          log = rw (first-beyond 1158 (omega arith)) noWrite;
+          distinct = m .distinct;
+        };
+        variables = noVariable;
+      })
+
+-- ---- a variable more
+
+module _ {types ws : List ℕ} {i : ℕ} (l : i < symbolLimit) (s : Starting types ws i) where
+  pub starting-room : Room ws 1
+  starting-room =
+      let w = empty-log (s .path .log) in
+      record {
+        lent = s .lent;
+        rows = omega (arith, s .rows);
+        symbols = omega (arith, s .next);
+        writes = omega arith;
+        choices = omega (arith, s .met);
+      }
+
+  module _ {q : ℕ} {xs : List ℕ} (f : Fresh (getD types (2 * i) 0) ws q xs) where
+    fresh-lent : spaceSize ≤ length xs
+    fresh-lent = omega (arith, f .ruled .went .same, s .lent)
+
+    abbrev typed : List ℕ
+    typed = set xs (2 * i) (getD types (2 * i) 0)
+
+    abbrev placed : List ℕ
+    placed = set typed (2 * i + 1) q
+
+    placed-length : length placed ≡ length xs
+    placed-length = simp length-set
+
+    placed-type : getD placed (2 * i) 0 ≡ getD types (2 * i) 0
+    placed-type =
+        getD-set-other typed (2 * i + 1) (2 * i) q 0 (λ e. omega arith)
+        ∙ getD-set-same xs (2 * i) (getD types (2 * i) 0) 0 (omega (arith, fresh-lent))
+
+    placed-place : getD placed (2 * i + 1) 0 ≡ q
+    placed-place = getD-set-same typed (2 * i + 1) q 0 (simp length-set (omega (arith, fresh-lent)))
+
+    placed-other : (k : ℕ) → (k ≡ 2 * i → ⊥) → (k ≡ 2 * i + 1 → ⊥) → getD placed k 0 ≡ getD xs k 0
+    placed-other k a b = getD-set-other typed (2 * i + 1) k q 0 b ∙ getD-set-other xs (2 * i) k (getD types (2 * i) 0) 0 a
+
+    placed-before : (k : ℕ) → k < 2 * i → getD placed k 0 ≡ getD xs k 0
+    placed-before k h = placed-other k (λ e. omega arith) (λ e. omega arith)
+
+    placed-behind : (k : ℕ) → 288 ≤ k → getD placed k 0 ≡ getD xs k 0
+    placed-behind k h = placed-other k (λ e. omega arith) (λ e. omega arith)
+
+    placed-grown : Grown xs placed
+    placed-grown = same-grown placed-behind
+
+    placed-path : PathIn placed (start (suc i))
+    placed-path =
+        let p = f .path (start i) (s .path) in
+        path-kept (λ j h. placed-behind j (omega arith)) placed-grown (distinct-same placed-behind (p .distinct)) p
+
+    placed-variables : Variables placed (suc i) (symbols 0 (typesOn types (suc i)))
+    placed-variables =
+        let m : Means xs (getD types (2 * i) 0) q (symbol (getD types (2 * i) 0) i) = rw (s .next) at (f .means (s .path .distinct)) in
+        rw (types-last types i)
+        (oneMore
+        (variables-kept i (omega arith) placed-before placed-grown
+        (variables-kept i (omega arith) (λ k h. f .ruled .went .before k (omega arith)) (f .ruled .went .grown) (s .variables)))
+        (means-at placed-grown placed-type placed-place m))
+
+    pub variable-started : Starting types placed (suc i)
+    variable-started =
+        let e = placed-behind 288 (omega arith) in
+        let g = f .ruled .went .grown .grows in
+        record {
+          lent = omega (arith, placed-length, fresh-lent);
+          rows = omega (arith, e, f .most, s .rows);
+          first = omega (arith, e, g, s .first);
+          next = placed-path .next;
+          condition = placed-behind 1157 (omega arith) ∙ f .condition ∙ s .condition;
+          met = placed-behind 1159 (omega arith) ∙ f .ruled .unchosen .met ∙ s .met;
+          free = choices-same ws placed (placed-behind 1160 (omega arith) ∙ f .ruled .unchosen .all)
+              (λ k h. placed-behind k (omega arith) ∙ f .ruled .unchosen .each k h)
+              ∙ s .free;
+          path = placed-path;
+          variables = placed-variables;
+        }
+
+-- ---- all variables
+
+set-same : (ws : List ℕ) (i v : ℕ) → getD ws i 0 ≡ v → set ws i v ≡ ws
+set-same ws i v e = rw (sym e) (set-getD ws i 0)
+
+module _ {types ws : List ℕ} {depth : ℕ} (s : Starting types ws depth) where
+  -- a restart changes nothing
+  again : restarted ws (countIn ws) depth ≡ ws
+  again =
+      ap (λ (x : List ℕ). set (set (set (set x 1156 depth) 1157 0) 1158 0) 1159 0) (set-getD ws 288 0)
+      ∙ ap (λ (x : List ℕ). set (set (set x 1157 0) 1158 0) 1159 0) (set-same ws 1156 depth (s .next))
+      ∙ ap (λ (x : List ℕ). set (set x 1158 0) 1159 0) (set-same ws 1157 0 (s .condition))
+      ∙ ap (λ (x : List ℕ). set x 1159 0) (set-same ws 1158 0 (empty-log (s .path .log)))
+      ∙ set-same ws 1159 0 (s .met)
+
+  pub started-all : Started ws depth (countIn ws) (typesOn types depth)
+  started-all =
+      record {
+        lent = s .lent;
+        few = s .rows;
+        state = rw again (record { variables = s .variables; path = s .path });
+      }
+
+-- ---- the loop
+
+pub starting-on : {types ws : List ℕ} (i : ℕ) → Starting types ws (suc i) → Starting types ws (i + 1)
+starting-on i s = rw (add-one i) s
+
+pub starting-end : {types ws : List ℕ} {i : ℕ} (depth : ℕ) → i ≤ depth → depth ≤ i → Starting types ws i
+    → Started ws depth (countIn ws) (typesOn types depth) × (choicesOn ws ≡ [])
+starting-end {i = i} depth l m s = let e : i ≡ depth = omega arith in let t = rw e at s in (started-all t, t .free)

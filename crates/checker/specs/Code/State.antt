@@ -1,0 +1,146 @@
+-- What a workspace holds: the values of the variables, the terms, and a path with its choices; what a step keeps of it, and how a step answers.
+-- Assumes nothing.
+pub mod Laws
+use mathlib.Core.Bool.{Bool}
+use mathlib.Core.List.{List, [], _∷_, _++_}
+use mathlib.Core.Path.{_≡_}
+use Prim.Native.Nat.{ℕ, zero, suc, _+_, _*_, _-_, _≤_, _<_}
+use lib.Dec.{eqb}
+use lib.ListN.{length, getD}
+use Rattle.script.specs.declared.Refusal.{Refusal}
+use Rattle.rules.specs.Paths.{Path, Paths, ends, stops, Write, writeOf}
+use Rattle.rules.specs.Paths.Next.{Trace, arrives, halts}
+use Rattle.rules.specs.Symbolic.{Sum, Formula, Origin, made, other, Symbolic, aWord, aTruth, aReference}
+use Rattle.terms.specs.Terms.{countIn, SumRow, TruthRow, Distinct, Grown, rowLimit, symbolLimit}
+use Rattle.checker.specs.declared.operators.Step.{Step}
+use Rattle.checker.specs.declared.operators.Step.the-variants.{Gave, Stopped}
+
+-- ---- the places of a workspace
+
+abbrev pub nextIn : List ℕ → ℕ
+nextIn ws = getD ws 1156 0
+
+abbrev pub conditionIn : List ℕ → ℕ
+conditionIn ws = getD ws 1157 0
+
+abbrev pub writesIn : List ℕ → ℕ
+writesIn ws = getD ws 1158 0
+
+abbrev pub metIn : List ℕ → ℕ
+metIn ws = getD ws 1159 0
+
+abbrev pub choicesIn : List ℕ → ℕ
+choicesIn ws = getD ws 1160 0
+
+abbrev pub variablesEnd : ℕ
+variablesEnd = 288
+
+abbrev pub spaceSize : ℕ
+spaceSize = 1801
+
+abbrev pub nodeLimit : ℕ
+nodeLimit = 128
+
+-- ---- the environment
+
+-- the types of the first variables
+unfoldable pub typesOn : List ℕ → ℕ → List ℕ
+typesOn ws zero = []
+typesOn ws (suc d) = typesOn ws d ++ (getD ws (2 * d) 0 ∷ [])
+
+-- what a type and a place stand for
+pub data Means (ws : List ℕ) : ℕ → ℕ → Symbolic → Type 0 where
+  wordRow : {i : ℕ} {p : Sum} → i < countIn ws → SumRow ws i p → Means ws 0 i (aWord p)
+  truthRow : {i : ℕ} {f : Formula} → i < countIn ws → TruthRow ws i f → Means ws 1 i (aTruth f)
+  madeSymbol : {t s i : ℕ} → i ≡ 2 * s + 1 → Means ws (suc (suc t)) i (aReference made t s)
+  otherSymbol : {t s i : ℕ} → i ≡ 2 * s → Means ws (suc (suc t)) i (aReference other t s)
+
+-- the values of the first variables
+pub data Variables (ws : List ℕ) : ℕ → List Symbolic → Type 0 where
+  noVariable : Variables ws 0 []
+  oneMore : {d : ℕ} {env : List Symbolic} {v : Symbolic} → Variables ws d env → Means ws (getD ws (2 * d) 0) (getD ws (2 * d + 1) 0) v
+      → Variables ws (suc d) (env ++ (v ∷ []))
+
+-- ---- the path
+
+-- the first writes, the newest in front
+pub data Log (ws : List ℕ) : ℕ → List Write → Type 0 where
+  noWrite : Log ws 0 []
+  aWrite : {k : ℕ} {o : Origin} {t s : ℕ} {v : Symbolic} {l : List Write} → Log ws k l
+      → Means ws (getD ws (1161 + 4 * k) 0) (getD ws (1161 + 4 * k + 1) 0) (aReference o t s)
+      → Means ws (getD ws (1161 + 4 * k + 2) 0) (getD ws (1161 + 4 * k + 3) 0) v → Log ws (suc k) (writeOf o t s v ∷ l)
+
+pub record PathIn (ws : List ℕ) (p : Path) : Type 0 where
+  pub next : nextIn ws ≡ p .next
+  pub inside : conditionIn ws < countIn ws
+  pub condition : TruthRow ws (conditionIn ws) (p .condition)
+  pub log : Log ws (writesIn ws) (p .log)
+  pub distinct : Distinct ws
+
+pub record State (ws : List ℕ) (depth : ℕ) (env : List Symbolic) (p : Path) : Type 0 where
+  pub variables : Variables ws depth env
+  pub path : PathIn ws p
+
+-- a type and a place that stand for some value
+pub record Valued (ws : List ℕ) (t q : ℕ) : Type 0 where
+  pub value : Symbolic
+  pub means : Means ws t q value
+
+-- a workspace that stands for some environment and path
+pub record Standing (ws : List ℕ) (depth : ℕ) : Type 0 where
+  pub environment : List Symbolic
+  pub path : Path
+  pub state : State ws depth environment path
+
+-- ---- the choices
+
+-- k choices from place i on
+unfoldable pub choicesAt : List ℕ → ℕ → ℕ → List Bool
+choicesAt ws i zero = []
+choicesAt ws i (suc k) = eqb (getD ws (1673 + i) 0) 1 ∷ choicesAt ws (suc i) k
+
+-- those met, and those left
+abbrev pub metOn : List ℕ → List Bool
+metOn ws = choicesAt ws 0 (metIn ws)
+
+abbrev pub leftOn : List ℕ → List Bool
+leftOn ws = choicesAt ws (metIn ws) (choicesIn ws - metIn ws)
+
+-- ---- room
+
+-- a whole workspace, with room for so many more nodes
+pub record Room (ws : List ℕ) (more : ℕ) : Type 0 where
+  pub lent : spaceSize ≤ length ws
+  pub rows : countIn ws + 2 * more ≤ rowLimit
+  pub symbols : nextIn ws + more ≤ symbolLimit
+  pub writes : writesIn ws + more ≤ nodeLimit
+  pub choices : metIn ws + more ≤ nodeLimit
+
+-- a step of so many nodes keeps the first variables and the rows
+pub record Went (ws left : List ℕ) (depth nodes : ℕ) : Type 0 where
+  pub same : length left ≡ length ws
+  pub before : (k : ℕ) → k < 2 * depth → getD left k 0 ≡ getD ws k 0
+  pub grown : Grown ws left
+  pub rows : countIn left ≤ countIn ws + 2 * nodes
+  pub symbols : nextIn left ≤ nextIn ws + nodes
+  pub writes : writesIn left ≤ writesIn ws + nodes
+  pub choices : metIn left ≤ metIn ws + nodes
+
+-- ---- answers
+
+-- a value on a path with its choices, or a refusal
+pub data Took (left : List ℕ) : Step → Trace → Type 0 where
+  arrived : {t q : ℕ} {v : Symbolic} {p : Path} {met rest : List Bool} → Means left t q v → PathIn left p → met ≡ metOn left → rest ≡ leftOn left
+      → Took left (Gave t q) (arrives v p met rest)
+  halted : {x : Refusal} {met : List Bool} → Took left (Stopped x) (halts x met)
+
+-- without a fork
+pub data Yields (left : List ℕ) : Step → Paths → Type 0 where
+  ending : {t q : ℕ} {v : Symbolic} {p : Path} → Means left t q v → PathIn left p → Yields left (Gave t q) (ends v p)
+  stopping : {x : Refusal} → Yields left (Stopped x) (stops x)
+
+-- the choices are as before
+pub record Unchosen (ws left : List ℕ) : Type 0 where
+  pub met : metIn left ≡ metIn ws
+  pub all : choicesIn left ≡ choicesIn ws
+  pub each : (k : ℕ) → 1673 ≤ k → getD left k 0 ≡ getD ws k 0

@@ -1,0 +1,259 @@
+-- What a step keeps: values, variables, log and path mean the same after it, and room is left for what comes. Assumes nothing.
+use mathlib.Core.Bool.{Bool, true, false}
+use mathlib.Core.List.{List, [], _∷_, _++_, map, map-append}
+use mathlib.Core.Logic.{_⊎_, inl, inr}
+use mathlib.Core.Option.{none, some}
+use mathlib.Core.Path.{_≡_, refl, sym, _∙_}
+use Prim.Native.Nat.{ℕ, zero, suc, _+_, _*_, _-_, _≤_, _<_}
+use native.Mathlib.Omega.{arith}
+use lib.Dec.{eqb}
+use lib.ListN.{length, getD, getElem?, length-append}
+use borrow.Author.Tests.{eqb-true, eqb-false}
+use Rattle.script.specs.declared.Refusal.{Refusal}
+use Rattle.rules.specs.Paths.{Path, Paths, Write}
+use Rattle.rules.specs.Paths.Next.{Trace, arrives, halts, follow}
+use Rattle.rules.specs.Symbolic.{Symbolic, typeOf}
+use Rattle.terms.specs.Terms.{Grown, Distinct, Added}
+use Rattle.terms.specs.Terms.Laws.{grown-refl, grown-trans, sum-kept, truth-kept, still-distinct}
+use Rattle.checker.specs.Code.State.{metIn, choicesIn, typesOn, Means, wordRow, truthRow, madeSymbol, otherSymbol, Variables, noVariable, oneMore, Log, noWrite, aWrite, PathIn, choicesAt, metOn, leftOn, Room, Went, Took, arrived, halted, Yields, ending, stopping, Unchosen}
+use Rattle.checker.specs.declared.operators.Step.{Step}
+use Rattle.checker.specs.declared.operators.Step.the-variants.{Gave, Stopped}
+
+-- ---- values
+
+pub means-type : {ws : List ℕ} {t q : ℕ} {v : Symbolic} → Means ws t q v → typeOf v ≡ t
+means-type (wordRow l r) = refl
+means-type (truthRow l r) = refl
+means-type (madeSymbol e) = refl
+means-type (otherSymbol e) = refl
+
+pub means-kept : {ws left : List ℕ} {t q : ℕ} {v : Symbolic} → Grown ws left → Means ws t q v → Means left t q v
+means-kept g (wordRow {i = i} l r) = wordRow {i = i} (omega (arith, l, g .grows)) (sum-kept g r l)
+means-kept g (truthRow {i = i} l r) = truthRow {i = i} (omega (arith, l, g .grows)) (truth-kept g r l)
+means-kept g (madeSymbol e) = madeSymbol e
+means-kept g (otherSymbol e) = otherSymbol e
+
+-- at other places that hold the same numbers
+pub means-at : {ws left : List ℕ} {t q t′ q′ : ℕ} {v : Symbolic} → Grown ws left → t′ ≡ t → q′ ≡ q → Means ws t q v → Means left t′ q′ v
+means-at g e f m = rw (e, f) (means-kept g m)
+
+-- ---- the environment
+
+pub variables-kept : {ws left : List ℕ} {d : ℕ} {env : List Symbolic} (depth : ℕ) → d ≤ depth → ((k : ℕ) → k < 2 * depth → getD left k 0 ≡ getD ws k 0) → Grown ws left
+    → Variables ws d env → Variables left d env
+variables-kept depth h b g noVariable = noVariable
+variables-kept depth h b g (oneMore {d = d} vs m) =
+    oneMore (variables-kept depth (omega arith) b g vs) (means-at g (b (2 * d) (omega arith)) (b (2 * d + 1) (omega arith)) m)
+
+pub variables-length : {ws : List ℕ} {d : ℕ} {env : List Symbolic} → Variables ws d env → length env ≡ d
+variables-length noVariable = refl
+variables-length (oneMore {env = env} {v = v} vs m) = let e = variables-length vs in let l = length-append env (v ∷ []) in omega arith
+
+pub variables-types : {ws : List ℕ} {d : ℕ} {env : List Symbolic} → Variables ws d env → map typeOf env ≡ typesOn ws d
+unfolding typesOn
+variables-types noVariable = refl
+variables-types (oneMore {env = env} {v = v} vs m) = map-append typeOf env (v ∷ []) ∙ rw (variables-types vs, means-type m)
+
+pub types-length : (ws : List ℕ) (d : ℕ) → length (typesOn ws d) ≡ d
+unfolding typesOn
+types-length ws zero = refl
+types-length ws (suc d) = let e = types-length ws d in let l = length-append (typesOn ws d) (getD ws (2 * d) 0 ∷ []) in omega arith
+
+pub types-kept : (ws left : List ℕ) (d : ℕ) → ((k : ℕ) → k < 2 * d → getD left k 0 ≡ getD ws k 0) → typesOn left d ≡ typesOn ws d
+unfolding typesOn
+types-kept ws left zero b = refl
+types-kept ws left (suc d) b = rw (types-kept ws left d λ k l. b k (omega arith), b (2 * d) (omega arith))
+
+-- ---- what is at a place of a list with one more at its end
+
+module _ {A : Type 0} where
+  pub snoc-at : (xs : List A) (x : A) (k : ℕ) → length xs ≡ k → getElem? (xs ++ (x ∷ [])) k ≡ some x
+  snoc-at [] x zero e = refl
+  snoc-at [] x (suc k) e = absurd (omega arith)
+  snoc-at (y ∷ ys) x zero e = absurd (omega arith)
+  snoc-at (y ∷ ys) x (suc k) e = snoc-at ys x k (omega arith)
+
+  pub snoc-before : (xs : List A) (x : A) (k : ℕ) → k < length xs → getElem? (xs ++ (x ∷ [])) k ≡ getElem? xs k
+  snoc-before [] x k l = absurd (omega arith)
+  snoc-before (y ∷ ys) x zero l = refl
+  snoc-before (y ∷ ys) x (suc k) l = snoc-before ys x k (omega arith)
+
+  pub none-at : (xs : List A) (k : ℕ) → length xs ≤ k → getElem? xs k ≡ none
+  none-at [] k l = refl
+  none-at (y ∷ ys) zero l = absurd (omega arith)
+  none-at (y ∷ ys) (suc k) l = none-at ys k (omega arith)
+
+below-or-last : (k d : ℕ) → k < suc d → (k < d) ⊎ (k ≡ d)
+below-or-last k d l = go (eqb k d) refl
+  where
+    go : (b : Bool) → eqb k d ≡ b → (k < d) ⊎ (k ≡ d)
+    go true e = inr (eqb-true k d e)
+    go false e = let n = eqb-false k d e in inl (omega arith)
+
+pub types-at : (ws : List ℕ) (d k : ℕ) → k < d → getElem? (typesOn ws d) k ≡ some (getD ws (2 * k) 0)
+unfolding typesOn
+types-at ws zero k l = absurd (omega arith)
+types-at ws (suc d) k l = go (below-or-last k d l) (types-at ws d k)
+  where
+    go : (k < d) ⊎ (k ≡ d) → (k < d → getElem? (typesOn ws d) k ≡ some (getD ws (2 * k) 0))
+        → getElem? (typesOn ws d ++ (getD ws (2 * d) 0 ∷ [])) k ≡ some (getD ws (2 * k) 0)
+    go (inl h) f = let e = types-length ws d in snoc-before (typesOn ws d) (getD ws (2 * d) 0) k (omega arith) ∙ f h
+    go (inr e) f = rw e (snoc-at (typesOn ws d) (getD ws (2 * d) 0) d (types-length ws d))
+
+-- the value of a variable
+pub record ValueAt (ws : List ℕ) (env : List Symbolic) (k : ℕ) : Type 0 where
+  pub value : Symbolic
+  pub found : getElem? env k ≡ some value
+  pub means : Means ws (getD ws (2 * k) 0) (getD ws (2 * k + 1) 0) value
+
+pub variables-at : {ws : List ℕ} {d : ℕ} {env : List Symbolic} (k : ℕ) → k < d → Variables ws d env → ValueAt ws env k
+variables-at k l noVariable = absurd (omega arith)
+variables-at {ws} k l (oneMore {d = d} {env = env} {v = v} vs m) = go (below-or-last k d l) (λ h. variables-at k h vs)
+  where
+    go : (k < d) ⊎ (k ≡ d) → (k < d → ValueAt ws env k) → ValueAt ws (env ++ (v ∷ [])) k
+    go (inl h) f =
+        let a = f h in
+        let e = variables-length vs in
+        record { value = a .value; found = snoc-before env v k (omega arith) ∙ a .found; means = a .means }
+    go (inr e) f = record { value = v; found = snoc-at env v k (variables-length vs ∙ sym e); means = rw e m }
+
+-- ---- the path
+
+pub log-kept : {ws left : List ℕ} {k : ℕ} {l : List Write} → ((j : ℕ) → 1161 ≤ j → j < 1161 + 4 * k → getD left j 0 ≡ getD ws j 0) → Grown ws left
+    → Log ws k l → Log left k l
+log-kept b g noWrite = noWrite
+log-kept b g (aWrite {k = k} r m n) =
+    aWrite (log-kept (λ j h i. b j h (omega arith)) g r)
+    (means-at g (b (1161 + 4 * k) (omega arith) (omega arith)) (b (1161 + 4 * k + 1) (omega arith) (omega arith)) m)
+    (means-at g (b (1161 + 4 * k + 2) (omega arith) (omega arith)) (b (1161 + 4 * k + 3) (omega arith) (omega arith)) n)
+
+-- every place behind the rows is as before
+pub path-kept : {ws left : List ℕ} {p : Path} → ((j : ℕ) → 1156 ≤ j → getD left j 0 ≡ getD ws j 0) → Grown ws left → Distinct left → PathIn ws p → PathIn left p
+path-kept {ws} {left} b g d h =
+    record {
+      next = b 1156 (omega arith) ∙ h .next;
+      inside = let e = b 1157 (omega arith) in omega (arith, e, h .inside, g .grows);
+      condition = rw (b 1157 (omega arith)) (truth-kept g (h .condition) (h .inside));
+      log = rw (b 1158 (omega arith)) (log-kept (λ j i _. b j (omega arith)) g (h .log));
+      distinct = d;
+    }
+
+pub path-added : {ws left : List ℕ} {m : ℕ} {p : Path} → Added ws left m → Distinct left → PathIn ws p → PathIn left p
+path-added a d h = path-kept (a .beyond) (a .grown) d h
+
+pub same-grown : {ws left : List ℕ} → ((j : ℕ) → 288 ≤ j → getD left j 0 ≡ getD ws j 0) → Grown ws left
+same-grown b = let e = b 288 (omega arith) in record { grows = omega arith; rows = λ k h i. b k (omega arith) }
+
+-- where no row changes, different atoms stay different
+pub distinct-same : {ws left : List ℕ} → ((j : ℕ) → 288 ≤ j → getD left j 0 ≡ getD ws j 0) → Distinct ws → Distinct left
+distinct-same b d = let e = b 288 (omega arith) in still-distinct (same-grown b) (omega arith) d
+
+-- ---- the choices
+
+pub choices-kept : (ws left : List ℕ) (i k : ℕ) → ((j : ℕ) → 1673 + i ≤ j → j < 1673 + i + k → getD left j 0 ≡ getD ws j 0) → choicesAt left i k ≡ choicesAt ws i k
+unfolding choicesAt
+choices-kept ws left i zero b = refl
+choices-kept ws left i (suc k) b =
+    rw (b (1673 + i) (omega arith) (omega arith), choices-kept ws left (suc i) k λ j h l. b j (omega arith) (omega arith))
+
+module _ {ws left : List ℕ} (u : Unchosen ws left) where
+  pub unchosen-met : metOn left ≡ metOn ws
+  unchosen-met = rw (u .met) (choices-kept ws left 0 (metIn ws) λ j h l. u .each j (omega arith))
+
+  pub unchosen-left : leftOn left ≡ leftOn ws
+  unchosen-left = rw (u .met, u .all) (choices-kept ws left (metIn ws) (choicesIn ws - metIn ws) λ j h l. u .each j (omega arith))
+
+-- ---- room
+
+pub went-refl : (ws : List ℕ) (depth nodes : ℕ) → Went ws ws depth nodes
+went-refl ws depth nodes =
+    record {
+      same = refl;
+      before = λ k l. refl;
+      grown = grown-refl ws;
+      rows = omega arith;
+      symbols = omega arith;
+      writes = omega arith;
+      choices = omega arith;
+    }
+
+-- one step after the other; the second may have more variables
+pub went-trans : {ws xs left : List ℕ} {depth inner m n : ℕ} → depth ≤ inner → Went ws xs depth m → Went xs left inner n → Went ws left depth (m + n)
+went-trans h v w =
+    record {
+      same = w .same ∙ v .same;
+      before = λ k l. w .before k (omega arith) ∙ v .before k l;
+      grown = grown-trans (v .grown) (w .grown);
+      rows = omega (arith, v .rows, w .rows);
+      symbols = omega (arith, v .symbols, w .symbols);
+      writes = omega (arith, v .writes, w .writes);
+      choices = omega (arith, v .choices, w .choices);
+    }
+
+pub went-less : {ws left : List ℕ} {depth inner m n : ℕ} → depth ≤ inner → m ≤ n → Went ws left inner m → Went ws left depth n
+went-less h l w =
+    record {
+      same = w .same;
+      before = λ k i. w .before k (omega arith);
+      grown = w .grown;
+      rows = omega (arith, w .rows, l);
+      symbols = omega (arith, w .symbols, l);
+      writes = omega (arith, w .writes, l);
+      choices = omega (arith, w .choices, l);
+    }
+
+pub room-less : {ws : List ℕ} {m n : ℕ} → m ≤ n → Room ws n → Room ws m
+room-less h r =
+    record {
+      lent = r .lent;
+      rows = omega (arith, r .rows, h);
+      symbols = omega (arith, r .symbols, h);
+      writes = omega (arith, r .writes, h);
+      choices = omega (arith, r .choices, h);
+    }
+
+pub room-on : {ws left : List ℕ} {depth m n : ℕ} → Room ws (m + n) → Went ws left depth m → Room left n
+room-on r w =
+    record {
+      lent = omega (arith, r .lent, w .same);
+      rows = omega (arith, r .rows, w .rows);
+      symbols = omega (arith, r .symbols, w .symbols);
+      writes = omega (arith, r .writes, w .writes);
+      choices = omega (arith, r .choices, w .choices);
+    }
+
+-- ---- answers
+
+-- where a following arrived
+pub record Arrived (left : List ℕ) (t q : ℕ) (T : Trace) : Type 0 where
+  pub value : Symbolic
+  pub path : Path
+  pub is : T ≡ arrives value path (metOn left) (leftOn left)
+  pub means : Means left t q value
+  pub holds : PathIn left path
+
+same-type : {t q u r : ℕ} → Gave t q ≡ Gave u r → t ≡ u
+same-type e = cc
+
+same-place : {t q u r : ℕ} → Gave t q ≡ Gave u r → q ≡ r
+same-place e = cc
+
+gave-not-stopped : {t q : ℕ} {x : Refusal} → Gave t q ≡ Stopped x → ⊥
+gave-not-stopped e = let z : _≡_ {A = ℕ} 0 1 = cc in omega arith
+
+same-stop : {x y : Refusal} → Stopped x ≡ Stopped y → x ≡ y
+same-stop e = cc
+
+pub took-gave : {left : List ℕ} {r : Step} {T : Trace} {t q : ℕ} → Took left r T → r ≡ Gave t q → Arrived left t q T
+took-gave {left} (arrived {v = v} {p = p} m h e f) k =
+    record { value = v; path = p; is = rw (e, f); means = rw (sym (same-type k), sym (same-place k)) m; holds = h }
+took-gave halted k = absurd (gave-not-stopped (sym k))
+
+pub took-stopped : {left : List ℕ} {r : Step} {T : Trace} {x : Refusal} → Took left r T → r ≡ Stopped x → (met : List Bool) × (T ≡ halts x met)
+took-stopped (arrived m h e f) k = absurd (gave-not-stopped k)
+took-stopped (halted {met = met}) k = (met, rw (same-stop k))
+
+pub yields-took : {ws left : List ℕ} {r : Step} {t : Paths} → Unchosen ws left → Yields left r t → Took left r (follow t (metOn ws) (leftOn ws))
+unfolding follow
+yields-took u (ending m h) = arrived m h (sym (unchosen-met u)) (sym (unchosen-left u))
+yields-took u stopping = halted
