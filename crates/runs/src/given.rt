@@ -1,5 +1,4 @@
-// What a stored run gives after its header: lines of bytes, and the text of the script.
-ghost use Prim.Native.Nat.{_≤_, _<_};
+// What a stored run gives after its header: lines of bytes.
 ghost use lib.ListN.{length};
 ghost use Rattle.trial.specs.Numbers.{Within};
 use trial::Number;
@@ -62,21 +61,4 @@ pub fn bytes_line(input: &[u8], at: usize, out: &mut [u8]) -> Number
         }
     }
     Number::Bad
-}
-
-// The end of the text at `at`: where the first empty line stands from there on, or the input's end.
-pub fn text_end(input: &[u8], at: usize) -> usize
-    ensures { λ r. ⌜ (r < length (now (input .entry)) → at ≤ r) ⌝ }
-{
-    let mut i = at;
-    let mut starts = true;
-    while i < input.len() {
-        let ends = input[i] == b'\n';
-        if starts && ends {
-            return i;
-        }
-        starts = ends;
-        i += 1;
-    }
-    input.len()
 }

@@ -15,13 +15,13 @@ mod given;
 mod outcome;
 
 use given::bytes_line;
-use given::text_end;
 use outcome::try_text;
 use trial::Header;
 use trial::Number;
 use trial::header_at;
 use trial::name_end;
 use trial::say;
+use trial::text_end;
 
 // What lent bytes hold that the input does not give.
 const BLANK: u8 = 165;

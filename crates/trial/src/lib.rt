@@ -1,4 +1,4 @@
-// What the programs that try the other crates share: the headers of the frames in their input, and what they print.
+// What the programs that try the other crates share: the headers, names and texts in their input, and what they print.
 ghost use Prim.Native.Nat.{_≤_, _<_};
 ghost use lib.ListN.{length};
 ghost use Rattle.trial.specs.Numbers.{largest, Within, BothWithin};
@@ -94,6 +94,23 @@ pub fn name_end(input: &[u8], at: usize) -> usize
         i += 1;
     }
     at
+}
+
+// The end of the text at `at`: where the first empty line stands from there on, or the input's end.
+pub fn text_end(input: &[u8], at: usize) -> usize
+    ensures { λ r. ⌜ (r < length (now (input .entry)) → at ≤ r) ⌝ }
+{
+    let mut i = at;
+    let mut starts = true;
+    while i < input.len() {
+        let ends = input[i] == b'\n';
+        if starts && ends {
+            return i;
+        }
+        starts = ends;
+        i += 1;
+    }
+    input.len()
 }
 
 // Prints bytes.

@@ -1,9 +1,9 @@
--- `runs::given::text_end` meets its contract: the loop starts at `at` and goes forward. Assumes nothing.
+-- `trial::text_end` meets its contract: the loop starts at `at` and goes forward. Assumes nothing.
 use borrow.Author.Needs.{needs}
 use Prim.Native.Nat.{_≤_, _-_}
 use lib.ListN.{length}
-use Rattle.runs.proofs.given.text_end.Statement.{statement}
-use Rattle.runs.proofs.given.text_end.Tie as tie
+use Rattle.trial.proofs.text_end.Statement.{statement}
+use Rattle.trial.proofs.text_end.Tie as tie
 
 abbrev Inv-loop : tie.InvT-loop
 Inv-loop input at i₀ starts₀ i starts = at ≤ i
