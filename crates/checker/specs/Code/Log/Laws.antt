@@ -14,11 +14,11 @@ use Rattle.script.specs.Tests.{pick}
 use Rattle.rules.specs.Paths.{Path, Write, writeOf, write, isRight, has, consistentAfter, lookup}
 use Rattle.rules.specs.Symbolic.{Origin, made, other, Symbolic, aReference, typeOf, apart}
 use Rattle.terms.specs.Terms.{countIn, Grown, rowLimit}
-use Rattle.terms.specs.Terms.Laws.{still-distinct, truth-kept}
+use Rattle.terms.specs.Terms.Laws.{still-distinct}
 use Rattle.checker.specs.Code.Log.{rightOn, symbolOn, mendsOn, mendedOn, consistentOn, apartOn, lookupOn, FoundAs, found-none, found-some, written}
 use Rattle.checker.specs.Code.Rules.{Ruled}
 use Rattle.checker.specs.Code.State.{writesIn, spaceSize, nodeLimit, Means, madeSymbol, otherSymbol, Log, noWrite, aWrite, PathIn}
-use Rattle.checker.specs.Code.State.Laws.{means-type, means-at, log-kept}
+use Rattle.checker.specs.Code.State.Laws.{path-moved, means-type, means-at, log-kept}
 use Rattle.checker.specs.declared.log.Found.the-variants.{Value, Nothing}
 
 -- ---- a reference by its place
@@ -202,15 +202,10 @@ module _ (ws : List ℕ) (t p u q : ℕ) (lent : spaceSize ≤ length ws) (few :
   pub written-path : {o : Origin} {c s : ℕ} {v : Symbolic} (path : Path) → PathIn ws path → Means ws t p (aReference o c s) → Means ws u q v
       → PathIn (written ws t p u q) (write (writeOf o c s v) path)
   written-path path h m n =
-      let e = written-before 1157 (λ z. omega arith) (omega arith) in
       let f = written-before 288 (λ z. omega arith) (omega arith) in
-      record {
-        next = written-before 1156 (λ z. omega arith) (omega arith) ∙ h .next;
-        inside = omega (arith, e, f, h .inside);
-        condition = rw e (truth-kept written-grown (h .condition) (h .inside));
-        log = rw (written-writes ∙ add-one (writesIn ws))
-            (aWrite (log-kept (λ j i l. written-before j (λ z. omega arith) l) written-grown (h .log))
-            (means-at written-grown written-type written-through m)
-            (means-at written-grown written-kind written-value n));
-        distinct = still-distinct written-grown (omega (arith, f)) (h .distinct);
-      }
+      path-moved written-grown (still-distinct written-grown (omega (arith, f)) (h .distinct)) (written-before 1157 (λ z. omega arith) (omega arith))
+      (written-before 1156 (λ z. omega arith) (omega arith) ∙ h .next)
+      (rw (written-writes ∙ add-one (writesIn ws))
+      (aWrite (log-kept (λ j i l. written-before j (λ z. omega arith) l) written-grown (h .log))
+      (means-at written-grown written-type written-through m)
+      (means-at written-grown written-kind written-value n))) h

@@ -24,7 +24,7 @@ use Rattle.checker.specs.Code.Paths.{Choice, of-none, of-some, TakesChoi
 use Rattle.checker.specs.Code.Paths.Conditions.{Joined, joined-went, joined-unchosen, assumed-joined, assumed-path, denied-joined, denied-path}
 use Rattle.checker.specs.Code.Rules.{Decidable, Chosen, first, second, neither, Chooses}
 use Rattle.checker.specs.Code.State.{conditionIn, spaceSize, Means, wordRow, truthRow, madeSymbol, otherSymbol, PathIn, metOn, leftOn, Room, Went}
-use Rattle.checker.specs.Code.State.Laws.{log-kept, went-refl, unchosen-met, unchosen-left}
+use Rattle.checker.specs.Code.State.Laws.{path-moved, log-kept, went-refl, unchosen-met, unchosen-left}
 use Rattle.checker.specs.declared.path.Branch.{Branch}
 use Rattle.checker.specs.declared.path.Branch.the-variants.{First, Second, Neither}
 
@@ -79,14 +79,8 @@ module _ {ws xs : List ℕ} {r : Bool} (room : Room ws 1) (k : TakesChoice ws r 
   takes-path : (p : Path) → PathIn ws p → PathIn xs p
   takes-path p h =
       let e = k .before 288 (omega arith) in
-      let c = k .before 1157 (omega arith) in
-      record {
-        next = k .before 1156 (omega arith) ∙ h .next;
-        inside = omega (arith, e, c, h .inside);
-        condition = rw c (truth-kept takes-grown (h .condition) (h .inside));
-        log = rw (k .before 1158 (omega arith)) (log-kept (λ j i l. k .log j i (omega (arith, l, room .writes))) takes-grown (h .log));
-        distinct = still-distinct takes-grown (omega (arith, e)) (h .distinct);
-      }
+      path-moved takes-grown (still-distinct takes-grown (omega (arith, e)) (h .distinct)) (k .before 1157 (omega arith)) (k .before 1156 (omega arith) ∙ h .next)
+      (rw (k .before 1158 (omega arith)) (log-kept (λ j i l. k .log j i (omega (arith, l, room .writes))) takes-grown (h .log))) h
 
   pub takes-lent : spaceSize ≤ length xs
   takes-lent = omega (arith, room .lent, k .same)

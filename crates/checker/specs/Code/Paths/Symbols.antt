@@ -14,11 +14,11 @@ use Rattle.rules.specs.Symbolic.{symbol}
 use Rattle.terms.specs.Atoms.{foundOr, atomRowOf, atomLeft}
 use Rattle.terms.specs.Atoms.Made.{made-truth}
 use Rattle.terms.specs.Terms.{countIn, Space, pushed, Distinct, Grown, Added, symbolLimit}
-use Rattle.terms.specs.Terms.Laws.{grown-trans, added-refl, truth-kept, still-distinct, pushed-length, pushed-added, made-symbol}
+use Rattle.terms.specs.Terms.Laws.{grown-trans, added-refl, still-distinct, pushed-length, pushed-added, made-symbol}
 use Rattle.checker.specs.Code.Paths.{Fresh}
 use Rattle.checker.specs.Code.Rules.{Ruled}
 use Rattle.checker.specs.Code.State.{nextIn, Means, wordRow, truthRow, otherSymbol, PathIn, Room}
-use Rattle.checker.specs.Code.State.Laws.{log-kept, path-added}
+use Rattle.checker.specs.Code.State.Laws.{path-moved, log-kept, path-added}
 
 -- ---- an atom that is found or made adds at most one row
 
@@ -76,14 +76,8 @@ module _ (ws : List ℕ) (room : Room ws 1) where
 
   numbered-path : (p : Path) → PathIn ws p → PathIn numbered (taken p)
   numbered-path p h =
-      let c = numbered-other 1157 λ e. omega arith in
-      record {
-        next = numbered-next ∙ rw (h .next);
-        inside = omega (arith, h .inside, c, numbered-count);
-        condition = rw c (truth-kept numbered-grown (h .condition) (h .inside));
-        log = rw (numbered-other 1158 λ e. omega arith) (log-kept (λ j i _. numbered-other j λ e. omega arith) numbered-grown (h .log));
-        distinct = numbered-distinct (h .distinct);
-      }
+      path-moved numbered-grown (numbered-distinct (h .distinct)) (numbered-other 1157 λ e. omega arith) (numbered-next ∙ rw (h .next))
+      (rw (numbered-other 1158 λ e. omega arith) (log-kept (λ j i _. numbered-other j λ e. omega arith) numbered-grown (h .log))) h
 
   -- at most one row more
   module _ {left : List ℕ} (same : length left ≡ length numbered) (a : Added numbered left 1) where

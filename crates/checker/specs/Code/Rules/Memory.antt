@@ -14,7 +14,7 @@ use Rattle.rules.specs.Paths.{Path, ends, taken, forget, consistent, lookup}
 use Rattle.rules.specs.Symbolic.{Sum, Formula, Origin, made, Symbolic, aWord, aTruth, aReference, symbol}
 use Rattle.rules.specs.SymbolicRules.{got, unaryExec, binaryExec, typedResult}
 use Rattle.terms.specs.Terms.{countIn, Grown}
-use Rattle.terms.specs.Terms.Laws.{grown-trans, truth-kept, still-distinct}
+use Rattle.terms.specs.Terms.Laws.{grown-trans, still-distinct}
 use Rattle.checker.specs.Code.Log.{consistentOn, lookupOn, written, FoundAs, found-none, found-some}
 use Rattle.checker.specs.Code.Log.Laws.{consistent-is, lookup-is, written-grown, written-before, written-ruled, written-path}
 use Rattle.checker.specs.Code.Paths.{Fresh}
@@ -23,7 +23,7 @@ use Rattle.checker.specs.Code.Rules.{oneExec, twoExec, Ruled, One, Two, 
 use Rattle.checker.specs.Code.Rules.Executed.{unchosen-trans}
 use Rattle.checker.specs.Code.Rules.Operators.{ruled-refl}
 use Rattle.checker.specs.Code.State.{nextIn, writesIn, Means, wordRow, truthRow, madeSymbol, otherSymbol, noWrite, PathIn, Room, Went, Unchosen, Yields, ending, stopping}
-use Rattle.checker.specs.Code.State.Laws.{means-type, means-kept, went-trans}
+use Rattle.checker.specs.Code.State.Laws.{path-moved, means-type, means-kept, went-trans}
 use Rattle.checker.specs.declared.log.Found.{Found}
 use Rattle.checker.specs.declared.log.Found.the-variants.{Value, Nothing}
 use Rattle.checker.specs.declared.operators.Step.the-variants.{Gave, Stopped}
@@ -255,15 +255,9 @@ module _ (n t : ℕ) {ws : List ℕ} {b : Bool} (e : b ≡ consistentOn ws 0 (wr
 
     emptied-path : {p : Path} → PathIn ws p → PathIn emptied (forget p)
     emptied-path h =
-        let c = emptied-other 1157 (λ e. omega arith) in
         let k = emptied-other 288 (λ e. omega arith) in
-        record {
-          next = emptied-other 1156 (λ e. omega arith) ∙ h .next;
-          inside = omega (arith, h .inside, c, k);
-          condition = rw c (truth-kept emptied-grown (h .condition) (h .inside));
-          log = rw emptied-writes noWrite;
-          distinct = still-distinct emptied-grown (omega (arith, k)) (h .distinct);
-        }
+        path-moved emptied-grown (still-distinct emptied-grown (omega (arith, k)) (h .distinct)) (emptied-other 1157 (λ e. omega arith))
+        (emptied-other 1156 (λ e. omega arith) ∙ h .next) (rw emptied-writes noWrite) h
 
     pub emptied-room : Room emptied 1
     emptied-room =

@@ -15,7 +15,7 @@ use Rattle.rules.specs.Paths.Next.{Trace, arrives, halts, follow}
 use Rattle.rules.specs.Symbolic.{Symbolic, typeOf}
 use Rattle.terms.specs.Terms.{Grown, Distinct, Added}
 use Rattle.terms.specs.Terms.Laws.{grown-refl, grown-trans, sum-kept, truth-kept, still-distinct}
-use Rattle.checker.specs.Code.State.{metIn, choicesIn, typesOn, Means, wordRow, truthRow, madeSymbol, otherSymbol, Variables, noVariable, oneMore, Log, noWrite, aWrite, PathIn, choicesAt, metOn, leftOn, Room, Went, Took, arrived, halted, Yields, ending, stopping, Unchosen}
+use Rattle.checker.specs.Code.State.{nextIn, conditionIn, writesIn, metIn, choicesIn, typesOn, Means, wordRow, truthRow, madeSymbol, otherSymbol, Variables, noVariable, oneMore, Log, noWrite, aWrite, PathIn, choicesAt, metOn, leftOn, Room, Went, Took, arrived, halted, Yields, ending, stopping, Unchosen}
 use Rattle.checker.specs.declared.operators.Step.{Step}
 use Rattle.checker.specs.declared.operators.Step.the-variants.{Gave, Stopped}
 
@@ -127,16 +127,23 @@ log-kept b g (aWrite {k = k} r m n) =
     (means-at g (b (1161 + 4 * k) (omega arith) (omega arith)) (b (1161 + 4 * k + 1) (omega arith) (omega arith)) m)
     (means-at g (b (1161 + 4 * k + 2) (omega arith) (omega arith)) (b (1161 + 4 * k + 3) (omega arith) (omega arith)) n)
 
--- every place behind the rows is as before
-pub path-kept : {ws left : List ℕ} {p : Path} → ((j : ℕ) → 1156 ≤ j → getD left j 0 ≡ getD ws j 0) → Grown ws left → Distinct left → PathIn ws p → PathIn left p
-path-kept {ws} {left} b g d h =
+-- the condition is where it was; next symbol and log are as said
+pub path-moved : {ws left : List ℕ} {p : Path} {n : ℕ} {l : List Write} → Grown ws left → Distinct left → conditionIn left ≡ conditionIn ws → nextIn left ≡ n
+    → Log left (writesIn left) l → PathIn ws p → PathIn left (record { next = n; condition = p .condition; log = l })
+path-moved g d c n l h =
     record {
-      next = b 1156 (omega arith) ∙ h .next;
-      inside = let e = b 1157 (omega arith) in omega (arith, e, h .inside, g .grows);
-      condition = rw (b 1157 (omega arith)) (truth-kept g (h .condition) (h .inside));
-      log = rw (b 1158 (omega arith)) (log-kept (λ j i _. b j (omega arith)) g (h .log));
+      next = n;
+      inside = omega (arith, c, h .inside, g .grows);
+      condition = rw c (truth-kept g (h .condition) (h .inside));
+      log = l;
       distinct = d;
     }
+
+-- every place behind the rows is as before
+pub path-kept : {ws left : List ℕ} {p : Path} → ((j : ℕ) → 1156 ≤ j → getD left j 0 ≡ getD ws j 0) → Grown ws left → Distinct left → PathIn ws p → PathIn left p
+path-kept b g d h =
+    path-moved g d (b 1157 (omega arith)) (b 1156 (omega arith) ∙ h .next)
+    (rw (b 1158 (omega arith)) (log-kept (λ j i _. b j (omega arith)) g (h .log))) h
 
 pub path-added : {ws left : List ℕ} {m : ℕ} {p : Path} → Added ws left m → Distinct left → PathIn ws p → PathIn left p
 path-added a d h = path-kept (a .beyond) (a .grown) d h
