@@ -1,4 +1,3 @@
 -- What the contracts of inner functions say, and laws of the whole calls. Nothing here has to be believed. Assumes nothing.
-pub mod Counts
 pub mod Packing
 pub mod Whole

@@ -16,6 +16,7 @@ use Rattle.rules.specs.Paths.{Path, Paths, ends, start, bind, leaves}
 use Rattle.rules.specs.Symbolic.{Symbolic, aWord, aTruth, number, constantly, typeOf, symbols}
 use Rattle.rules.specs.SymbolicRules.{unaryExec, binaryExec, decide, typedResult, variable, verdict}
 use Rattle.rules.specs.TypedRules.{andThen, unaryType, binaryType, ifType}
+pub mod Bounds
 pub mod Laws
 
 abbrev pub pathLimit : ℕ

@@ -12,6 +12,7 @@ use Rattle.script.specs.declared.Refusal.the-variants.{BadLine, TooManyA
 use Rattle.script.specs.declared.Value.{Value}
 use Rattle.script.specs.declared.Value.the-variants.{Word, Truth, Location}
 use Rattle.script.specs.declared.Writing.{Writing}
+pub mod Bounds
 
 abbrev pub numberOf : Refusal → ℕ
 numberOf (BadLine i) = 1

@@ -9,6 +9,7 @@ use Rattle.script.specs.Rows.{Row, Form, UnaryOp, BinaryOp, intForm, var
 use Rattle.script.specs.Table.{Table, nodesOf}
 use Rattle.script.specs.declared.Node.{Node}
 pub mod Laws
+pub mod Numbers
 pub mod Size
 
 -- each constructor begins with the node's number

@@ -14,6 +14,7 @@ use Rattle.script.specs.declared.Refusal.{Refusal}
 use Rattle.script.specs.declared.Refusal.the-variants.{BadLine, TooManyAt, BadOperand, NoNode, TextTooLong}
 use Rattle.text.specs.Bytes.{lf, tab, entryWord}
 use Rattle.text.specs.Fields.{decimalUpTo, typeOf, sameBytes, kindOf}
+pub mod Bounds
 
 -- ---- lines and fields: the parts of a list between separators, at least one
 

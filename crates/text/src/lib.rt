@@ -1,6 +1,6 @@
 mod fields;
 mod lines;
-mod output;
+pub mod output;
 pub mod reader;
 mod words;
 pub mod writer;

@@ -1,22 +1,22 @@
 -- `host::teqharis_run` meets its contract: the answer of `run_text` as a number. The used count has room in it, since it is at most 192. Assumes nothing.
 use borrow.Author.Needs.{needs}
 use native.Mathlib.Omega.{arith}
-use mathlib.Core.Path.{sym, ap, _∙_}
-use Rattle.rules.specs.Running.{Run}
-use Rattle.host.specs.Code.Counts.{count-most, gave-count, failed-count}
-use Rattle.host.specs.Code.Packing.{kind-most, told-is, run-gave, run-failed, run-refused}
+use mathlib.Core.Path.{sym, _∙_}
+use Rattle.script.specs.Answers.Bounds.{kind-most}
+use Rattle.host.specs.Bounds.{run-within, gave-count, failed-count}
+use Rattle.host.specs.Code.Packing.{told-is, run-gave, run-failed, run-refused}
 use Rattle.host.proofs.teqharis_run.Statement.{statement}
 use Rattle.host.proofs.teqharis_run.Tie as tie
 
 pack-requires : tie.Need-pack-requires
 pack-requires c κs =
-    let n = gave-count (count-most _ _ _ _) (sym (told-is (c .before .before .before .before .before .before .before .run-text .ensures)) ∙ c .before .before .before .v .given .1) in
+    let n = gave-count (run-within _ _ _ _) (sym (told-is (c .before .before .before .before .before .before .before .run-text .ensures)) ∙ c .before .before .before .v .given .1) in
     let k = kind-most (c .before .before .before .v .given .0 .0) in
     omega (arith, n, k, c .before .kind .ensures)
 
 pack-requires-2 : tie.Need-pack-requires-2
 pack-requires-2 c κs =
-    let n = failed-count (count-most _ _ _ _) (sym (told-is (c .before .before .before .before .before .run-text .ensures)) ∙ c .before .at .given .1) in
+    let n = failed-count (run-within _ _ _ _) (sym (told-is (c .before .before .before .before .before .run-text .ensures)) ∙ c .before .at .given .1) in
     omega (arith, n)
 
 returns : tie.Need-returns

@@ -1,9 +1,8 @@
 -- How an answer is packed: each way through the code gives the answer's number. Assumes nothing.
 use mathlib.Core.List.{List}
 use mathlib.Core.Path.{_≡_, refl, sym, ap, _∙_}
-use Prim.Native.Nat.{ℕ, suc, _+_, _≤_}
+use Prim.Native.Nat.{ℕ, _+_}
 use native.Mathlib.Numerals.{add-one}
-use native.Mathlib.Omega.{arith}
 use Rattle.script.specs.Answers.{numberOf, placeOf, kindOf, bitsOf}
 use Rattle.script.specs.declared.Place.{Place}
 use Rattle.script.specs.declared.Place.the-variants.{Nowhere, At}
@@ -11,7 +10,6 @@ use Rattle.script.specs.declared.Checked.{Checked}
 use Rattle.script.specs.declared.Ran.{Ran}
 use Rattle.script.specs.declared.Refusal.{Refusal}
 use Rattle.script.specs.declared.Value.{Value}
-use Rattle.script.specs.declared.Value.the-variants.{Word, Truth, Location}
 use Rattle.rules.specs.Running.{Run}
 use Rattle.host.specs.Answers.{packed, refused, placeField, answerOfRefusal, done, failed, answerOfCheck, answerOfRun, AnswersRun}
 use Rattle.host.specs.Code.Whole.{RanTo}
@@ -24,13 +22,6 @@ module _ (why : Refusal) {number : ℕ} {place : Place} {r : ℕ} (n : number �
 
   pub refusal-at : {i : ℕ} → place ≡ At i → r ≡ packed refused number (i + 1) 0 → r ≡ answerOfRefusal why
   refusal-at {i} e h = h ∙ rw (n, add-one i, sym p ∙ e) refl
-
--- ---- a value
-
-pub kind-most : (v : Value) → kindOf v ≤ 2
-kind-most (Word w) = omega arith
-kind-most (Truth b) = omega arith
-kind-most (Location l) = omega arith
 
 -- ---- the whole calls
 

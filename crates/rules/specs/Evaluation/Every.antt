@@ -20,9 +20,12 @@ module _ {A : Type 0} {P : A → Type 0} where
   every-set zero (oneValue h hs) k = oneValue k hs
   every-set (suc i) (oneValue h hs) k = oneValue h (every-set i hs k)
 
+  pub every-both : {xs ys : List A} → Every P xs → Every P ys → Every P (xs ++ ys)
+  every-both noValue ks = ks
+  every-both (oneValue h hs) ks = oneValue h (every-both hs ks)
+
   pub every-next : {xs : List A} {x : A} → Every P xs → P x → Every P (xs ++ (x ∷ []))
-  every-next noValue k = oneValue k noValue
-  every-next (oneValue h hs) k = oneValue h (every-next hs k)
+  every-next hs k = every-both hs (oneValue k noValue)
 
   -- of every element, what it brings with it
   pub every-also : {Q : A → Type 0} {xs : List A} → ((x : A) → P x → Q x) → Every P xs → Every Q xs

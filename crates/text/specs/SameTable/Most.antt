@@ -21,7 +21,7 @@ use Rattle.text.specs.SameTable.Words.{width, row-most, row-width}
 
 -- ---- entries
 
-type-length : (t : ℕ) → 2 * length (typeText t) ≤ t + 2
+pub type-length : (t : ℕ) → 2 * length (typeText t) ≤ t + 2
 unfolding typeText
 type-length zero = omega arith
 type-length (suc zero) = omega arith
