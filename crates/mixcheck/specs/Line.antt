@@ -1,7 +1,9 @@
 -- The line that the checking program prints (document 01, 'Scripts to try'): `accepted` and the type, or `refused`, the number and the place or `-`; a tab
 -- between fields, LF at the end. Assumes nothing.
 use mathlib.Core.List.{List, [], _∷_, _++_}
-use Prim.Native.Nat.{ℕ}
+use mathlib.Core.Path.{_≡_}
+use Prim.Native.Nat.{ℕ, _≤_}
+use lib.ListN.{length, drop}
 use Rattle.script.specs.Answers.{numberOf, placeOf}
 use Rattle.script.specs.declared.Checked.{Checked}
 use Rattle.script.specs.declared.Place.{Place}
@@ -33,3 +35,9 @@ lineOf (Checked.Refused r) = refusedWord ++ (tab ∷ digits (numberOf r)) ++ (ta
 -- no line is longer
 abbrev pub lineLimit : ℕ
 lineLimit = 26
+
+-- the line stands at the start of the lent bytes, what was behind it as it was, and its length is given
+pub record PutLine (line out : List ℕ) (n : ℕ) (out′ : List ℕ) : Type 0 where
+  pub length-is : n ≡ length line
+  pub most : n ≤ lineLimit
+  pub bytes-are : out′ ≡ line ++ drop n out

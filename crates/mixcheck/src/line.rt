@@ -1,13 +1,12 @@
 // The line that the program prints for a text.
-ghost use mathlib.Core.List.{_∷_, _++_};
-ghost use mathlib.Core.Path.{_≡_};
+ghost use mathlib.Core.List.{_∷_};
 ghost use Prim.Native.Nat.{_+_, _^_, _≤_, _<_};
-ghost use lib.ListN.{length, drop};
+ghost use lib.ListN.{length};
 ghost use Rattle.script.specs.declared.Checked.the-variants.{Accepted, Refused};
 ghost use Rattle.text.specs.Bytes.{tab};
 ghost use Rattle.text.specs.Code.Output.{Put};
 ghost use Rattle.host.specs.Texts.{checkText};
-ghost use Rattle.mixcheck.specs.Line.{placeText, lineOf, lineLimit};
+ghost use Rattle.mixcheck.specs.Line.{placeText, lineOf, lineLimit, PutLine};
 use script::Checked;
 use script::Place;
 use script::Refusal;
@@ -35,12 +34,13 @@ fn put_place(out: &mut [u8], at: usize, place: Place) -> usize
     ensures { λ r. ⌜ Put (tab ∷ placeText place) at (now (out .entry)) r (now (out .exit)) ⌝ }
 {
     put(out, at, b'\t');
+    let next = at + 1;
     match place {
         Place::Nowhere => {
-            put(out, at + 1, b'-');
-            at + 2
+            put(out, next, b'-');
+            next + 1
         }
-        Place::At(i) => put_number(out, at + 1, i),
+        Place::At(i) => put_number(out, next, i),
     }
 }
 
@@ -58,8 +58,7 @@ fn put_refused(out: &mut [u8], why: Refusal) -> usize
 // Checks a text and puts its line into `out`; gives the line's length.
 pub fn put_line(text: &[u8], out: &mut [u8]) -> usize
     requires { ⌜ lineLimit ≤ length (now out) ⌝ }
-    ensures { λ r. ⌜ r ≡ length (lineOf (checkText (now (text .entry)))) ⌝ }
-    ensures { λ r. ⌜ now (out .exit) ≡ lineOf (checkText (now (text .entry))) ++ drop r (now (out .entry)) ⌝ }
+    ensures { λ r. ⌜ PutLine (lineOf (checkText (now (text .entry)))) (now (out .entry)) r (now (out .exit)) ⌝ }
 {
     match host::check_text(text) {
         Checked::Accepted(code) => put_accepted(out, code),
