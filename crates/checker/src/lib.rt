@@ -69,6 +69,14 @@ fn check_within(
     }
 }
 
+// Checks a table that is known to pass its tests, as one that was read from a text.
+pub fn check_passed(table: &[u32], nodes: usize, entries: &[u32], entry_count: usize) -> Checked
+    requires { ⌜ tableTest (tableIn (now table) nodes (now entries) «entry_count») ≡ none ⌝ }
+    ensures { λ r. ⌜ CheckedBy pathLimit (now (table .entry)) nodes (now (entries .entry)) «entry_count» r ⌝ }
+{
+    check_tested(table, nodes, entries, entry_count, PATHS)
+}
+
 // Checks a table: accepted with its type, or why not. Nothing lent changes.
 pub fn check(table: &[u32], nodes: usize, entries: &[u32], entry_count: usize) -> Checked
     ensures { λ r. ⌜ CheckedBy pathLimit (now (table .entry)) nodes (now (entries .entry)) «entry_count» r ⌝ }

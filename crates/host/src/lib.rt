@@ -22,7 +22,7 @@ pub fn check_text(text: &[u8]) -> Checked
         Reading::Read(script) => {
             let nodes = script.nodes;
             let count = script.entries;
-            checker::check(&table, nodes, &entries, count)
+            checker::check_passed(&table, nodes, &entries, count)
         }
         Reading::Refused(why) => Checked::Refused(why),
     }
@@ -38,7 +38,7 @@ pub fn run_text(text: &[u8], values: &[u8], cells: &mut [u8], used: u32) -> Ran
         Reading::Read(script) => {
             let nodes = script.nodes;
             let count = script.entries;
-            runner::run(&table, nodes, &entries, count, values, cells, used)
+            runner::run_passed(&table, nodes, &entries, count, values, cells, used)
         }
         Reading::Refused(why) => Ran::Refused(why),
     }

@@ -1,7 +1,10 @@
 // The runner: evaluation of a table on lent cells. `run` is the whole call; `steps` runs a node, `operators` has the rules for values, `tests` the
 // tests 35 and 34, `values` the 5-byte form.
+ghost use mathlib.Core.Option.{none};
+ghost use mathlib.Core.Path.{_≡_};
 ghost use lib.ListN.{take};
-ghost use Rattle.script.specs.Flat.{nodesIn};
+ghost use Rattle.script.specs.Flat.{nodesIn, tableIn};
+ghost use Rattle.script.specs.Table.{tableTest};
 ghost use Rattle.script.specs.Tree.{root};
 ghost use Rattle.rules.specs.Evaluation.{eval};
 ghost use Rattle.rules.specs.Running.{valuesOf};
@@ -51,6 +54,31 @@ fn run_tested(
     )
 }
 
+// Runs a table that is known to pass its tests, as one that was read from a text: 35, 34, and then the run.
+pub fn run_passed(
+    table: &[u32],
+    nodes: usize,
+    entries: &[u32],
+    entry_count: usize,
+    values: &[u8],
+    cells: &mut [u8],
+    used: u32,
+) -> Ran
+    requires { ⌜ tableTest (tableIn (now table) nodes (now entries) «entry_count») ≡ none ⌝ }
+    ensures { λ r. ⌜ Answered (now (table .entry)) nodes (now (entries .entry)) «entry_count» (now (values .entry)) (now (cells .entry)) used r (now (cells .exit)) ⌝ }
+{
+    if !right_cells(cells, used) {
+        return Ran::Refused(Refusal::BadCells);
+    }
+    if !right_values(entry_count, values, cells, used) {
+        return Ran::Refused(Refusal::BadValues);
+    }
+    match run_tested(table, nodes, entry_count, values, cells, used) {
+        Step::Gave(v, count) => Ran::Gave(v, count),
+        Step::Failed(at, count) => Ran::Failed(at, count),
+    }
+}
+
 // Runs a table on entry values and cells in their 5-byte form, of which the first `used` cells are used: the value or the node of the error state, with
 // the used count; or why not. A run changes used cells and adds cells; a refusal changes nothing.
 pub fn run(
@@ -66,17 +94,6 @@ pub fn run(
 {
     match test_table(table, nodes, entries, entry_count) {
         Tested::Refused(why) => Ran::Refused(why),
-        Tested::Passed => {
-            if !right_cells(cells, used) {
-                return Ran::Refused(Refusal::BadCells);
-            }
-            if !right_values(entry_count, values, cells, used) {
-                return Ran::Refused(Refusal::BadValues);
-            }
-            match run_tested(table, nodes, entry_count, values, cells, used) {
-                Step::Gave(v, count) => Ran::Gave(v, count),
-                Step::Failed(at, count) => Ran::Failed(at, count),
-            }
-        }
+        Tested::Passed => run_passed(table, nodes, entries, entry_count, values, cells, used),
     }
 }

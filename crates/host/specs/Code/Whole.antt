@@ -11,7 +11,7 @@ use Rattle.script.specs.Answers.{kindOf, bitsOf}
 use Rattle.script.specs.Flat.{flat, nodesIn, tableIn}
 use Rattle.script.specs.Flat.Laws.{length-nodesIn, nodesIn-flat}
 use Rattle.script.specs.Limits.{nodeLimit, entryLimit, sizeOf}
-use Rattle.script.specs.Table.{unused}
+use Rattle.script.specs.Table.{unused, tableTest}
 use Rattle.script.specs.declared.Checked.{Checked}
 use Rattle.script.specs.declared.Node.{Node}
 use Rattle.script.specs.declared.Ran.{Ran}
@@ -22,7 +22,7 @@ use Rattle.rules.specs.Checking.{pathLimit, CheckedBy}
 use Rattle.rules.specs.Running.{Run}
 use Rattle.runner.specs.Answered.{Answered}
 use Rattle.text.specs.Grammar.{Meaning, means, refused, meaningOf}
-use Rattle.text.specs.OneSpelling.{tableRead, read-as}
+use Rattle.text.specs.OneSpelling.{tableRead, read-passes, read-as}
 use Rattle.text.specs.Reading.{Outcome, Left, leaves, reading, readingIn, answerOf, filled}
 use Rattle.host.specs.Texts.{checkMeant, checkText, runMeant, runText}
 
@@ -76,6 +76,10 @@ module _ (text xs es : List ℕ) (nodes : length xs ≡ 4 * nodeLimit) (entries 
         go : (m : Meaning) → answerOf m ≡ Reading.Refused why → m ≡ refused why
         go (means es ns) e = let z : _≡_ {A = ℕ} 0 1 = cc in absurd (omega arith)
         go (refused r) e = cc
+
+-- what was read passes its tests
+pub read-tested : {text table left : List ℕ} {s : Script} → ReadTo text table left s → tableTest (tableIn table (s .nodes) left (s .entries)) ≡ none
+read-tested {text} q = ap tableTest (q .table-is) ∙ read-passes text (q .es) (q .ns) (q .meaning) nodeLimit entryLimit (omega arith) (omega arith)
 
 -- ---- the ways through a call
 
