@@ -7,20 +7,18 @@ use Prim.Native.Nat.{ℕ}
 use native.Mathlib.Omega.{arith}
 use lib.ListN.{length}
 use lib.Seq.{take-at}
-use Rattle.script.specs.Answers.{numberOf, placeOf, kindOf, bitsOf}
+use Rattle.script.specs.Answers.{kindOf, bitsOf}
 use Rattle.script.specs.Limits.{nodeLimit, entryLimit}
-use Rattle.script.specs.Table.{entriesOf}
 use Rattle.script.specs.declared.Checked.{Checked}
-use Rattle.script.specs.declared.Node.{Node}
 use Rattle.script.specs.declared.Value.{Value}
 use Rattle.rules.specs.Checking.{pathLimit}
 use Rattle.rules.specs.Demand3.{EndsWithValue, accepted-ends-with-value}
-use Rattle.rules.specs.Running.{Run, valuesOf, rightCells, rightValues}
+use Rattle.rules.specs.Running.{valuesOf, rightCells, rightValues}
 use Rattle.rules.specs.Typings.{HasType, HaveTypes, Fits, Extends}
 use Rattle.text.specs.Grammar.{Meaning, means, refused, meaningOf}
 use Rattle.text.specs.OneSpelling.{tableRead}
 use Rattle.text.specs.Reading.{entriesRead}
-use Rattle.host.specs.Answers.{packed, done, placeField, answerOfCheck, answerOfRun, AnswersRun}
+use Rattle.host.specs.Answers.{packed, done, answerOfCheck, answerOfRun, AnswersRun}
 use Rattle.host.specs.Texts.{checkMeant, checkText, runMeant, runText}
 
 -- the types of a text's entries

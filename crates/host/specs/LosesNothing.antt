@@ -2,7 +2,7 @@
 -- cells. Assumes nothing.
 use mathlib.Core.List.{List}
 use mathlib.Core.Path.{_≡_, refl, ap, ap₂, _∙_}
-use Prim.Native.Nat.{ℕ, zero, suc, _+_, _*_, _/_, _%_, _≤_, _<_}
+use Prim.Native.Nat.{ℕ, zero, suc, _/_, _%_, _<_}
 use native.Mathlib.Omega.{arith}
 use Rattle.script.specs.Answers.{numberOf, placeOf, kindOf, bitsOf, Report, typeIs, valueIs, errorAt, refusedWith, reportOfCheck, reportOfRun}
 use Rattle.script.specs.Answers.Bounds.{PlaceBelow, no-place, place-below, number-most, kind-most}
@@ -14,7 +14,7 @@ use Rattle.script.specs.declared.Refusal.{Refusal}
 use Rattle.rules.specs.Checking.Bounds.{Bounded, code, refusal}
 use Rattle.rules.specs.Running.{lentLimit}
 use Rattle.host.specs.Answers.{packed, placeField, answerOfRefusal, answerOfCheck, answerOfRun}
-use Rattle.host.specs.Bounds.{placeLimit, check-bounded, RanWithin, gave-within, failed-within, refused-within, run-within}
+use Rattle.host.specs.Texts.Bounds.{placeLimit, check-bounded, RanWithin, gave-within, failed-within, refused-within, run-within}
 use Rattle.host.specs.Texts.{checkText, runText}
 
 -- ---- how a host takes an answer apart
@@ -111,7 +111,7 @@ ran-back (gave-within {v = v} {used = used} h) =
     ap (λ (s : ℕ). ranBy s a) (status-in 0 (kindOf v) used (bitsOf v) (omega arith) few room)
     ∙ ap (λ (n : ℕ). valueIs n (valueIn a) (placeIn a)) (number-in 0 (kindOf v) used (bitsOf v) (omega arith) few room)
     ∙ ap₂ (valueIs (kindOf v)) (value-in 0 (kindOf v) used (bitsOf v) (omega arith) few room) (place-in 0 (kindOf v) used (bitsOf v) (omega arith) few room)
-ran-back (failed-within {i = i} {used = used} h) =
+ran-back (failed-within {i = i} {used = used} b h) =
     let room : used < 65536 = omega arith in
     ap (λ (s : ℕ). ranBy s (packed 2 0 used i)) (status-in 2 0 used i (omega arith) (omega arith) room)
     ∙ ap₂ errorAt (value-in 2 0 used i (omega arith) (omega arith) room) (place-in 2 0 used i (omega arith) (omega arith) room)

@@ -10,6 +10,7 @@ use Rattle.rules.specs.Checking.{pathLimit, checkTable}
 use Rattle.rules.specs.Running.{Run, runTable}
 use Rattle.text.specs.Grammar.{Meaning, means, refused, meaningOf}
 use Rattle.text.specs.OneSpelling.{tableRead}
+pub mod Bounds
 
 abbrev pub checkMeant : Meaning → Checked
 checkMeant (means es ns) = checkTable pathLimit (tableRead es ns nodeLimit entryLimit)
@@ -26,3 +27,7 @@ runMeant (refused r) values cells used = record { answer = Ran.Refused r; cells 
 -- the runner's answer to a text, and what the lent cells then hold
 unfoldable pub runText : List ℕ → List ℕ → List ℕ → ℕ → Run
 runText text values cells used = runMeant (meaningOf text) values cells used
+
+-- what a call of the runner promises of its answer and of what the lent cells then hold
+abbrev pub RanTo : Run → Ran → List ℕ → Type 0
+RanTo run r left = _≡_ {A = Run} (record { answer = r; cells = left }) run

@@ -3,8 +3,7 @@
 ghost use mathlib.Core.Path.{_≡_};
 ghost use Prim.Native.Nat.{_^_, _<_};
 ghost use Rattle.host.specs.Answers.{packed, answerOfRefusal, answerOfCheck, AnswersRun};
-ghost use Rattle.host.specs.Texts.{checkText, runText};
-ghost use Rattle.host.specs.Code.Whole.{RanTo};
+ghost use Rattle.host.specs.Texts.{checkText, runText, RanTo};
 use script::Checked;
 use script::Place;
 use script::Ran;

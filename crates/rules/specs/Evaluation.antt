@@ -4,6 +4,7 @@ pub mod Every
 pub mod Inside
 pub mod Keeps
 pub mod Laws
+pub mod Places
 use mathlib.Core.Bool.{Bool, true, false, not, _&&_, Bool·beq}
 use mathlib.Core.List.{List, [], _∷_, _++_}
 use mathlib.Core.Option.{Option, none, some}

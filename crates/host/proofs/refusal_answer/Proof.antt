@@ -1,6 +1,5 @@
 -- `host::refusal_answer` meets its contract: the number, and the place plus 1. Assumes nothing.
 use borrow.Author.Needs.{needs}
-use native.Mathlib.Omega.{arith}
 use Rattle.host.specs.Code.Packing.{refusal-nowhere, refusal-at}
 use Rattle.host.proofs.refusal_answer.Statement.{statement}
 use Rattle.host.proofs.refusal_answer.Tie as tie

@@ -3,7 +3,7 @@ use borrow.Author.Needs.{needs}
 use native.Mathlib.Omega.{arith}
 use mathlib.Core.Path.{sym, _∙_}
 use Rattle.script.specs.Answers.Bounds.{kind-most}
-use Rattle.host.specs.Bounds.{run-within, gave-count, failed-count}
+use Rattle.host.specs.Texts.Bounds.{run-within, gave-count, failed-count}
 use Rattle.host.specs.Code.Packing.{told-is, run-gave, run-failed, run-refused}
 use Rattle.host.proofs.teqharis_run.Statement.{statement}
 use Rattle.host.proofs.teqharis_run.Tie as tie

@@ -11,8 +11,8 @@ use Rattle.script.specs.declared.Ran.{Ran}
 use Rattle.script.specs.declared.Refusal.{Refusal}
 use Rattle.script.specs.declared.Value.{Value}
 use Rattle.rules.specs.Running.{Run}
-use Rattle.host.specs.Answers.{packed, refused, placeField, answerOfRefusal, done, failed, answerOfCheck, answerOfRun, AnswersRun}
-use Rattle.host.specs.Code.Whole.{RanTo}
+use Rattle.host.specs.Answers.{packed, refused, answerOfRefusal, done, failed, answerOfCheck, answerOfRun, AnswersRun}
+use Rattle.host.specs.Texts.{RanTo}
 
 -- ---- a refusal
 

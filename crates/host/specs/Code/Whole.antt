@@ -1,13 +1,11 @@
 -- The whole calls as the code makes them: what a reading into a table of the full size leaves, and the answer of each way through a call. Assumes nothing.
-use mathlib.Core.Bool.{Bool, true, false}
 use mathlib.Core.List.{List, [], _++_, append-nil}
-use mathlib.Core.Option.{Option, none, some}
+use mathlib.Core.Option.{none}
 use mathlib.Core.Path.{_≡_, refl, sym, ap, _∙_}
-use Prim.Native.Nat.{ℕ, _+_, _*_, _/_, _^_, _≤_, _<_}
+use Prim.Native.Nat.{ℕ, _+_, _*_}
 use native.Mathlib.Omega.{arith}
 use lib.ListN.{length, drop}
 use lib.Seq.{drop-length}
-use Rattle.script.specs.Answers.{kindOf, bitsOf}
 use Rattle.script.specs.Flat.{flat, nodesIn, tableIn}
 use Rattle.script.specs.Flat.Laws.{length-nodesIn, nodesIn-flat}
 use Rattle.script.specs.Limits.{nodeLimit, entryLimit, sizeOf}
@@ -19,16 +17,12 @@ use Rattle.script.specs.declared.Reading.{Reading}
 use Rattle.script.specs.declared.Refusal.{Refusal}
 use Rattle.script.specs.declared.Script.{Script}
 use Rattle.rules.specs.Checking.{pathLimit, CheckedBy}
-use Rattle.rules.specs.Running.{Run}
 use Rattle.runner.specs.Answered.{Answered}
-use Rattle.text.specs.Grammar.{Meaning, means, refused, meaningOf}
+use Rattle.text.specs.Grammar.{means, refused, meaningOf}
+use Rattle.text.specs.LowestPlace.{reading-refused}
 use Rattle.text.specs.OneSpelling.{tableRead, read-passes, read-as}
-use Rattle.text.specs.Reading.{Outcome, Left, leaves, reading, readingIn, answerOf, filled}
-use Rattle.host.specs.Texts.{checkMeant, checkText, runMeant, runText}
-
--- the answer, and what the lent cells then hold
-abbrev pub RanTo : Run → Ran → List ℕ → Type 0
-RanTo run r left = _≡_ {A = Run} (record { answer = r; cells = left }) run
+use Rattle.text.specs.Reading.{Outcome, Left, leaves, reading, readingIn, filled}
+use Rattle.host.specs.Texts.{checkText, runText, RanTo}
 
 -- ---- what a reading leaves
 
@@ -70,12 +64,8 @@ module _ (text xs es : List ℕ) (nodes : length xs ≡ 4 * nodeLimit) (entries 
         record { es = q .entries; ns = q .nodes; meaning = q .meaning; table-is = tables-same table (q .entries) (q .nodes) nodes-are entries-are (q .counts) full entries }
 
     pub was-refused : (why : Refusal) → r ≡ Reading.Refused why → meaningOf text ≡ refused why
-    unfolding readingIn reading
-    was-refused why h = go (meaningOf text) (rw (full, entries) at (sym (ap (λ (l : Left). l .answer) e)) ∙ h)
-      where
-        go : (m : Meaning) → answerOf m ≡ Reading.Refused why → m ≡ refused why
-        go (means es ns) e = let z : _≡_ {A = ℕ} 0 1 = cc in absurd (omega arith)
-        go (refused r) e = cc
+    unfolding readingIn
+    was-refused why h = reading-refused text (length (nodesIn xs)) (length es) why (omega (arith, full)) (omega (arith, entries)) (sym (ap (λ (l : Left). l .answer) e) ∙ h)
 
 -- what was read passes its tests
 pub read-tested : {text table left : List ℕ} {s : Script} → ReadTo text table left s → tableTest (tableIn table (s .nodes) left (s .entries)) ≡ none

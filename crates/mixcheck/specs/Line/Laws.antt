@@ -1,7 +1,7 @@
 -- How long a line is, and how its parts make it up. Assumes nothing.
 use mathlib.Core.Bool.{Bool, true, false}
 use mathlib.Core.List.{List, [], _∷_, _++_}
-use mathlib.Core.Path.{_≡_, refl, sym, ap, _∙_}
+use mathlib.Core.Path.{_≡_, sym, ap, _∙_}
 use Prim.Native.Nat.{ℕ, zero, suc, _+_, _/_, _%_, _≤_}
 use native.Mathlib.Omega.{arith}
 use lib.Dec.{ltb}
@@ -20,8 +20,8 @@ use Rattle.text.specs.Code.Output.{Put}
 use Rattle.text.specs.Code.Output.Laws.{put-text}
 use Rattle.text.specs.SameTable.Most.{type-length}
 use Rattle.text.specs.SameTable.Numbers.{digits-most}
-use Rattle.text.specs.Writing.{digitsIn, digits, typeText}
-use Rattle.host.specs.Bounds.{placeLimit, check-bounded}
+use Rattle.text.specs.Writing.{digitsIn, digits}
+use Rattle.host.specs.Texts.Bounds.{placeLimit, check-bounded}
 use Rattle.host.specs.Texts.{checkText}
 use Rattle.mixcheck.specs.Line.{refusedWord, dash, placeText, lineOf, lineLimit, PutLine}
 

@@ -1,9 +1,9 @@
 -- The checker's answer is a type's code, 0 to 31, or a refusal at a node of the script: every rule gives types that are, and names its own node.
 -- Assumes nothing.
 use mathlib.Core.Bool.{Bool, true, false}
-use mathlib.Core.List.{List, [], _∷_, _++_, map}
+use mathlib.Core.List.{List, [], _∷_, map}
 use mathlib.Core.Option.{Option, none, some, Option·none-ne-some, Option·some-injective}
-use mathlib.Core.Path.{_≡_, refl, subst}
+use mathlib.Core.Path.{_≡_, refl}
 use Prim.Native.Nat.{ℕ, zero, suc, _≤_, _<_}
 use native.Mathlib.Omega.{arith}
 use lib.Dec.{leb, eqb}
@@ -13,21 +13,21 @@ use Rattle.script.specs.Answers.{placeOf}
 use Rattle.script.specs.Answers.Bounds.{PlaceBelow, place-below}
 use Rattle.script.specs.Limits.{typeLimit}
 use Rattle.script.specs.Rows.{UnaryOp, notOp, refOp, getOp, BinaryOp, addOp, eqOp, andOp, setOp}
-use Rattle.script.specs.Table.{Table, nodesOf, entriesOf, tableTest}
+use Rattle.script.specs.Table.{Table, entriesOf, tableTest}
 use Rattle.script.specs.Table.Laws.{passes}
 use Rattle.script.specs.Tests.{pick}
-use Rattle.script.specs.Tree.{Expr, int, truth, var, unary, binary, ifElse, letIn, typedBlock, symBlock, root, treeOf}
-use Rattle.script.specs.Tree.Numbers.{Numbered, num-int, num-truth, num-var, num-unary, num-binary, num-if, num-let, num-typed, num-sym, numbered-root}
+use Rattle.script.specs.Tree.{Expr}
+use Rattle.script.specs.Tree.Numbers.{Numbered, num-int, num-truth, num-var, num-unary, num-binary, num-if, num-let, num-typed, num-sym, numbered-tree}
 use Rattle.script.specs.declared.Checked.{Checked}
 use Rattle.script.specs.declared.Checked.the-variants.{Accepted, Refused}
 use Rattle.script.specs.declared.Refusal.{Refusal}
 use Rattle.script.specs.declared.Refusal.the-variants.{TooManyReferences}
 use Rattle.rules.specs.Checking.{check, exec, known, checkTable}
 use Rattle.rules.specs.Evaluation.Every.{Every, noValue, oneValue, every-at, every-next, every-both}
-use Rattle.rules.specs.Paths.{Write, Path, Paths, Leaf, ends, stops, forks, ended, stopped, bind, start, assume, writeOf, write, taken, consistent, lookup, leaves}
+use Rattle.rules.specs.Paths.{Write, Path, Paths, Leaf, ends, stops, forks, ended, stopped, bind, assume, writeOf, write, taken, consistent, lookup, leaves}
 use Rattle.rules.specs.Satisfiable.{satisfiable, differentAtoms}
 use Rattle.rules.specs.Symbolic.{Formula, negation, conjunction, Origin, made, Sum, Symbolic, aWord, aTruth, aReference, typeOf, symbol, symbols, apart}
-use Rattle.rules.specs.SymbolicRules.{got, unaryExec, binaryExec, branches, atomLimit, decide, typedResult, variable, firstType, judge, verdict}
+use Rattle.rules.specs.SymbolicRules.{got, unaryExec, binaryExec, branches, atomLimit, decide, typedResult, variable, firstType, judge}
 use Rattle.rules.specs.TypedRules.{andThen, isType, unaryType, binaryType, ifType}
 
 -- ---- what is shown
@@ -305,11 +305,8 @@ codes (t ∷ ts) f = oneValue (record { most = f 0 (omega arith) }) (codes ts (�
 
 -- THE LAW: a table that passes its tests gets a type's code, or a refusal at one of its nodes
 pub table-bounded : (limit : ℕ) (t : Table) → tableTest t ≡ none → Bounded (t .nodeCount) (checkTable limit t)
-unfolding checkTable treeOf
+unfolding checkTable
 table-bounded limit t e =
     let p = passes t e in
-    let l = p .nodesLength in
-    let least = p .nodesLeast in
-    let n = subst (λ (m : ℕ). Numbered m (root (nodesOf t))) l (numbered-root (nodesOf t) (p .sound) (omega arith)) in
     let cs = codes (entriesOf t) (λ i h. p .codes i (omega (arith, h, p .entriesLength))) in
-    rw e (check-bounded limit n cs)
+    rw e (check-bounded limit (numbered-tree t e) cs)

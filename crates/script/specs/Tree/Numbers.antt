@@ -1,14 +1,15 @@
--- Every node in the tree of sound nodes has the number of one of them. Assumes nothing.
-use mathlib.Core.Bool.{Bool, true}
+-- Every node in the tree of a table has the number of one of the table's nodes. Assumes nothing.
+use mathlib.Core.Bool.{Bool}
 use mathlib.Core.List.{List}
-use mathlib.Core.Path.{_≡_}
+use mathlib.Core.Option.{none}
+use mathlib.Core.Path.{_≡_, subst}
 use Prim.Native.Nat.{ℕ, zero, suc, _≤_, _<_, pred}
 use native.Mathlib.Omega.{arith}
 use lib.ListN.{length}
 use Rattle.script.specs.Rows.{UnaryOp, BinaryOp}
-use Rattle.script.specs.Table.{wellFormed}
-use Rattle.script.specs.Table.Laws.{Sound}
-use Rattle.script.specs.Tree.{Expr, int, truth, var, unary, binary, ifElse, letIn, typedBlock, symBlock, treeAt, trees, root}
+use Rattle.script.specs.Table.{Table, nodesOf, tableTest}
+use Rattle.script.specs.Table.Laws.{Sound, passes}
+use Rattle.script.specs.Tree.{Expr, int, truth, var, unary, binary, ifElse, letIn, typedBlock, symBlock, treeAt, trees, root, treeOf}
 use Rattle.script.specs.Tree.Laws.{Unrolled, is-int, is-truth, is-var, is-unary, is-binary, is-if, is-let, is-typed, is-sym, unroll}
 use Rattle.script.specs.declared.Node.{Node}
 
@@ -41,6 +42,14 @@ module _ (ns : List Node) (s : Sound ns) where
   numbered-at zero i h l = absurd (omega arith)
   numbered-at (suc k) i h l = numbered-by l (λ j b. numbered-at k j (omega arith) (omega arith)) (unroll ns i l (s .formed i l))
 
-  pub numbered-root : 1 ≤ length ns → Numbered (length ns) (root ns)
+  numbered-root : 1 ≤ length ns → Numbered (length ns) (root ns)
   unfolding root
   numbered-root h = numbered-at (length ns) (pred (length ns)) (omega arith) (omega arith)
+
+pub numbered-tree : (t : Table) → tableTest t ≡ none → Numbered (t .nodeCount) (treeOf t)
+unfolding treeOf
+numbered-tree t e =
+    let p = passes t e in
+    let l = p .nodesLength in
+    let least = p .nodesLeast in
+    subst (λ (m : ℕ). Numbered m (root (nodesOf t))) l (numbered-root (nodesOf t) (p .sound) (omega arith))

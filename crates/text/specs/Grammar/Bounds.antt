@@ -14,12 +14,12 @@ use Rattle.script.specs.Limits.{nodeLimit, entryLimit, byteLimit}
 use Rattle.script.specs.Rows.{rowOf}
 use Rattle.script.specs.Table.{rightNode, uses, tooDeep, treeTest}
 use Rattle.script.specs.Tests.{pick, lowest, need, needNone}
-use Rattle.script.specs.Tests.Laws.{Lowest, lowest-some}
+use Rattle.script.specs.Tests.Laws.{lowest-some}
 use Rattle.script.specs.declared.Node.{Node}
 use Rattle.script.specs.declared.Refusal.{Refusal}
 use Rattle.script.specs.declared.Refusal.the-variants.{BadOperand, TooManyAt, NoNode, NotUsedOnce, TooDeep, TextTooLong}
 use Rattle.text.specs.Bytes.{lf}
-use Rattle.text.specs.Grammar.{onFirst, parts, Line, entryLine, nodeLine, lineOf, Step, goOn, stop, admit, Meaning, means, refused, unless, atEnd, lastPart, after, linesFrom, meaningOf}
+use Rattle.text.specs.Grammar.{onFirst, parts, Line, entryLine, nodeLine, lineOf, Step, goOn, stop, admit, Meaning, means, refused, unless, atEnd, after, linesFrom, meaningOf}
 
 -- a refusal at a place below m, if it is one
 pub data RefusedBelow (m : ℕ) : Meaning → Type 0 where
