@@ -18,8 +18,8 @@
  * to as many bytes as its length says. The text and the values may not overlap the cells. There is
  * no alignment to keep.
  *
- * Stack: lend a check 64 KiB and a run 32 KiB. The deepest check that was found took 64,392 bytes,
- * the deepest run 31,664. These are measured, not proved. A check's time grows with its paths:
+ * Stack: lend a check 64 KiB and a run 32 KiB. The deepest check that was found took 64,344 bytes,
+ * the deepest run 31,616. These are measured, not proved. A check's time grows with its paths:
  * docs/PERFORMANCE.md has both.
  */
 #ifndef TEQHARIS_H
