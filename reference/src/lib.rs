@@ -27,13 +27,18 @@ pub use types::type_name;
 /// 2 (without a place), 3, 33, 4, 5, 13.
 pub fn check(script: &Script) -> Result<u32, Refusal> {
     script.test()?;
+    check_tested(script)
+}
+
+/// The same of a script that passes the table's tests, as every script from [`read`] does.
+fn check_tested(script: &Script) -> Result<u32, Refusal> {
     let mut types = script.entries.clone();
     typed::type_of(script, script.root(), &mut types)
 }
 
 /// Reads a script text and checks the script.
 pub fn check_text(text: &[u8]) -> Result<u32, Refusal> {
-    check(&read(text)?)
+    check_tested(&read(text)?)
 }
 
 /// Reads a script text and runs the script. A run does not need acceptance by the checker.
@@ -43,7 +48,7 @@ pub fn run_text(
     cells: &mut [u8],
     used: u32,
 ) -> Result<Outcome, Refusal> {
-    run(&read(text)?, values, cells, used)
+    run::run_tested(&read(text)?, values, cells, used)
 }
 
 /// Gives the line that the checking program prints, its LF included.

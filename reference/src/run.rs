@@ -80,6 +80,16 @@ pub fn run(
     used: u32,
 ) -> Result<Outcome, Refusal> {
     script.test()?;
+    run_tested(script, values, cells, used)
+}
+
+/// The same of a script that passes the table's tests, as every script from [`crate::read`] does.
+pub(crate) fn run_tested(
+    script: &Script,
+    values: &[u8],
+    cells: &mut [u8],
+    used: u32,
+) -> Result<Outcome, Refusal> {
     if used > MAX_USED || cells.len() / CELL < MIN_LENT {
         return Err(Refusal::nowhere(35));
     }
