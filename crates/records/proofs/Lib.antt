@@ -1,0 +1,9 @@
+pub mod Again
+pub mod Calling
+pub mod Copied
+pub mod Counted
+pub mod Lent
+pub mod Locals
+pub mod OneNode
+pub mod Row
+pub mod Said

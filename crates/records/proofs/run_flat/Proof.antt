@@ -1,0 +1,16 @@
+-- `records::run_flat` meets its contract: the part that it lends has the length of the lent nodes. Assumes nothing.
+use borrow.Author.Needs.{needs}
+use mathlib.Core.Path.{sym}
+use Prim.Native.Nat.{_*_}
+use lib.Seq.{length-take-le}
+use Rattle.records.proofs.run_flat.Statement.{statement}
+use Rattle.records.proofs.run_flat.Tie as tie
+
+slice-aggregate-run : tie.Need-slice-aggregate-run
+slice-aggregate-run c =
+    let s = c .before .before .before .before .before in
+    let a = s .args in
+    sym (length-take-le (4 * a .lent) (a .flat .now) (s .pre))
+
+pub run-flat-spec : {M : Type 1} → statement M
+run-flat-spec = tie.close (tie.spec (λ c. search needs) slice-aggregate-run (λ c κs. search needs) (λ c. search needs) (λ c. search needs))

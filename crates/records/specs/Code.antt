@@ -1,0 +1,3 @@
+-- What the contracts of the copying functions say, and the laws of the calls.
+pub mod Copies
+pub mod Whole

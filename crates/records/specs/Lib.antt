@@ -1,0 +1,3 @@
+pub mod Code
+pub mod Demand3
+pub mod Records

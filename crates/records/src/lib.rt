@@ -1,0 +1,148 @@
+// The calls over a lent table of records: checking, running, writing and reading. Each copies the table to flat form, or from it, and ends in the call over
+// a table in flat form, which makes every refusal. `copies` copies.
+ghost use mathlib.Core.Path.{_≡_};
+ghost use Prim.Native.Nat.{_*_, _≤_};
+ghost use lib.ListN.{length, take, drop};
+ghost use Rattle.script.specs.Flat.{tableIn};
+ghost use Rattle.script.specs.Limits.{nodeLimit};
+ghost use Rattle.records.specs.Code.Copies.{places};
+ghost use Rattle.records.specs.Records.{tableOf, Checks, Runs, Writes, Reads};
+
+pub mod copies;
+
+use copies::copy_in;
+use copies::copy_out;
+use copies::lesser;
+use script::Checked;
+use script::Node;
+use script::Ran;
+use script::Reading;
+use script::Script;
+use script::Writing;
+
+// Numbers of the largest script in flat form.
+const FLAT: usize = 4 * Script::NODES;
+
+// Checks a flat table of which the first `lent` nodes are lent.
+fn check_flat(
+    flat: &[u32],
+    lent: usize,
+    nodes: usize,
+    entries: &[u32],
+    entry_count: usize,
+) -> Checked
+    requires { ⌜ 4 * lent ≤ length (now flat) ⌝ }
+    ensures { λ r. ⌜ Checks (tableIn (take (4 * lent) (now (flat .entry))) nodes (now (entries .entry)) «entry_count») r ⌝ }
+{
+    checker::check(&flat[..4 * lent], nodes, entries, entry_count)
+}
+
+// Runs a flat table of which the first `lent` nodes are lent.
+fn run_flat(
+    flat: &[u32],
+    lent: usize,
+    nodes: usize,
+    entries: &[u32],
+    entry_count: usize,
+    values: &[u8],
+    cells: &mut [u8],
+    used: u32,
+) -> Ran
+    requires { ⌜ 4 * lent ≤ length (now flat) ⌝ }
+    ensures { λ r. ⌜ Runs (tableIn (take (4 * lent) (now (flat .entry))) nodes (now (entries .entry)) «entry_count») (now (values .entry)) (now (cells .entry)) used r (now (cells .exit)) ⌝ }
+{
+    runner::run(
+        &flat[..4 * lent],
+        nodes,
+        entries,
+        entry_count,
+        values,
+        cells,
+        used,
+    )
+}
+
+// Writes a flat table of which the first `lent` nodes are lent.
+fn write_flat(
+    flat: &[u32],
+    lent: usize,
+    nodes: usize,
+    entries: &[u32],
+    entry_count: usize,
+    out: &mut [u8],
+) -> Writing
+    requires { ⌜ 4 * lent ≤ length (now flat) ⌝ }
+    ensures { λ r. ⌜ Writes (tableIn (take (4 * lent) (now (flat .entry))) nodes (now (entries .entry)) «entry_count») (now (out .entry)) r (now (out .exit)) ⌝ }
+{
+    text::writer::write(&flat[..4 * lent], nodes, entries, entry_count, out)
+}
+
+// Reads a text for `lent` places into a flat table, which has the nodes that a script can have.
+fn read_flat(text: &[u8], lent: usize, flat: &mut [u32], entries: &mut [u32]) -> Reading
+    requires { ⌜ length (now flat) ≡ 4 * nodeLimit ⌝ }
+    ensures { λ r. ⌜ Reads (now (text .entry)) lent (length (now (entries .entry))) r (places lent (now (flat .exit))) (now (entries .exit)) ⌝ }
+{
+    let n = lesser(lent, Script::NODES);
+    text::reader::read(text, &mut flat[..4 * n], entries)
+}
+
+// Checks a table: accepted with its type, or why not. Nothing lent changes.
+pub fn check(table: &[Node], nodes: usize, entries: &[u32], entry_count: usize) -> Checked
+    ensures { λ r. ⌜ Checks (tableOf (now (table .entry)) nodes (now (entries .entry)) «entry_count») r ⌝ }
+{
+    let mut flat = [0u32; FLAT];
+    let lent = copy_out(table, &mut flat);
+    check_flat(&flat, lent, nodes, entries, entry_count)
+}
+
+// Runs a table on entry values and cells in their 5-byte form, of which the first `used` cells are used: the value or the node of the error state, with
+// the used count; or why not. A run changes used cells and adds cells; a refusal changes nothing.
+pub fn run(
+    table: &[Node],
+    nodes: usize,
+    entries: &[u32],
+    entry_count: usize,
+    values: &[u8],
+    cells: &mut [u8],
+    used: u32,
+) -> Ran
+    ensures { λ r. ⌜ Runs (tableOf (now (table .entry)) nodes (now (entries .entry)) «entry_count») (now (values .entry)) (now (cells .entry)) used r (now (cells .exit)) ⌝ }
+{
+    let mut flat = [0u32; FLAT];
+    let lent = copy_out(table, &mut flat);
+    run_flat(
+        &flat,
+        lent,
+        nodes,
+        entries,
+        entry_count,
+        values,
+        cells,
+        used,
+    )
+}
+
+// Writes the text of a table into lent bytes. A refusal changes nothing lent.
+pub fn write(
+    table: &[Node],
+    nodes: usize,
+    entries: &[u32],
+    entry_count: usize,
+    out: &mut [u8],
+) -> Writing
+    ensures { λ r. ⌜ Writes (tableOf (now (table .entry)) nodes (now (entries .entry)) «entry_count») (now (out .entry)) r (now (out .exit)) ⌝ }
+{
+    let mut flat = [0u32; FLAT];
+    let lent = copy_out(table, &mut flat);
+    write_flat(&flat, lent, nodes, entries, entry_count, out)
+}
+
+// Reads a text into a lent table and a lent list of entries. Places that the script does not use, and all of them after a refusal, hold `false` and 0.
+pub fn read(text: &[u8], table: &mut [Node], entries: &mut [u32]) -> Reading
+    ensures { λ r. ⌜ Reads (now (text .entry)) (length (now (table .entry))) (length (now (entries .entry))) r (now (table .exit)) (now (entries .exit)) ⌝ }
+{
+    let mut flat = [0u32; FLAT];
+    let answer = read_flat(text, table.len(), &mut flat, entries);
+    copy_in(table, &flat);
+    answer
+}
