@@ -7,50 +7,24 @@
 // A malformed one ends the trial.
 //
 // Its line has fields parted by tabs: the name, then `accepted` and the letters of the type, or `refused`, number, and place or `-`.
-use script::Checked;
 use script::Reading;
 use script::Script;
 use trial::name_end;
 use trial::say;
+use trial::say_checked;
 use trial::say_refusal;
+use trial::tables;
 use trial::text_end;
-
-// Prints a type by its code: a letter r for each 2, then i or b.
-fn say_type(code: u32) {
-    let mut left = code;
-    while 1 < left {
-        say(b"r");
-        left -= 2;
-    }
-    if left == 0 {
-        say(b"i");
-        return;
-    }
-    say(b"b");
-}
-
-// Prints the checker's answer.
-fn say_checked(answer: Checked) {
-    match answer {
-        Checked::Accepted(code) => {
-            say(b"accepted\t");
-            say_type(code);
-        }
-        Checked::Refused(r) => {
-            say_refusal(r);
-        }
-    }
-}
 
 // Reads a text, checks it if it could be read, and prints what came of it. The line is left open.
 fn try_text(text: &[u8]) {
     let mut table = [0u32; 4 * Script::NODES];
     let mut entries = [0u32; Script::ENTRIES];
-    match text::reader::read(text, &mut table, &mut entries) {
+    match tables::read(text, &mut table, &mut entries) {
         Reading::Read(script) => {
             let nodes = script.nodes;
             let count = script.entries;
-            say_checked(checker::check(&table, nodes, &entries, count));
+            say_checked(tables::check(&table, nodes, &entries, count));
         }
         Reading::Refused(r) => {
             say_refusal(r);

@@ -1,4 +1,6 @@
 pub mod Again
+pub mod Answered
+pub mod Called
 pub mod Calling
 pub mod Copied
 pub mod Counted
@@ -7,3 +9,4 @@ pub mod Locals
 pub mod OneNode
 pub mod Row
 pub mod Said
+pub mod Sliced

@@ -11,13 +11,12 @@
 // after the run, `KIND:BITS` parted by blanks, `-` if there is none, or `?` if the used count is more than the cells lent; then `kept` if each lent byte
 // after the used cells is as it was before the run, else `touched`.
 // After a refusal: the name, `refused`, number, place or `-`, and `kept` if each lent byte is as it was; `unread` if the text was refused, and nothing run.
-mod given;
 mod outcome;
 
-use given::bytes_line;
 use outcome::try_text;
 use trial::Header;
 use trial::Number;
+use trial::given::bytes_line;
 use trial::header_at;
 use trial::name_end;
 use trial::say;

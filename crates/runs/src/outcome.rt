@@ -8,6 +8,7 @@ use trial::say_decimal;
 use trial::say_either;
 use trial::say_number;
 use trial::say_refusal;
+use trial::tables;
 
 // A byte as a number of 64 bits.
 fn wide(b: u8) -> u64
@@ -85,7 +86,7 @@ fn try_script(
     cells: &mut [u8],
     used: u32,
 ) {
-    match runner::run(table, nodes, entries, entry_count, values, cells, used) {
+    match tables::run(table, nodes, entries, entry_count, values, cells, used) {
         Ran::Gave(v, now) => {
             say(b"value");
             say_number(v.kind() as u64);
@@ -108,7 +109,7 @@ fn try_script(
 pub fn try_text(text: &[u8], values: &[u8], before: &[u8], cells: &mut [u8], used: u32) {
     let mut table = [0u32; 512];
     let mut entries = [0u32; 16];
-    match text::reader::read(text, &mut table, &mut entries) {
+    match tables::read(text, &mut table, &mut entries) {
         Reading::Read(script) => {
             let nodes = script.nodes;
             let count = script.entries;

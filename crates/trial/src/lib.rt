@@ -2,7 +2,12 @@
 ghost use Prim.Native.Nat.{_≤_, _<_};
 ghost use lib.ListN.{length};
 ghost use Rattle.trial.specs.Numbers.{largest, Within, BothWithin};
+
+pub mod given;
+pub mod tables;
+
 use libc::STDOUT_FILENO;
+use script::Checked;
 use script::Place;
 use script::Refusal;
 
@@ -149,6 +154,33 @@ pub fn say_refusal(r: Refusal) {
         }
         Place::Nowhere => {
             say(b"\t-");
+        }
+    }
+}
+
+// Prints a type by its code: a letter r for each 2, then i or b.
+fn say_type(code: u32) {
+    let mut left = code;
+    while 1 < left {
+        say(b"r");
+        left -= 2;
+    }
+    if left == 0 {
+        say(b"i");
+        return;
+    }
+    say(b"b");
+}
+
+// Prints the checker's answer.
+pub fn say_checked(answer: Checked) {
+    match answer {
+        Checked::Accepted(code) => {
+            say(b"accepted\t");
+            say_type(code);
+        }
+        Checked::Refused(r) => {
+            say_refusal(r);
         }
     }
 }

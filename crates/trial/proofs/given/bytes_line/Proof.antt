@@ -1,12 +1,12 @@
--- `runs::given::bytes_line` meets its contract: it counts the bytes that it puts into `out`. Assumes nothing.
+-- `trial::given::bytes_line` meets its contract: it counts the bytes that it puts into `out`. Assumes nothing.
 use borrow.Author.Needs.{needs}
 use mathlib.Core.Path.{_≡_, _∙_}
 use Prim.Native.Nat.{_-_}
 use native.Mathlib.Omega.{arith}
 use lib.ListN.{length, length-set}
 use Rattle.trial.specs.Numbers.{no-number, number}
-use Rattle.runs.proofs.given.bytes_line.Statement.{statement}
-use Rattle.runs.proofs.given.bytes_line.Tie as tie
+use Rattle.trial.proofs.given.bytes_line.Statement.{statement}
+use Rattle.trial.proofs.given.bytes_line.Tie as tie
 
 abbrev Inv-loop : tie.InvT-loop
 Inv-loop input at out₀ i₀ n₀ out i n = (length out ≡ length out₀)

@@ -1,7 +1,7 @@
--- `checks::say_type` is safe and ends: each turn takes 2 off. Assumes nothing.
+-- `trial::say_type` is safe and ends: each turn takes 2 off. Assumes nothing.
 use borrow.Author.Needs.{needs}
-use Rattle.checks.proofs.say_type.Statement.{statement}
-use Rattle.checks.proofs.say_type.Tie as tie
+use Rattle.trial.proofs.say_type.Statement.{statement}
+use Rattle.trial.proofs.say_type.Tie as tie
 
 abbrev Inv-loop : tie.InvT-loop
 Inv-loop code left₀ t3 t4 t5 left = Unit {0}

@@ -1,8 +1,8 @@
-// What a stored run gives after its header: lines of bytes.
+// What a stored trial gives after its header: lines of bytes.
 ghost use lib.ListN.{length};
 ghost use Rattle.trial.specs.Numbers.{Within};
-use trial::Number;
-use trial::number_until;
+use crate::Number;
+use crate::number_until;
 
 // A byte of a line and what comes after it: where the next byte starts, or where the next line does; or not of the form.
 pub enum Byte {
