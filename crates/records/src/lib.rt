@@ -2,7 +2,7 @@
 // a table in flat form, which makes every refusal. `copies` copies.
 ghost use mathlib.Core.Path.{_≡_};
 ghost use Prim.Native.Nat.{_*_, _≤_};
-ghost use lib.ListN.{length, take, drop};
+ghost use lib.ListN.{length, take};
 ghost use Rattle.script.specs.Flat.{tableIn};
 ghost use Rattle.script.specs.Limits.{nodeLimit};
 ghost use Rattle.records.specs.Code.Copies.{places};

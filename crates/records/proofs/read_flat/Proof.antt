@@ -3,7 +3,7 @@ use borrow.Author.Needs.{needs}
 use mathlib.Core.Path.{sym}
 use Prim.Native.Nat.{_*_}
 use native.Mathlib.Omega.{arith}
-use lib.Seq.{length-take-le, length-front}
+use lib.Seq.{length-take-le}
 use Rattle.records.specs.Code.Whole.{read-left}
 use Rattle.records.proofs.read_flat.Statement.{statement}
 use Rattle.records.proofs.read_flat.Tie as tie

@@ -5,7 +5,7 @@ use mathlib.Core.List.{List, [], _++_, append-assoc, append-nil}
 use mathlib.Core.Logic.{_⊎_, inl, inr}
 use mathlib.Core.Option.{Option, none, some}
 use mathlib.Core.Path.{_≡_, refl, sym, ap, _∙_}
-use Prim.Native.Nat.{ℕ, _+_, _-_, _*_, _/_, _≤_, _<_, min}
+use Prim.Native.Nat.{ℕ, _+_, _-_, _*_, _/_, _≤_, min}
 use native.Mathlib.Omega.{arith}
 use lib.Dec.{leb, ltb}
 use lib.ListN.{length, take, drop, replicate, length-append, length-replicate, replicate-append-replicate, drop-of-length-le}
@@ -31,7 +31,7 @@ use Rattle.rules.specs.Evaluation.{eval}
 use Rattle.rules.specs.Running.{valuesOf, finished, ranBy, runTest, runTable}
 use Rattle.text.specs.Grammar.{Meaning, means, refused, meaningOf}
 use Rattle.text.specs.OneSpelling.{tableRead, read-passes}
-use Rattle.text.specs.Reading.{Outcome, outcomeOf as readTo, nodesRead, filled, tried, reading, leaves, leftBy, readingIn}
+use Rattle.text.specs.Reading.{outcomeOf as readTo, nodesRead, filled, tried, reading, leaves, leftBy, readingIn}
 use Rattle.text.specs.Writing.{textOf, outcomeOf, writing}
 use Rattle.records.specs.Code.Copies.{CopiedOut, places}
 use Rattle.records.specs.Code.Copies.Laws.{length-front}
@@ -210,14 +210,22 @@ module _ (text : List ℕ) (lent : ℕ) (xs es : List ℕ) (n : ℕ) (size : len
           let k : n ≡ lent = omega arith in
           (rw k refl, inl k)
 
-  pub read-left : (r : Reading) (ys es′ : List ℕ) → leaves r ys es′ ≡ readingIn text (take (4 * n) xs) es → Reads text lent m r (places lent (ys ++ drop (4 * n) xs)) es′
-  unfolding reading
-  read-left r ys es′ e =
-      let t = tried text n m in
-      let w : leaves r ys es′ ≡ leftBy (readTo t n m) [] = e ∙ left-first in
-      let numbers : ys ≡ flat (filled (nodesRead t) n unused) = ap (λ l. l .table) w ∙ append-nil (flat (filled (nodesRead t) n unused)) in
-      let nodes : places lent (ys ++ drop (4 * n) xs) ≡ filled (nodesRead t) lent unused =
-      ap (λ zs. places lent (zs ++ drop (4 * n) xs)) numbers ∙ places-left (nodesRead t) n lent (drop (4 * n) xs) (tried-most text n m) (omega arith) (first-or-all .1) in
-      let made : Reads text lent m r (places lent (ys ++ drop (4 * n) xs)) es′ =
-      (λ i. record { answer = ap (λ l. l .answer) w i; lentNodes = nodes i; lentEntries = ap (λ l. l .entries) w i }) ∙ ap (λ u. readTo u lent m) (first-or-all .0) in
-      made
+  module _ (r : Reading) (ys es′ : List ℕ) (e : leaves r ys es′ ≡ readingIn text (take (4 * n) xs) es) where
+    abbrev t : Meaning
+    t = tried text n m
+
+    whole : leaves r ys es′ ≡ leftBy (readTo t n m) []
+    unfolding reading
+    whole = e ∙ left-first
+
+    nodes-left : places lent (ys ++ drop (4 * n) xs) ≡ filled (nodesRead t) lent unused
+    nodes-left =
+        let numbers : ys ≡ flat (filled (nodesRead t) n unused) = ap (λ l. l .table) whole ∙ append-nil (flat (filled (nodesRead t) n unused)) in
+        ap (λ zs. places lent (zs ++ drop (4 * n) xs)) numbers
+        ∙ places-left (nodesRead t) n lent (drop (4 * n) xs) (tried-most text n m) (omega arith) (first-or-all .1)
+
+    pub read-left : Reads text lent m r (places lent (ys ++ drop (4 * n) xs)) es′
+    unfolding reading
+    read-left =
+        (λ i. record { answer = ap (λ l. l .answer) whole i; lentNodes = nodes-left i; lentEntries = ap (λ l. l .entries) whole i })
+        ∙ ap (λ u. readTo u lent m) (first-or-all .0)
