@@ -1,6 +1,5 @@
 pub mod Again
 pub mod Answered
-pub mod Called
 pub mod Calling
 pub mod Copied
 pub mod Counted

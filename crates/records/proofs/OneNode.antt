@@ -33,7 +33,6 @@ use denote.Ref.{RefT, now}
 use denote.Slice.{sliceVal, MutSlice, ShrSlice, Room, shr-slice-copy}
 use denote.Signature.{plain, shrSliceOf, mutSliceOf}
 use denote.Steps.{only, owned, peeks, facts, heard, nothing}
-use denote.Struct.Laws as LL
 use denote.Triple.Statement.{Contract, Triple, FmF}
 use denote.Triple.Call.{calls-from}
 use denote.Triple.Spec.{tripleOf}
@@ -42,6 +41,7 @@ use Rattle.script.specs.declared.Node.{Node}
 use Rattle.script.proofs.Node as T
 use Rattle.script.proofs.Node.Laws as T′
 use Rattle.records.proofs.Again.{LentAgain, lends-again, comes-back}
+use Rattle.records.proofs.Row.{makes, typed}
 
 module _ (R : RattleType) where
   abbrev pub Taking : Ended
@@ -145,8 +145,8 @@ module _ {M : Type 1} (𝓤 : URA M) (H : Heap 𝓤) (A : Atoms 𝓤) (W : Given
       -- what is passed
       lent : (ν : ℕ) (δ : GName) → AskedAt → ent 𝓤 (sep 𝓤 (A .lft (ν ∷ []) fullShare) (sem 𝓤 H A (own-held R (ν ∷ []) (at-list δ ys) (length ys)))) (Put .pre (to-put ν δ))
       lent ν δ asked =
-          qed W (‵ (flft (ν ∷ []) fullShare) ∷ ‵ (own-held R (ν ∷ []) (at-list δ ys) (length ys)) ∷ []) ∵ nothing ! $ owned ! T.the-row (Is T.the-row)
-          (LL.makes T.the-type T′.the-plain 𝓤 H A) n _ is $ fjoin ! $
+          qed W (‵ (flft (ν ∷ []) fullShare) ∷ ‵ (own-held R (ν ∷ []) (at-list δ ys) (length ys)) ∷ []) ∵
+          nothing ! $ owned ! T.the-row (Is T.the-row) (makes 𝓤 H A) n _ is $ fjoin ! $
           owned ! usize (Is usize) (uint-makes 𝓤 H A W w64) i _ (refl, i-fits) $ fjoin ! $ move ! (2 ∷ 0 ∷ []) $ fjoin ! $ nothing ! $ move ! (2 ∷ 0 ∷ []) $ join ! $ join ! $
           use0 W (raw (c (ν ∷ [], tt) (at-list δ ys, (i, (n, tt))) .requires (g ν δ))) (asked ν δ) $ move ! (1 ∷ 0 ∷ []) $ join ! $ done !
 
@@ -187,7 +187,7 @@ module _ {M : Type 1} {𝓤 : URA M} {H : Heap 𝓤} {A : Atoms 𝓤} {K : Type 
       → Opds K W (Shared R 𝓤 κ q x ∷ Γ) E os vs → ((w : Val) → Is T.the-row n (w ∷ []) → Holds (hasTy T′.mir w) × WT w → Seq K W (Shared R 𝓤 κ q x ∷ Γ) (lands C Λ E d w rest ϕ))
       → Seq K W (Shared R 𝓤 κ q x ∷ Γ) (runs C Λ E (seq (call f os d) rest) ϕ)
   taking t fm R κ q x n vs met reads k = calls-from t fm (Shared R 𝓤 κ q x) vs (λ w. mean 𝓤 H A (Taken R 𝓤 κ q x n w)) met reads (λ w.
-      use1 W (Taken R 𝓤 κ q x n w) (id⊢ 𝓤 _) $ await t tt $ learn t (λ is. k w is (LL.lawful T.the-type T′.the-laws 𝓤 H A W .typed n _ is .0)))
+      use1 W (Taken R 𝓤 κ q x n w) (id⊢ 𝓤 _) $ await t tt $ learn t (λ is. k w is (typed 𝓤 H A W n _ is)))
 
   pub putting : K → FmC 𝓤 H (W .laws) C → (R : RattleType) (κ : Lft) (q : Share) (b o : ℕ) (γ : GName) (k : ℕ) (ys zs : List (R .Denot)) (vs : List Val)
       → ent 𝓤 (mean 𝓤 H A (Held R 𝓤 κ q b o γ k ys)) (H .⇛ (C f vs (λ w. mean 𝓤 H A (Back R 𝓤 κ q b o γ k zs w))))

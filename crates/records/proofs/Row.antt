@@ -33,5 +33,5 @@ module _ {M : Type 1} (𝓤 : URA M) (H : Heap 𝓤) (A : Atoms 𝓤) where
     pub copies : Copy 𝓤 H A T.the-row
     copies = LL.copy T.the-type T′.the-copy 𝓤 H A W
 
-    pub typed : (n : Node) → Is T.the-row n (vals n) → Holds (hasTy T′.mir (T′.lowered n)) × WT (T′.lowered n)
-    typed n g = LL.lawful T.the-type T′.the-laws 𝓤 H A W .typed n _ g .0
+    pub typed : (n : Node) (v : Val) → Is T.the-row n (v ∷ []) → Holds (hasTy T′.mir v) × WT v
+    typed n v g = LL.lawful T.the-type T′.the-laws 𝓤 H A W .typed n _ g .0

@@ -36,7 +36,7 @@ use Rattle.script.specs.declared.Node.{Node}
 use Rattle.script.proofs.Node as T
 use Rattle.script.proofs.Node.Laws as T′
 use Rattle.records.specs.Code.Copies.{places}
-use Rattle.records.proofs.Called.{called}
+use Rattle.records.proofs.Calling.{called}
 use Rattle.records.proofs.Lent.{Elems, refAt, made, counts, back-mut}
 use Rattle.records.proofs.Locals.{at-spot}
 use Rattle.records.proofs.Row as Row
@@ -87,8 +87,8 @@ module _ {M : Type 1} {𝓤 : URA M} {H : Heap 𝓤} {A : Atoms 𝓤} {K : Type 
       → Seq K W (‵ (froom (Records n) lf 0) ∷ ‵ (froom (tyRef erased mut (RecordsAt n)) lm 0) ∷ ‵ (froom (sliceTy (tyRef erased mut RecordAt)) ls 0) ∷ ‵ (froom T′.mir li 0) ∷ Γ)
       (runs C Λ E (staling n f i m s rest) p)
   begins t n room at-f at-i at-m at-s k =
-      assigns t (agg t (and-then t (lit t tt) (and-then t (lit t tt) (and-then t (lit t tt) (and-then t (lit t tt) (no-more t)))))) (at-spot t at-i) (init t 3 refl (Row.typed 𝓤 H A W stale is-stale)) $
-      made t T.the-row tt (Row.copies 𝓤 H A W) stale (T′.lowered stale) (Row.typed 𝓤 H A W stale is-stale) (Row.makes 𝓤 H A stale _ is-stale) n (load t (at-spot t at-i) (look t 3 refl)) (at-spot t at-f) $
+      assigns t (agg t (and-then t (lit t tt) (and-then t (lit t tt) (and-then t (lit t tt) (and-then t (lit t tt) (no-more t)))))) (at-spot t at-i) (init t 3 refl (Row.typed 𝓤 H A W stale _ is-stale)) $
+      made t T.the-row tt (Row.copies 𝓤 H A W) stale (T′.lowered stale) (Row.typed 𝓤 H A W stale _ is-stale) (Row.makes 𝓤 H A stale _ is-stale) n (load t (at-spot t at-i) (look t 3 refl)) (at-spot t at-f) $
       counts t T.the-row n (replicate n stale) lf 0 (λ len. sliced-mut t T.the-row n room (replicate n stale) at-f at-m at-s (k (replicate n stale) len))
 
 -- ---- the call of `copy_in`
@@ -121,7 +121,7 @@ module _ {M : Type 1} {𝓤 : URA M} {H : Heap 𝓤} {A : Atoms 𝓤} {K : Type 
       -- [the slice; its token; the lender's part; _m; _s; _i; room for _u, _m′ and _s′; _1; flat's token; what flat owns; …]
       nothing t $ nothing t $ move t (3 ∷ 12 ∷ 0 ∷ 2 ∷ 13 ∷ []) $
       called t fm copy-in.ended (copy-in.clauses 𝓤 H A mem run) known (to-copy 𝓤 H A mem run κ q flat v n lf ns α γ) (‵ (flft (α ∷ []) fullShare) ∷ ‵ (flft κ q) ∷ ‵ ftrue ∷ []) (_ ∷ _ ∷ ‵ ftrue ∷ [])
-      (id⊢ 𝓤 _) (id⊢ 𝓤 _) (and-then t (load t (at-spot t at-s) (look t 3 refl)) (and-then t (load t (at-spot t at-1) (look t 8 refl)) (no-more t))) (λ w r zs e.
+      (id⊢ 𝓤 _) (id⊢ 𝓤 _) (id⊢ 𝓤 _) (and-then t (load t (at-spot t at-s) (look t 3 refl)) (and-then t (load t (at-spot t at-1) (look t 8 refl)) (no-more t))) (λ w r zs e.
       heard t (zs .0 ≡ places (length ns) (flat .now)) (λ is.
       -- [the slice's token; flat's; true; what the unit owns; what says the last list; the lender's part; _m; _s; _i; room for _u, _m′ and _s′; _1; …]
       land t (at-spot t at-u) (init t 9 refl (nothing-lawful 𝓤 H A W .typed r _ e .0)) $ rewrite t 9 (λ (y : Val). ‵ (fat fullShare tyUnit lu 0 y)) (ap only e) refl $
