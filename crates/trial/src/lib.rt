@@ -1,4 +1,5 @@
-// What the programs that try the other crates share: the headers, names and texts in their input, and what they print.
+// What the programs that try the other crates share: the headers, names and texts in their input, and what they print. `given` has lines of bytes, `tables` the
+// calls over a table of records.
 ghost use Prim.Native.Nat.{_≤_, _<_};
 ghost use lib.ListN.{length};
 ghost use Rattle.trial.specs.Numbers.{largest, Within, BothWithin};
