@@ -7,16 +7,16 @@ use mathlib.Core.Option.{Option, none, some}
 use mathlib.Core.Path.{_≡_, refl, sym, ap, _∙_}
 use Prim.Native.Nat.{ℕ, _+_, _-_, _*_, _/_, _≤_, min}
 use native.Mathlib.Omega.{arith}
-use lib.Dec.{leb, ltb}
-use lib.ListN.{length, take, drop, replicate, length-append, length-replicate, replicate-append-replicate, drop-of-length-le}
+use lib.Dec.{leb}
+use lib.ListN.{length, take, drop, replicate, replicate-append-replicate, drop-of-length-le}
 use lib.Seq.{length-take-le, take-at, take-all, take-take}
 use borrow.Author.Tests.{le-leb, leb-true, leb-false}
 use Rattle.script.specs.Flat.{flat, nodesIn, tableIn}
 use Rattle.script.specs.Flat.Laws.{length-nodesIn, nodesIn-flat}
-use Rattle.script.specs.Limits.{nodeLimit, entryLimit, typeLimit}
-use Rattle.script.specs.Table.{unused, nodesTest, tableTest}
+use Rattle.script.specs.Limits.{nodeLimit, entryLimit}
+use Rattle.script.specs.Table.{unused, tableTest}
 use Rattle.script.specs.Table.Laws.{passes}
-use Rattle.script.specs.Tests.{pick, all, need}
+use Rattle.script.specs.Tests.{pick}
 use Rattle.script.specs.Tests.Laws.{both-true}
 use Rattle.script.specs.Tree.{root, treeOf}
 use Rattle.script.specs.declared.Checked.{Checked}
@@ -24,7 +24,7 @@ use Rattle.script.specs.declared.Node.{Node}
 use Rattle.script.specs.declared.Ran.{Ran}
 use Rattle.script.specs.declared.Reading.{Reading}
 use Rattle.script.specs.declared.Refusal.{Refusal}
-use Rattle.script.specs.declared.Refusal.the-variants.{TableTooSmall, TooMany, NoNode, BadTypeCode}
+use Rattle.script.specs.declared.Refusal.the-variants.{TableTooSmall}
 use Rattle.script.specs.declared.Writing.{Writing}
 use Rattle.rules.specs.Checking.{pathLimit, check, answered, checkTable}
 use Rattle.rules.specs.Evaluation.{eval}
@@ -34,7 +34,7 @@ use Rattle.text.specs.OneSpelling.{tableRead, read-passes}
 use Rattle.text.specs.Reading.{outcomeOf as readTo, nodesRead, filled, tried, reading, leaves, leftBy, readingIn}
 use Rattle.text.specs.Writing.{textOf, outcomeOf, writing}
 use Rattle.records.specs.Code.Copies.{CopiedOut, places}
-use Rattle.records.specs.Code.Copies.Laws.{length-front}
+use Rattle.records.specs.Code.Copies.Laws.{length-front, filled-length}
 use Rattle.records.specs.Records.{tableOf, Checks, Runs, Writes, Reads}
 
 nodesIn-none : (ns : List Node) → ns ++ nodesIn [] ≡ ns
@@ -73,29 +73,17 @@ module _ (ns ms : List Node) (n : ℕ) (es : List ℕ) (m : ℕ) where
 
 -- the places from the 129th on do not count
 module _ (ns : List Node) (n : ℕ) (es : List ℕ) (m : ℕ) where
-  -- the tests, by whether there are enough places, whether there are few enough nodes, and the used nodes
-  tests : Bool → Bool → List Node → Option Refusal
-  tests enough few ks =
-      need (enough && leb entryLimit (length es)) TableTooSmall
-      (need (few && leb m entryLimit) TooMany (need (ltb 0 n) NoNode (need (all (λ c. leb c typeLimit) (take m es)) BadTypeCode (nodesTest ks))))
-
-  tests-are : (ks : List Node) → tableTest (tableOf ks n es m) ≡ tests (leb nodeLimit (length ks)) (leb n nodeLimit) (take n ks)
-  unfolding tableTest tests
-  tests-are ks = refl
-
-  first-few : (b : Bool) → leb n nodeLimit ≡ b → tests true b (take n (take nodeLimit ns)) ≡ tests true b (take n ns)
-  unfolding tests
-  first-few true e = ap (tests true true) (take-take n nodeLimit ns (leb-true n nodeLimit e))
-  first-few false e = refl
+  first-test : nodeLimit ≤ length ns → (b : Bool) → leb n nodeLimit ≡ b → tableTest (tableOf (take nodeLimit ns) n es m) ≡ tableTest (tableOf ns n es m)
+  unfolding tableTest
+  first-test h true e =
+      let l = length-take-le nodeLimit ns h in
+      rw (le-leb nodeLimit (length (take nodeLimit ns)) (omega arith), le-leb nodeLimit (length ns) h, take-take n nodeLimit ns (leb-true n nodeLimit e)) refl
+  first-test h false e =
+      let l = length-take-le nodeLimit ns h in
+      rw (le-leb nodeLimit (length (take nodeLimit ns)) (omega arith), le-leb nodeLimit (length ns) h, e) refl
 
   first-alike : nodeLimit ≤ length ns → Alike (take nodeLimit ns) ns n es m
-  first-alike h =
-      let l = length-take-le nodeLimit ns h in
-      let enough : (ks : List Node) → nodeLimit ≤ length ks → tableTest (tableOf ks n es m) ≡ tests true (leb n nodeLimit) (take n ks) = λ ks k. tests-are ks ∙ ap (λ b. tests b (leb n nodeLimit) (take n ks)) (le-leb nodeLimit (length ks) k) in
-      record {
-        test = enough (take nodeLimit ns) (omega arith) ∙ first-few (leb n nodeLimit) refl ∙ sym (enough ns h);
-        nodes = λ e. take-take n nodeLimit ns (passes (tableOf (take nodeLimit ns) n es m) e .nodesMost);
-      }
+  first-alike h = record { test = first-test h (leb n nodeLimit) refl; nodes = λ e. take-take n nodeLimit ns (passes (tableOf (take nodeLimit ns) n es m) e .nodesMost) }
 
   -- all places, or the first 128
   lent-alike : (lent : ℕ) → lent ≡ min (length ns) nodeLimit → Alike (take lent ns) ns n es m
@@ -145,16 +133,10 @@ module _ (ns : List Node) (xs : List ℕ) (lent : ℕ) (left : List ℕ) (size :
 -- ---- a reading
 
 module _ (ns : List Node) where
-  filled-length : (n : ℕ) → length ns ≤ n → length (filled ns n unused) ≡ n
-  filled-length n h =
-      let a = length-append ns (replicate (n - length ns) unused) in
-      let r = length-replicate (n - length ns) unused in
-      omega arith
-
   filled-on : (n lent : ℕ) → length ns ≤ n → n ≤ lent → filled (filled ns n unused) lent unused ≡ filled ns lent unused
   filled-on n lent h l =
       let k : (n - length ns) + (lent - n) ≡ lent - length ns = omega arith in
-      rw (filled-length n h)
+      rw (filled-length ns n h)
       (append-assoc ns (replicate (n - length ns) unused) (replicate (lent - n) unused)
       ∙ ap (_++_ ns) (replicate-append-replicate (n - length ns) (lent - n) unused ∙ ap (λ i. replicate i unused) k))
 
@@ -163,9 +145,9 @@ module _ (ns : List Node) where
   places-left n lent zs h l d = ap (λ ks. filled (take lent ks) lent unused) (nodesIn-flat (filled ns n unused) zs) ∙ ap (λ ks. filled ks lent unused) (first d) ∙ filled-on n lent h l
     where
       first : (n ≡ lent) ⊎ (zs ≡ []) → take lent (filled ns n unused ++ nodesIn zs) ≡ filled ns n unused
-      first (inl e) = take-at (filled ns n unused) (nodesIn zs) lent (filled-length n h ∙ e)
+      first (inl e) = take-at (filled ns n unused) (nodesIn zs) lent (filled-length ns n h ∙ e)
       first (inr e) =
-          let f = filled-length n h in
+          let f = filled-length ns n h in
           ap (λ z. take lent (filled ns n unused ++ nodesIn z)) e ∙ ap (take lent) (nodesIn-none (filled ns n unused)) ∙ take-all lent (filled ns n unused) (omega arith)
 
 -- a text has at most 128 nodes

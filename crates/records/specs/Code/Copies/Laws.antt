@@ -35,37 +35,27 @@ length-copied ns xs i h l =
     let d = length-drop (4 * i) xs in
     omega arith
 
-four : Node → List ℕ
+abbrev four : Node → List ℕ
 four n = n .kind ∷ n .a ∷ n .b ∷ n .c ∷ []
 
 flat-one : (n : Node) → flat (n ∷ []) ≡ four n
-unfolding flat four
+unfolding flat
 flat-one n = refl
 
 -- the first i nodes and one more
 front-next : (ns : List Node) (i : ℕ) → i < length ns → flat (take (suc i) ns) ≡ flat (take i ns) ++ four (nodeAt ns i)
 front-next ns i h = ap flat (take-suc ns i unused h) ∙ flat-append (take i ns) (nodeAt ns i ∷ []) ∙ ap (_++_ (flat (take i ns))) (flat-one (nodeAt ns i))
 
-length-four : (n : Node) → length (four n) ≡ 4
-unfolding four
-length-four n = refl
-
-store-next : (ns : List Node) (xs : List ℕ) (i : ℕ) → i < length ns → 4 * i + 3 < length xs → sets (copied ns i xs) (4 * i) (four (nodeAt ns i)) ≡ copied ns (suc i) xs
-store-next ns xs i h l =
-    let F = flat (take i ns) in
-    let n = nodeAt ns i in
-    let f : length F ≡ 4 * i = length-front ns i (omega arith) in
-    let s = length-copied ns xs i (omega arith) (omega arith) in
-    let v = length-four n in
-    let k : 4 * i + length (four n) ≡ length F + 4 = omega arith in
-    let e : 4 * i + 4 ≡ 4 * suc i = omega arith in
-    sets-eq (four n) (copied ns i xs) (4 * i) (omega arith)
-    ∙ rw (k, take-at F (drop (4 * i) xs) (4 * i) f, drop-append-add F (drop (4 * i) xs) 4, drop-drop 4 (4 * i) xs, e, front-next ns i h) refl
-
 pub copied-next : (ns : List Node) (xs : List ℕ) (i : ℕ) → i < length ns → 4 * i + 3 < length xs
     → sets (copied ns i xs) (4 * i) (nodeAt ns i .kind ∷ nodeAt ns i .a ∷ nodeAt ns i .b ∷ nodeAt ns i .c ∷ []) ≡ copied ns (suc i) xs
-unfolding four
-copied-next ns xs i h l = store-next ns xs i h l
+copied-next ns xs i h l =
+    let F = flat (take i ns) in
+    let f : length F ≡ 4 * i = length-front ns i (omega arith) in
+    let s = length-copied ns xs i (omega arith) (omega arith) in
+    let k : 4 * i + 4 ≡ length F + 4 = omega arith in
+    let e : 4 * i + 4 ≡ 4 * suc i = omega arith in
+    sets-eq (four (nodeAt ns i)) (copied ns i xs) (4 * i) (omega arith)
+    ∙ rw (take-at F (drop (4 * i) xs) (4 * i) f, k, drop-append-add F (drop (4 * i) xs) 4, drop-drop 4 (4 * i) xs, e, front-next ns i h) refl
 
 -- what is copied has room
 pub copied-fits : (ns : List Node) (xs : List ℕ) (r : ℕ) (left : List ℕ) → CopiedOut ns xs r left → 4 * r ≤ length left
@@ -76,32 +66,23 @@ copied-fits ns xs r left c =
 
 -- ---- flat form to records
 
--- n places: the first of ns, and `false` after them
-padded : ℕ → List Node → List Node
-padded n ns = filled (take n ns) n unused
-
-length-padded : (n : ℕ) (ns : List Node) → length (padded n ns) ≡ n
-unfolding padded
-length-padded n ns =
-    let a = length-append (take n ns) (replicate (n - length (take n ns)) unused) in
-    let r = length-replicate (n - length (take n ns)) unused in
-    let t = length-take n ns in
+pub filled-length : (ns : List Node) (n : ℕ) → length ns ≤ n → length (filled ns n unused) ≡ n
+filled-length ns n h =
+    let a = length-append ns (replicate (n - length ns) unused) in
+    let r = length-replicate (n - length ns) unused in
     omega arith
 
-padded-at : (n : ℕ) (ns : List Node) (i : ℕ) → i < n → nodeAt (padded n ns) i ≡ nodeAt ns i
-unfolding padded
-padded-at zero ns i h = absurd (omega arith)
-padded-at (suc n) [] i h = getD-replicate (suc n - 0) i unused unused (omega arith)
-padded-at (suc n) (x ∷ ns) zero h = refl
-padded-at (suc n) (x ∷ ns) (suc i) h = rw (suc-sub-suc n (length (take n ns))) (padded-at n ns i (omega arith))
-
 pub length-places : (n : ℕ) (xs : List ℕ) → length (places n xs) ≡ n
-unfolding padded
-length-places n xs = length-padded n (nodesIn xs)
+length-places n xs =
+    let t = length-take n (nodesIn xs) in
+    filled-length (take n (nodesIn xs)) n (omega arith)
 
-places-at : (n : ℕ) (xs : List ℕ) (i : ℕ) → i < n → nodeAt (places n xs) i ≡ nodeAt (nodesIn xs) i
-unfolding padded
-places-at n xs i h = padded-at n (nodesIn xs) i h
+-- the first n of ns, and `false` after them
+filled-at : (n : ℕ) (ns : List Node) (i : ℕ) → i < n → nodeAt (filled (take n ns) n unused) i ≡ nodeAt ns i
+filled-at zero ns i h = absurd (omega arith)
+filled-at (suc n) [] i h = getD-replicate (suc n - 0) i unused unused (omega arith)
+filled-at (suc n) (x ∷ ns) zero h = refl
+filled-at (suc n) (x ∷ ns) (suc i) h = rw (suc-sub-suc n (length (take n ns))) (filled-at n ns i (omega arith))
 
 pub placed-start : (xs : List ℕ) (ns : List Node) → placed xs ns 0 ≡ ns
 placed-start xs ns = refl
@@ -114,7 +95,7 @@ placed-next xs ns i h =
     ap (λ ys. set (take i P ++ ys) i v) (drop-cons ns i unused h)
     ∙ set-at (take i P) (nodeAt ns i) (drop (suc i) ns) v i (length-take-le i P (omega arith))
     ∙ sym (append-snoc (take i P) v (drop (suc i) ns))
-    ∙ ap (λ w. take i P ++ (w ∷ []) ++ drop (suc i) ns) (sym (places-at (length ns) xs i h))
+    ∙ ap (λ w. take i P ++ (w ∷ []) ++ drop (suc i) ns) (sym (filled-at (length ns) (nodesIn xs) i h))
     ∙ ap (λ ys. ys ++ drop (suc i) ns) (sym (take-suc P i unused (omega arith)))
 
 pub placed-end : (xs : List ℕ) (ns : List Node) → placed xs ns (length ns) ≡ places (length ns) xs
