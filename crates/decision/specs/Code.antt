@@ -28,9 +28,9 @@ pub record Room (ws : List ℕ) (n : ℕ) (ms : List ℕ) : Type 0 where
 
 -- ---- marks
 
--- below which row an operand of a marked row lies that the operators from `least` to 6 have
+-- below which row an operand of a marked row lies that the operators from `least` to 7 have
 unfoldable pub operandBelow : ℕ → ℕ → ℕ → ℕ → ℕ
-operandBelow least op mark i = pick (eqb mark 0) 0 (pick (ltb op least) 0 (pick (ltb 6 op) 0 i))
+operandBelow least op mark i = pick (eqb mark 0) 0 (pick (ltb op least) 0 (pick (ltb 7 op) 0 i))
 
 unfoldable pub reached : List ℕ → ℕ → ℕ → List ℕ
 reached ms a below = pick (leb below a) ms (set ms a 1)
@@ -47,7 +47,7 @@ marked ws (suc j) ms = marked ws j (markRow ms (rowIn ws j) j)
 -- ---- atoms
 
 unfoldable pub seenAfter : ℕ → ℕ → ℕ → ℕ
-seenAfter op mark seen = pick (eqb mark 0) seen (pick (ltb op 7) seen (seen + 1))
+seenAfter op mark seen = pick (eqb mark 0) seen (pick (ltb op 8) seen (seen + 1))
 
 -- how many of the first rows are marked atoms: the number of the next one
 unfoldable pub rank : List ℕ → List ℕ → ℕ → ℕ
@@ -78,11 +78,12 @@ patternOf (suc (suc (suc (suc (suc (suc (suc (suc (suc m))))))))) block = spread
 -- a row whose operands are x and y, where atom m is the next one
 unfoldable pub rowWord : Row → ℕ → ℕ → ℕ → ℕ → ℕ
 rowWord r x y m block =
-    pick (leb 7 (r .op)) (patternOf m block)
+    pick (leb 8 (r .op)) (patternOf m block)
+    (pick (eqb (r .op) 7) (bitAnd x (ones - y))
     (pick (eqb (r .op) 6) (ones - bitXor x y)
     (pick (eqb (r .op) 5) (bitAnd x y)
     (pick (eqb (r .op) 4) (ones - x)
-    (pick (eqb (r .op) 3) (spreadOf (r .a)) 0))))
+    (pick (eqb (r .op) 3) (spreadOf (r .a)) 0)))))
 
 -- a row by the words of the rows before
 unfoldable pub wordOf : List ℕ → Row → ℕ → ℕ → ℕ → ℕ

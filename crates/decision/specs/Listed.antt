@@ -17,7 +17,7 @@ use Rattle.rules.specs.Satisfiable.{atomsOf, among}
 use Rattle.rules.specs.Satisfiable.Laws.{among-same}
 use Rattle.rules.specs.Symbolic.{Atom, Formula, sameAtom}
 use Rattle.rules.specs.Symbolic.Laws.{sameAtom-refl}
-use Rattle.terms.specs.Terms.{rowIn, countIn, constantRow, atomRow, negationRow, conjunctionRow, equalityRow, AtomRow, Distinct}
+use Rattle.terms.specs.Terms.{rowIn, countIn, constantRow, atomRow, negationRow, conjunctionRow, equalityRow, exclusionRow, AtomRow, Distinct}
 use Rattle.decision.specs.Atoms.{Apart, apart-none, apart-more, same-turned, atom-one, assign}
 use Rattle.decision.specs.Bits.{bit}
 use Rattle.decision.specs.Code.{seenAfter, rank}
@@ -26,7 +26,7 @@ use Rattle.decision.specs.Marks.{Part, part, Parts}
 -- a marked row that is an atom
 pub record Counted (ws ms : List ℕ) (i : ℕ) : Type 0 where
   pub marks : 0 < getD ms i 0
-  pub atoms : 6 < rowIn ws i .op
+  pub atoms : 7 < rowIn ws i .op
 
 pub data Listed (ws ms : List ℕ) : ℕ → List Atom → Type 0 where
   listed-none : Listed ws ms 0 []
@@ -42,14 +42,15 @@ data AtomOf (ws : List ℕ) (i : ℕ) : Type 0 where
 -- ---- a marked row that is an atom stands for one of the formula
 
 module _ {ws : List ℕ} where
-  atom-at : {whole : Formula} {i : ℕ} → Part ws whole i → 6 < rowIn ws i .op → AtomOf ws i
+  atom-at : {whole : Formula} {i : ℕ} → Part ws whole i → 7 < rowIn ws i .op → AtomOf ws i
   atom-at (part (constantRow eo ea) w) h = absurd (omega arith)
   atom-at (part (atomRow a s) w) h = atom-of a
   atom-at (part (negationRow eo ea ja t) w) h = absurd (omega arith)
   atom-at (part (conjunctionRow eo ea eb ja jb t u) w) h = absurd (omega arith)
   atom-at (part (equalityRow eo ea eb ja jb t u) w) h = absurd (omega arith)
+  atom-at (part (exclusionRow eo ea eb ja jb t u) w) h = absurd (omega arith)
 
-  part-has : {whole : Formula} {i : ℕ} {x : Atom} → Part ws whole i → 6 < rowIn ws i .op → AtomRow ws i x → among (atomsOf whole) x ≡ true
+  part-has : {whole : Formula} {i : ℕ} {x : Atom} → Part ws whole i → 7 < rowIn ws i .op → AtomRow ws i x → among (atomsOf whole) x ≡ true
   unfolding atomsOf among
   part-has (part (constantRow eo ea) w) h r = absurd (omega arith)
   part-has {whole = whole} {x = x} (part (atomRow {x = z} {y = y} a s) w) h r =
@@ -58,6 +59,7 @@ module _ {ws : List ℕ} where
   part-has (part (negationRow eo ea ja t) w) h r = absurd (omega arith)
   part-has (part (conjunctionRow eo ea eb ja jb t u) w) h r = absurd (omega arith)
   part-has (part (equalityRow eo ea eb ja jb t u) w) h r = absurd (omega arith)
+  part-has (part (exclusionRow eo ea eb ja jb t u) w) h r = absurd (omega arith)
 
 module _ {ws ms : List ℕ} where
   -- ---- the number of the next atom
@@ -67,19 +69,19 @@ module _ {ws ms : List ℕ} where
   rank-counted i c =
       let m = c .marks in
       let a = c .atoms in
-      rw (ne-eqb (getD ms i 0) 0 (λ e. omega arith), le-ltb (rowIn ws i .op) 7 (omega arith)) (add-one (rank ws ms i))
+      rw (ne-eqb (getD ms i 0) 0 (λ e. omega arith), le-ltb (rowIn ws i .op) 8 (omega arith)) (add-one (rank ws ms i))
 
   rank-or : (i : ℕ) → (rank ws ms (suc i) ≡ rank ws ms i) ⊎ Counted ws ms i
   unfolding rank seenAfter
-  rank-or i = go (eqb (getD ms i 0) 0) refl (ltb (rowIn ws i .op) 7) refl
+  rank-or i = go (eqb (getD ms i 0) 0) refl (ltb (rowIn ws i .op) 8) refl
     where
-      go : (s : Bool) → eqb (getD ms i 0) 0 ≡ s → (t : Bool) → ltb (rowIn ws i .op) 7 ≡ t
+      go : (s : Bool) → eqb (getD ms i 0) 0 ≡ s → (t : Bool) → ltb (rowIn ws i .op) 8 ≡ t
           → (pick s (rank ws ms i) (pick t (rank ws ms i) (rank ws ms i + 1)) ≡ rank ws ms i) ⊎ Counted ws ms i
       go true e t f = inl refl
       go false e true f = inl refl
       go false e false f =
           let m = eqb-false (getD ms i 0) 0 e in
-          let a = ltb-false (rowIn ws i .op) 7 f in
+          let a = ltb-false (rowIn ws i .op) 8 f in
           inr (record { marks = omega arith; atoms = omega arith })
 
   -- a counted row is no skipped one

@@ -14,7 +14,7 @@ use Rattle.script.specs.Tests.{pick}
 use Rattle.rules.specs.Satisfiable.{atomsOf, among}
 use Rattle.rules.specs.Satisfiable.Laws.{in-first, in-second}
 use Rattle.rules.specs.Symbolic.{Atom, Formula, negation, conjunction, equality}
-use Rattle.terms.specs.Terms.{rowIn, rowLimit, TruthRow, constantRow, atomRow, negationRow, conjunctionRow, equalityRow, truthSymbolRow, pairRow, differenceRow}
+use Rattle.terms.specs.Terms.{rowIn, rowLimit, TruthRow, constantRow, atomRow, negationRow, conjunctionRow, equalityRow, exclusionRow, truthSymbolRow, pairRow, differenceRow}
 use Rattle.terms.specs.declared.Row.{Row}
 use Rattle.decision.specs.Code.{operandBelow, reached, markRow, marked, startMarks}
 use Rattle.decision.specs.Code.Laws.{below-within, reached-length, markRow-length}
@@ -25,7 +25,7 @@ use Rattle.decision.specs.Code.Laws.{below-within, reached-length, markR
 pub record Operand (least op mark i a : ℕ) : Type 0 where
   pub marks : 0 < mark
   pub low : least ≤ op
-  pub high : op ≤ 6
+  pub high : op ≤ 7
   pub below : a < i
 
 pick-less : (t : Bool) (a k : ℕ) → a < pick t 0 k → (t ≡ false) × (a < k)
@@ -36,17 +36,17 @@ module _ (least op mark i a : ℕ) where
   pub below-operand : a < operandBelow least op mark i → Operand least op mark i a
   unfolding operandBelow
   below-operand h =
-      let p = pick-less (eqb mark 0) a (pick (ltb op least) 0 (pick (ltb 6 op) 0 i)) h in
-      let q = pick-less (ltb op least) a (pick (ltb 6 op) 0 i) (p .1) in
-      let r = pick-less (ltb 6 op) a i (q .1) in
+      let p = pick-less (eqb mark 0) a (pick (ltb op least) 0 (pick (ltb 7 op) 0 i)) h in
+      let q = pick-less (ltb op least) a (pick (ltb 7 op) 0 i) (p .1) in
+      let r = pick-less (ltb 7 op) a i (q .1) in
       let m = eqb-false mark 0 (p .0) in
-      record { marks = omega arith; low = ltb-false op least (q .0); high = ltb-false 6 op (r .0); below = r .1 }
+      record { marks = omega arith; low = ltb-false op least (q .0); high = ltb-false 7 op (r .0); below = r .1 }
 
   pub operand-below : Operand least op mark i a → operandBelow least op mark i ≡ i
   unfolding operandBelow
   operand-below o =
       let m = o .marks in
-      rw (ne-eqb mark 0 (λ e. omega arith), le-ltb op least (o .low), le-ltb 6 op (o .high))
+      rw (ne-eqb mark 0 (λ e. omega arith), le-ltb op least (o .low), le-ltb 7 op (o .high))
 
 -- ---- one mark more
 
@@ -200,7 +200,7 @@ unfolding atomsOf
 within-equality f g w = record { each = w .each }
 
 module _ (ws : List ℕ) (whole : Formula) where
-  first-part : {i : ℕ} {f : Formula} → TruthRow ws i f → Within f whole → 4 ≤ rowIn ws i .op → rowIn ws i .op ≤ 6 → Part ws whole (rowIn ws i .a)
+  first-part : {i : ℕ} {f : Formula} → TruthRow ws i f → Within f whole → 4 ≤ rowIn ws i .op → rowIn ws i .op ≤ 7 → Part ws whole (rowIn ws i .a)
   first-part (constantRow eo ea) w l h = absurd (omega arith)
   first-part (atomRow (truthSymbolRow eo ea eb) s) w l h = absurd (omega arith)
   first-part (atomRow (pairRow eo ea eb) s) w l h = absurd (omega arith)
@@ -208,8 +208,9 @@ module _ (ws : List ℕ) (whole : Formula) where
   first-part (negationRow eo ea ja t) w l h = rw ea (part t (within-negation w))
   first-part (conjunctionRow {f = f} {g = g} eo ea eb ja jb t u) w l h = rw ea (part t (within-first f g w))
   first-part (equalityRow {f = f} {g = g} eo ea eb ja jb t u) w l h = rw ea (part t (within-first f g (within-equality f g w)))
+  first-part (exclusionRow {f = f} {g = g} eo ea eb ja jb t u) w l h = rw ea (part t (within-first f (negation g) w))
 
-  second-part : {i : ℕ} {f : Formula} → TruthRow ws i f → Within f whole → 5 ≤ rowIn ws i .op → rowIn ws i .op ≤ 6 → Part ws whole (rowIn ws i .b)
+  second-part : {i : ℕ} {f : Formula} → TruthRow ws i f → Within f whole → 5 ≤ rowIn ws i .op → rowIn ws i .op ≤ 7 → Part ws whole (rowIn ws i .b)
   second-part (constantRow eo ea) w l h = absurd (omega arith)
   second-part (atomRow (truthSymbolRow eo ea eb) s) w l h = absurd (omega arith)
   second-part (atomRow (pairRow eo ea eb) s) w l h = absurd (omega arith)
@@ -217,11 +218,12 @@ module _ (ws : List ℕ) (whole : Formula) where
   second-part (negationRow eo ea ja t) w l h = absurd (omega arith)
   second-part (conjunctionRow {f = f} {g = g} eo ea eb ja jb t u) w l h = rw eb (part u (within-second f g w))
   second-part (equalityRow {f = f} {g = g} eo ea eb ja jb t u) w l h = rw eb (part u (within-second f g (within-equality f g w)))
+  second-part (exclusionRow {f = f} {g = g} eo ea eb ja jb t u) w l h = rw eb (part u (within-negation (within-second f (negation g) w)))
 
-  first-of : {i : ℕ} → Part ws whole i → 4 ≤ rowIn ws i .op → rowIn ws i .op ≤ 6 → Part ws whole (rowIn ws i .a)
+  first-of : {i : ℕ} → Part ws whole i → 4 ≤ rowIn ws i .op → rowIn ws i .op ≤ 7 → Part ws whole (rowIn ws i .a)
   first-of (part t w) l h = first-part t w l h
 
-  second-of : {i : ℕ} → Part ws whole i → 5 ≤ rowIn ws i .op → rowIn ws i .op ≤ 6 → Part ws whole (rowIn ws i .b)
+  second-of : {i : ℕ} → Part ws whole i → 5 ≤ rowIn ws i .op → rowIn ws i .op ≤ 7 → Part ws whole (rowIn ws i .b)
   second-of (part t w) l h = second-part t w l h
 
   parts-reached : (ms : List ℕ) (a below : ℕ) → Parts ws whole ms → (a < below → Part ws whole a) → Parts ws whole (reached ms a below)

@@ -17,7 +17,7 @@ use Rattle.rules.specs.Satisfiable.{holds, atomsOf, among}
 use Rattle.rules.specs.Satisfiable.Laws.{among-same, among-append}
 use Rattle.rules.specs.Symbolic.Laws.{sameAtom-trans}
 use Rattle.rules.specs.Symbolic.{Atom, Formula, constantly, atom, negation, conjunction, equality, sameAtom}
-use Rattle.terms.specs.Terms.{rowIn, countIn, bitOf, TruthRow, constantRow, atomRow, negationRow, conjunctionRow, equalityRow, AtomRow, truthSymbolRow, pairRow, differenceRow, Distinct}
+use Rattle.terms.specs.Terms.{rowIn, countIn, bitOf, TruthRow, constantRow, atomRow, negationRow, conjunctionRow, equalityRow, exclusionRow, AtomRow, truthSymbolRow, pairRow, differenceRow, Distinct}
 use Rattle.terms.specs.declared.Row.{Row}
 use Rattle.decision.specs.Atoms.{assign, assign-respects}
 use Rattle.decision.specs.Bits.{bit, bit-and, bit-xor, bit-not}
@@ -30,9 +30,13 @@ use Rattle.decision.specs.Patterns.{pattern-bit, pattern-small, spread-b
 -- ---- a row's word by its operator
 
 module _ (r : Row) (x y m block : ℕ) where
-  word-atom : 6 < r .op → rowWord r x y m block ≡ patternOf m block
+  word-atom : 7 < r .op → rowWord r x y m block ≡ patternOf m block
   unfolding rowWord
-  word-atom h = rw (le-leb 7 (r .op) h)
+  word-atom h = rw (le-leb 8 (r .op) h)
+
+  word-exclusion : r .op ≡ 7 → rowWord r x y m block ≡ bitAnd x (ones - y)
+  unfolding rowWord
+  word-exclusion e = rw e
 
   word-equality : r .op ≡ 6 → rowWord r x y m block ≡ ones - bitXor x y
   unfolding rowWord
@@ -124,7 +128,7 @@ pub record Closed (ws ms : List ℕ) (n : ℕ) : Type 0 where
 
 seen-grows : (op mark seen : ℕ) → seen ≤ seenAfter op mark seen
 unfolding seenAfter
-seen-grows op mark seen = go (eqb mark 0) (ltb op 7)
+seen-grows op mark seen = go (eqb mark 0) (ltb op 8)
   where
     go : (a b : Bool) → seen ≤ pick a seen (pick b seen (seen + 1))
     go true b = omega arith
@@ -138,7 +142,7 @@ rank-more ws ms i = seen-grows (rowIn ws i .op) (getD ms i 0) (rank ws ms i)
 rank-grows : (ws ms : List ℕ) (i n : ℕ) → i ≤ n → rank ws ms i ≤ rank ws ms n
 rank-grows ws ms i n h = le-ind (λ (m : ℕ). rank ws ms i ≤ rank ws ms m) (omega arith) (λ m l e. let o = rank-more ws ms m in omega arith) n h
 
-atom-op : {ws : List ℕ} {i : ℕ} {x : Atom} → AtomRow ws i x → 6 < rowIn ws i .op
+atom-op : {ws : List ℕ} {i : ℕ} {x : Atom} → AtomRow ws i x → 7 < rowIn ws i .op
 atom-op (truthSymbolRow eo ea eb) = omega arith
 atom-op (pairRow eo ea eb) = omega arith
 atom-op (differenceRow eo ea eb ja jb p q) = omega arith
@@ -161,10 +165,10 @@ pub record Sweep (ws ms : List ℕ) (n : ℕ) (xs : List Atom) : Type 0 where
 
 module _ {ws ms : List ℕ} {n : ℕ} {xs : List Atom} (s : Sweep ws ms n xs) where
   -- a marked operand below its row
-  first-marked : (i j : ℕ) → i < n → 0 < getD ms i 0 → 4 ≤ rowIn ws i .op → rowIn ws i .op ≤ 6 → rowIn ws i .a ≡ j → j < i → 0 < getD ms j 0
+  first-marked : (i j : ℕ) → i < n → 0 < getD ms i 0 → 4 ≤ rowIn ws i .op → rowIn ws i .op ≤ 7 → rowIn ws i .a ≡ j → j < i → 0 < getD ms j 0
   first-marked i j h k l u e b = rw e at (s .closed .first i h (record { marks = k; low = l; high = u; below = omega arith }))
 
-  second-marked : (i j : ℕ) → i < n → 0 < getD ms i 0 → 5 ≤ rowIn ws i .op → rowIn ws i .op ≤ 6 → rowIn ws i .b ≡ j → j < i → 0 < getD ms j 0
+  second-marked : (i j : ℕ) → i < n → 0 < getD ms i 0 → 5 ≤ rowIn ws i .op → rowIn ws i .op ≤ 7 → rowIn ws i .b ≡ j → j < i → 0 < getD ms j 0
   second-marked i j h k l u e b = rw e at (s .closed .second i h (record { marks = k; low = l; high = u; below = omega arith }))
 
   -- the atoms of a marked row's formula are listed
@@ -186,6 +190,10 @@ module _ {ws ms : List ℕ} {n : ℕ} {xs : List Atom} (s : Sweep ws ms n xs) wh
       (rows-listed u (omega arith) (second-marked i l h k (omega arith) (omega arith) eb jb) z)
   rows-listed (equalityRow {i = i} {j = j} {k = l} {f = f} {g = g} eo ea eb ja jb t u) h k z m =
       either f g z m
+      (rows-listed t (omega arith) (first-marked i j h k (omega arith) (omega arith) ea ja) z)
+      (rows-listed u (omega arith) (second-marked i l h k (omega arith) (omega arith) eb jb) z)
+  rows-listed (exclusionRow {i = i} {j = j} {k = l} {f = f} {g = g} eo ea eb ja jb t u) h k z m =
+      either f (negation g) z m
       (rows-listed t (omega arith) (first-marked i j h k (omega arith) (omega arith) ea ja) z)
       (rows-listed u (omega arith) (second-marked i l h k (omega arith) (omega arith) eb jb) z)
 
@@ -227,3 +235,8 @@ module _ {ws ms : List ℕ} {n : ℕ} {xs : List Atom} (s : Sweep ws ms n xs) wh
         (right-equality
         (rows-right t (omega arith) (first-marked i j h k (omega arith) (omega arith) ea ja))
         (rows-right u (omega arith) (second-marked i m h k (omega arith) (omega arith) eb jb)))
+    rows-right (exclusionRow {i = i} {j = j} {k = m} eo ea eb ja jb t u) h k =
+        rw (word-row ws ms block n i h k, word-exclusion (rowIn ws i) _ _ _ block eo, operand-word i (rowIn ws i .a) j h ea ja, operand-word i (rowIn ws i .b) m h eb jb)
+        (right-conjunction
+        (rows-right t (omega arith) (first-marked i j h k (omega arith) (omega arith) ea ja))
+        (right-negation (rows-right u (omega arith) (second-marked i m h k (omega arith) (omega arith) eb jb))))

@@ -11,6 +11,7 @@ ghost use Rattle.terms.specs.Terms.{rowLimit, rowsEnd};
 use terms::CONJUNCTION;
 use terms::CONSTANT;
 use terms::EQUALITY;
+use terms::EXCLUSION;
 use terms::NEGATION;
 use terms::ROWS;
 use terms::Row;
@@ -52,7 +53,7 @@ fn operand_below(least: u32, op: u32, mark: u32, i: usize) -> usize
     if op < least {
         return 0;
     }
-    if EQUALITY < op {
+    if EXCLUSION < op {
         return 0;
     }
     i
@@ -167,6 +168,9 @@ fn row_word(row: Row, x: u64, y: u64, m: u32, block: u32) -> u64
     let op = row.op;
     if TRUTH <= op {
         return pattern(m, block);
+    }
+    if op == EXCLUSION {
+        return x & !y;
     }
     if op == EQUALITY {
         return !(x ^ y);

@@ -44,8 +44,8 @@ unfoldable pub bothMade : ℕ → ℕ → Bool
 bothMade r s = eqb (r % 2) 1 && eqb (s % 2) 1
 
 unfoldable pub referencesRow : List ℕ → ℕ → ℕ → ℕ
-referencesRow ws r s = pick (eqb (r / 2) (s / 2)) (countIn ws) (pick (bothMade r s) (countIn ws) (atomRowOf ws 8 (r / 2) (s / 2)))
+referencesRow ws r s = pick (eqb (r / 2) (s / 2)) (countIn ws) (pick (bothMade r s) (countIn ws) (atomRowOf ws 9 (r / 2) (s / 2)))
 
 unfoldable pub referencesLeft : List ℕ → ℕ → ℕ → List ℕ
 referencesLeft ws r s =
-    pick (eqb (r / 2) (s / 2)) (pushed ws 3 1 0) (pick (bothMade r s) (pushed ws 3 0 0) (atomLeft ws 8 (r / 2) (s / 2)))
+    pick (eqb (r / 2) (s / 2)) (pushed ws 3 1 0) (pick (bothMade r s) (pushed ws 3 0 0) (atomLeft ws 9 (r / 2) (s / 2)))

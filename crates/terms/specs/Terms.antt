@@ -15,7 +15,7 @@ abbrev pub symbolLimit : ℕ
 symbolLimit = 144
 
 abbrev pub rowLimit : ℕ
-rowLimit = 289
+rowLimit = 145
 
 abbrev pub countIn : List ℕ → ℕ
 countIn ws = getD ws 288 0
@@ -24,7 +24,7 @@ abbrev pub rowIn : List ℕ → ℕ → Row
 rowIn ws i = record { op = getD ws (289 + 3 * i) 0; a = getD ws (289 + 3 * i + 1) 0; b = getD ws (289 + 3 * i + 2) 0 }
 
 abbrev pub rowsEnd : ℕ
-rowsEnd = 1156
+rowsEnd = 724
 
 -- the slice has all its rows, and so many are free
 pub record Space (ws : List ℕ) (more : ℕ) : Type 0 where
@@ -45,9 +45,9 @@ pub data SumRow (ws : List ℕ) : ℕ → Sum → Type 0 where
       → SumRow ws i (plus p q)
 
 pub data AtomRow (ws : List ℕ) : ℕ → Atom → Type 0 where
-  truthSymbolRow : {i s : ℕ} → rowIn ws i .op ≡ 7 → rowIn ws i .a ≡ s → rowIn ws i .b ≡ s → AtomRow ws i (truthSymbol s)
-  pairRow : {i r s : ℕ} → rowIn ws i .op ≡ 8 → rowIn ws i .a ≡ r → rowIn ws i .b ≡ s → AtomRow ws i (pair r s)
-  differenceRow : {i j k : ℕ} {p q : Sum} → rowIn ws i .op ≡ 9 → rowIn ws i .a ≡ j → rowIn ws i .b ≡ k → j < i → k < i → SumRow ws j p → SumRow ws k q
+  truthSymbolRow : {i s : ℕ} → rowIn ws i .op ≡ 8 → rowIn ws i .a ≡ s → rowIn ws i .b ≡ s → AtomRow ws i (truthSymbol s)
+  pairRow : {i r s : ℕ} → rowIn ws i .op ≡ 9 → rowIn ws i .a ≡ r → rowIn ws i .b ≡ s → AtomRow ws i (pair r s)
+  differenceRow : {i j k : ℕ} {p q : Sum} → rowIn ws i .op ≡ 10 → rowIn ws i .a ≡ j → rowIn ws i .b ≡ k → j < i → k < i → SumRow ws j p → SumRow ws k q
       → AtomRow ws i (difference (minus p q))
 
 abbrev pub bitOf : Bool → ℕ
@@ -62,6 +62,8 @@ pub data TruthRow (ws : List ℕ) : ℕ → Formula → Type 0 where
       → TruthRow ws j f → TruthRow ws k g → TruthRow ws i (conjunction f g)
   equalityRow : {i j k : ℕ} {f g : Formula} → rowIn ws i .op ≡ 6 → rowIn ws i .a ≡ j → rowIn ws i .b ≡ k → j < i → k < i
       → TruthRow ws j f → TruthRow ws k g → TruthRow ws i (equality f g)
+  exclusionRow : {i j k : ℕ} {f g : Formula} → rowIn ws i .op ≡ 7 → rowIn ws i .a ≡ j → rowIn ws i .b ≡ k → j < i → k < i
+      → TruthRow ws j f → TruthRow ws k g → TruthRow ws i (conjunction f (negation g))
 
 -- row i is that of some atom
 pub data SomeAtom (ws : List ℕ) (i : ℕ) : Type 0 where
@@ -69,7 +71,7 @@ pub data SomeAtom (ws : List ℕ) (i : ℕ) : Type 0 where
 
 -- every row with the operator of a difference is that of an atom, so its operands are words; and different rows of atoms are different atoms
 pub record Distinct (ws : List ℕ) : Type 0 where
-  pub differences : (i : ℕ) → i < countIn ws → rowIn ws i .op ≡ 9 → SomeAtom ws i
+  pub differences : (i : ℕ) → i < countIn ws → rowIn ws i .op ≡ 10 → SomeAtom ws i
   pub apart : (i j : ℕ) (x y : Atom) → i < j → j < countIn ws → AtomRow ws i x → AtomRow ws j y → sameAtom x y ≡ false
 
 -- ---- more rows

@@ -18,14 +18,14 @@ isWanted ws wanted p q = alike (numbersOf ws p q) wanted
 
 -- row i is the atom of the wanted difference
 unfoldable pub isFound : List ℕ → List ℕ → ℕ → Bool
-isFound ws wanted i = joins (rowIn ws i) 9 i && isWanted ws wanted (rowIn ws i .a) (rowIn ws i .b)
+isFound ws wanted i = joins (rowIn ws i) 10 i && isWanted ws wanted (rowIn ws i .a) (rowIn ws i .b)
 
 -- its row, or the count if it has none
 abbrev pub differenceRowOf : List ℕ → List ℕ → ℕ
 differenceRowOf ws wanted = firstOr (isFound ws wanted) (countIn ws)
 
 abbrev pub differenceLeft : List ℕ → List ℕ → ℕ → ℕ → List ℕ
-differenceLeft ws wanted p q = foundOr ws (differenceRowOf ws wanted) 9 p q
+differenceLeft ws wanted p q = foundOr ws (differenceRowOf ws wanted) 10 p q
 
 -- the row of the equality of words p and q, and the rows then
 unfoldable pub equalRow : List ℕ → ℕ → ℕ → ℕ

@@ -21,15 +21,15 @@ pub const COUNT: usize = 2 * VARIABLES;
 // Where the rows begin.
 pub const FIRST: usize = COUNT + 1;
 
-// At most how many rows a path has: one for `true`, one for each variable at its start, and two for each node; variables and nodes are together at
+// At most how many rows a path has: one for `true`, one for each variable at its start, and one for each node; variables and nodes are together at
 // most `VARIABLES`.
-pub const ROWS: usize = 1 + 2 * VARIABLES;
+pub const ROWS: usize = 1 + VARIABLES;
 
 // Where the rows end.
 pub const END: usize = FIRST + 3 * ROWS;
 
-// What a row is: a word (a number, a symbol, the sum of two rows), a truth (a constant, the negation of a row, the conjunction or the equality of two),
-// or an atom (a truth symbol, a pair of reference symbols, the difference of two words). The order counts: truths with operands stand together, and the
+// What a row is: a word (a number, a symbol, the sum of two rows), a truth (a constant, the negation of a row, the conjunction or the equality of two,
+// the first of two without the second), or an atom (a truth symbol, a pair of reference symbols, the difference of two words). The order counts: truths with operands stand together, and the
 // atoms come last.
 pub const NUMBER: u32 = 0;
 
@@ -45,11 +45,13 @@ pub const CONJUNCTION: u32 = 5;
 
 pub const EQUALITY: u32 = 6;
 
-pub const TRUTH: u32 = 7;
+pub const EXCLUSION: u32 = 7;
 
-pub const PAIR: u32 = 8;
+pub const TRUTH: u32 = 8;
 
-pub const DIFFERENCE: u32 = 9;
+pub const PAIR: u32 = 9;
+
+pub const DIFFERENCE: u32 = 10;
 
 // A row: what it is, and its two operands.
 pub struct Row {

@@ -49,7 +49,7 @@ pick-within false k n h = h
 
 pub below-within : (least op mark i : ℕ) → operandBelow least op mark i ≤ i
 unfolding operandBelow
-below-within least op mark i = pick-within (eqb mark 0) _ i (pick-within (ltb op least) _ i (pick-within (ltb 6 op) i i (omega arith)))
+below-within least op mark i = pick-within (eqb mark 0) _ i (pick-within (ltb op least) _ i (pick-within (ltb 7 op) i i (omega arith)))
 
 pub reached-length : (ms : List ℕ) (a below : ℕ) → length (reached ms a below) ≡ length ms
 unfolding reached
@@ -95,7 +95,7 @@ rank-on ws ms i = rw (add-one i)
 
 seen-within : (op mark seen n : ℕ) → seen ≤ n → seenAfter op mark seen ≤ suc n
 unfolding seenAfter
-seen-within op mark seen n h = go (eqb mark 0) (ltb op 7)
+seen-within op mark seen n h = go (eqb mark 0) (ltb op 8)
   where
     go : (a b : Bool) → pick a seen (pick b seen (seen + 1)) ≤ suc n
     go true b = omega arith

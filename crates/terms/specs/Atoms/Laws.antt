@@ -79,11 +79,11 @@ module _ (ws : List ℕ) (r s : ℕ) where
   unfolding referencesLeft
   left-apart n t = rw (ne-eqb (r / 2) (s / 2) n, t) refl
 
-  pub row-open : (r / 2 ≡ s / 2 → ⊥) → bothMade r s ≡ false → atomRowOf ws 8 (r / 2) (s / 2) ≡ referencesRow ws r s
+  pub row-open : (r / 2 ≡ s / 2 → ⊥) → bothMade r s ≡ false → atomRowOf ws 9 (r / 2) (s / 2) ≡ referencesRow ws r s
   unfolding referencesRow
   row-open n t = rw (ne-eqb (r / 2) (s / 2) n, t) refl
 
-  pub left-open : (r / 2 ≡ s / 2 → ⊥) → bothMade r s ≡ false → atomLeft ws 8 (r / 2) (s / 2) ≡ referencesLeft ws r s
+  pub left-open : (r / 2 ≡ s / 2 → ⊥) → bothMade r s ≡ false → atomLeft ws 9 (r / 2) (s / 2) ≡ referencesLeft ws r s
   unfolding referencesLeft
   left-open n t = rw (ne-eqb (r / 2) (s / 2) n, t) refl
 
@@ -91,7 +91,7 @@ module _ (ws : List ℕ) (r s : ℕ) where
   unfolding referencesLeft
   references-length = go (eqb (r / 2) (s / 2)) (bothMade r s)
     where
-      go : (t u : Bool) → length (pick t (pushed ws 3 1 0) (pick u (pushed ws 3 0 0) (atomLeft ws 8 (r / 2) (s / 2)))) ≡ length ws
+      go : (t u : Bool) → length (pick t (pushed ws 3 1 0) (pick u (pushed ws 3 0 0) (atomLeft ws 9 (r / 2) (s / 2)))) ≡ length ws
       go true u = simp length-set
       go false true = simp length-set
-      go false false = found-length ws (atomRowOf ws 8 (r / 2) (s / 2)) 8 (r / 2) (s / 2)
+      go false false = found-length ws (atomRowOf ws 9 (r / 2) (s / 2)) 9 (r / 2) (s / 2)

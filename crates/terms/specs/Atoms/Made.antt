@@ -59,7 +59,7 @@ not-same x y n = go (sameAtom x y) refl
     go false e = refl
 
 -- the same atom of symbols has the same operator and operands, in either order
-same-row : {ws left : List ℕ} {i n : ℕ} {x y : Atom} → AtomRow ws i x → AtomRow left n y → SameAtoms x y → rowIn left n .op < 9
+same-row : {ws left : List ℕ} {i n : ℕ} {x y : Atom} → AtomRow ws i x → AtomRow left n y → SameAtoms x y → rowIn left n .op < 10
     → Holds (rowIn left n .op) (rowIn left n .a) (rowIn left n .b) (rowIn ws i)
 same-row (AtomRow.truthSymbolRow e f g) (AtomRow.truthSymbolRow e′ f′ g′) (SameAtoms.oneTruth k) h =
     inOrder (e ∙ sym e′) (f ∙ k ∙ sym f′) (g ∙ k ∙ sym g′)
@@ -72,7 +72,7 @@ same-row u (AtomRow.differenceRow e′ f′ g′ l m p q) (SameAtoms.opposites k
 
 -- ---- found or made
 
-module _ {ws : List ℕ} (s : Space ws 1) (d : Distinct ws) (op a b : ℕ) (h : op < 9) (y : Atom)
+module _ {ws : List ℕ} (s : Space ws 1) (d : Distinct ws) (op a b : ℕ) (h : op < 10) (y : Atom)
     (old : (left : List ℕ) (i : ℕ) → Holds op a b (rowIn left i) → TruthRow left i (atom y)) where
   new-row : ((i : ℕ) → i < countIn ws → atomAt ws op a b i ≡ false) → Distinct (pushed ws op a b)
   new-row none = pushed-distinct s d op a b (λ e. absurd (omega arith)) λ i x z l u v. not-same x z λ k.
@@ -98,23 +98,23 @@ module _ {ws : List ℕ} (s : Space ws 1) (d : Distinct ws) (op a b : ℕ) (h : 
             distinct = new-row n;
           })
 
-truth-row : (u : ℕ) (left : List ℕ) (i : ℕ) → Holds 7 u u (rowIn left i) → TruthRow left i (atom (truthSymbol u))
+truth-row : (u : ℕ) (left : List ℕ) (i : ℕ) → Holds 8 u u (rowIn left i) → TruthRow left i (atom (truthSymbol u))
 truth-row u left i (inOrder e f g) = TruthRow.atomRow (AtomRow.truthSymbolRow e f g) (sameAtom-refl (truthSymbol u))
 truth-row u left i (turned e f g) = TruthRow.atomRow (AtomRow.truthSymbolRow e f g) (sameAtom-refl (truthSymbol u))
 
-pair-row : (a b : ℕ) (left : List ℕ) (i : ℕ) → Holds 8 a b (rowIn left i) → TruthRow left i (atom (pair a b))
+pair-row : (a b : ℕ) (left : List ℕ) (i : ℕ) → Holds 9 a b (rowIn left i) → TruthRow left i (atom (pair a b))
 pair-row a b left i (inOrder e f g) = TruthRow.atomRow (AtomRow.pairRow e f g) (sameAtom-refl (pair a b))
 pair-row a b left i (turned e f g) = TruthRow.atomRow (AtomRow.pairRow e f g) (atoms-same (SameAtoms.crossed refl refl))
 
 -- what `symbols_atom` gives of a truth symbol
-pub made-truth : {ws : List ℕ} → Space ws 1 → Distinct ws → (u r : ℕ) (left : List ℕ) → r ≡ atomRowOf ws 7 u u → left ≡ atomLeft ws 7 u u
+pub made-truth : {ws : List ℕ} → Space ws 1 → Distinct ws → (u r : ℕ) (left : List ℕ) → r ≡ atomRowOf ws 8 u u → left ≡ atomLeft ws 8 u u
     → Made ws left r (atom (truthSymbol u))
-made-truth s d u = made-by s d 7 u u (omega arith) (truthSymbol u) (truth-row u)
+made-truth s d u = made-by s d 8 u u (omega arith) (truthSymbol u) (truth-row u)
 
 -- what `symbols_atom` gives of a pair of reference symbols
-pub made-pair : {ws : List ℕ} → Space ws 1 → Distinct ws → (a b r : ℕ) (left : List ℕ) → r ≡ atomRowOf ws 8 a b → left ≡ atomLeft ws 8 a b
+pub made-pair : {ws : List ℕ} → Space ws 1 → Distinct ws → (a b r : ℕ) (left : List ℕ) → r ≡ atomRowOf ws 9 a b → left ≡ atomLeft ws 9 a b
     → Made ws left r (atom (pair a b))
-made-pair s d a b = made-by s d 8 a b (omega arith) (pair a b) (pair-row a b)
+made-pair s d a b = made-by s d 9 a b (omega arith) (pair a b) (pair-row a b)
 
 -- ---- references
 

@@ -79,6 +79,9 @@ module _ {ws left : List ℕ} (g : Grown ws left) where
   truth-kept (TruthRow.equalityRow {i = i} e f t l m p q) h =
       TruthRow.equalityRow (op-kept g i h ∙ e) (a-kept g i h ∙ f) (b-kept g i h ∙ t) l m
       (truth-kept p (omega arith)) (truth-kept q (omega arith))
+  truth-kept (TruthRow.exclusionRow {i = i} e f t l m p q) h =
+      TruthRow.exclusionRow (op-kept g i h ∙ e) (a-kept g i h ∙ f) (b-kept g i h ∙ t) l m
+      (truth-kept p (omega arith)) (truth-kept q (omega arith))
 
 -- ---- a row that is pushed
 
@@ -155,7 +158,7 @@ module _ {ws : List ℕ} (s : Space ws 1) (op a b : ℕ) where
 -- ---- different atoms
 
 -- the row of an atom has one of three operators
-pub atom-op : {ws : List ℕ} {i : ℕ} {x : Atom} → AtomRow ws i x → 7 ≤ rowIn ws i .op
+pub atom-op : {ws : List ℕ} {i : ℕ} {x : Atom} → AtomRow ws i x → 8 ≤ rowIn ws i .op
 atom-op (AtomRow.truthSymbolRow e f t) = omega arith
 atom-op (AtomRow.pairRow e f t) = omega arith
 atom-op (AtomRow.differenceRow e f t l m p q) = omega arith
@@ -172,7 +175,7 @@ still-distinct g h d = record {
 }
 
 -- a pushed row that is no earlier atom, but an atom if it has the operator of a difference
-pub pushed-distinct : {ws : List ℕ} (s : Space ws 1) (d : Distinct ws) (op a b : ℕ) → (op ≡ 9 → SomeAtom (pushed ws op a b) (countIn ws))
+pub pushed-distinct : {ws : List ℕ} (s : Space ws 1) (d : Distinct ws) (op a b : ℕ) → (op ≡ 10 → SomeAtom (pushed ws op a b) (countIn ws))
     → ((i : ℕ) (x y : Atom) → i < countIn ws → AtomRow ws i x → AtomRow (pushed ws op a b) (countIn ws) y → sameAtom x y ≡ false)
     → Distinct (pushed ws op a b)
 pushed-distinct {ws} s d op a b one new = record {
@@ -183,7 +186,7 @@ pushed-distinct {ws} s d op a b one new = record {
     g : Grown ws (pushed ws op a b)
     g = pushed-grown s op a b
 
-    old : (i : ℕ) → rowIn (pushed ws op a b) i .op ≡ 9 → (i ≡ countIn ws) ⊎ (i < countIn ws) → SomeAtom (pushed ws op a b) i
+    old : (i : ℕ) → rowIn (pushed ws op a b) i .op ≡ 10 → (i ≡ countIn ws) ⊎ (i < countIn ws) → SomeAtom (pushed ws op a b) i
     old i e (inl k) = rw k (one (sym (pushed-op s op a b) ∙ rw k at e))
     old i e (inr h) = some-kept g (d .differences i h (sym (op-kept g i h) ∙ e)) h
 
@@ -193,7 +196,7 @@ pushed-distinct {ws} s d op a b one new = record {
     go i j x y l u v (inr h) = d .apart i j x y l h (atom-from g u (omega arith)) (atom-from g v h)
 
 -- a pushed row that is no atom
-pub plain-distinct : {ws : List ℕ} (s : Space ws 1) (d : Distinct ws) (op a b : ℕ) → op < 7 → Distinct (pushed ws op a b)
+pub plain-distinct : {ws : List ℕ} (s : Space ws 1) (d : Distinct ws) (op a b : ℕ) → op < 8 → Distinct (pushed ws op a b)
 plain-distinct s d op a b h =
     pushed-distinct s d op a b (λ e. absurd (omega arith)) λ i x y l u v. absurd (let k = atom-op v in let e = pushed-op s op a b in omega arith)
 
@@ -260,4 +263,14 @@ module _ {ws : List ℕ} (s : Space ws 1) (d : Distinct ws) where
     is = TruthRow.equalityRow (pushed-op s 6 j k) (pushed-a s 6 j k) (pushed-b s 6 j k) l m
         (truth-kept (pushed-grown s 6 j k) u l) (truth-kept (pushed-grown s 6 j k) v m);
     distinct = plain-distinct s d 6 j k (omega arith);
+  }
+
+  pub made-exclusion : {j k : ℕ} {f h : Formula} → TruthRow ws j f → j < countIn ws → TruthRow ws k h → k < countIn ws
+      → Made ws (pushed ws 7 j k) (countIn ws) (conjunction f (negation h))
+  made-exclusion {j} {k} u l v m = record {
+    added = pushed-added s 7 j k;
+    inside = pushed-inside s 7 j k;
+    is = TruthRow.exclusionRow (pushed-op s 7 j k) (pushed-a s 7 j k) (pushed-b s 7 j k) l m
+        (truth-kept (pushed-grown s 7 j k) u l) (truth-kept (pushed-grown s 7 j k) v m);
+    distinct = plain-distinct s d 7 j k (omega arith);
   }

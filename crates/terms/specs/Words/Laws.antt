@@ -18,16 +18,16 @@ use Rattle.terms.specs.declared.Row.{Row}
 -- ---- differences
 
 module _ (ws wanted : List ℕ) (i : ℕ) (row : Row) (e : row ≡ rowIn ws i) where
-  pub found-difference : (r : Bool) → joins row 9 i ≡ true → r ≡ isWanted ws wanted (row .a) (row .b) → r ≡ isFound ws wanted i
+  pub found-difference : (r : Bool) → joins row 10 i ≡ true → r ≡ isWanted ws wanted (row .a) (row .b) → r ≡ isFound ws wanted i
   unfolding isFound
   found-difference r t f = rw (rw e at t) (rw e at f)
 
-  pub found-other : joins row 9 i ≡ false → false ≡ isFound ws wanted i
+  pub found-other : joins row 10 i ≡ false → false ≡ isFound ws wanted i
   unfolding isFound
   found-other t = rw (rw e at t) refl
 
-pub two-below : {ws wanted : List ℕ} {i : ℕ} (row : Row) → Rows ws i wanted → joins row 9 i ≡ true → Two ws (row .a) (row .b)
-two-below {i = i} row r t = let j = joined row 9 i t in record { lent = r .lent; first = omega arith; second = omega arith }
+pub two-below : {ws wanted : List ℕ} {i : ℕ} (row : Row) → Rows ws i wanted → joins row 10 i ≡ true → Two ws (row .a) (row .b)
+two-below {i = i} row r t = let j = joined row 10 i t in record { lent = r .lent; first = omega arith; second = omega arith }
 
 -- ---- the equality
 
@@ -42,7 +42,7 @@ equal-length ws p q = go (constantNumbers (numbersOf ws p q))
   where
     go : (t : Bool) → length (pick t (pushed ws 3 (bitOf (eqb (getD (numbersOf ws p q) 0 0) 0)) 0) (differenceLeft ws (numbersOf ws p q) p q)) ≡ length ws
     go true = simp length-set
-    go false = found-length ws (differenceRowOf ws (numbersOf ws p q)) 9 p q
+    go false = found-length ws (differenceRowOf ws (numbersOf ws p q)) 10 p q
 
 -- what `equal_words` asks, by rows that are in use
 pub words-asked : {ws : List ℕ} {p q : ℕ} → Space ws 1 → p < countIn ws → q < countIn ws → Words ws p q

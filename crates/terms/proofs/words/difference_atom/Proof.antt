@@ -18,7 +18,7 @@ returns c =
     let a = c .before .before .before .before .before .before .args in
     let e = c .before .before .find-difference .ensures in
     let t = c .if1 .taken in
-    (e, left-found (a .space .now) (differenceRowOf (a .space .now) (a .wanted .now)) 9 (a .p) (a .q) (omega arith))
+    (e, left-found (a .space .now) (differenceRowOf (a .space .now) (a .wanted .now)) 10 (a .p) (a .q) (omega arith))
 
 returns-2 : tie.Need-returns-2
 returns-2 c =
@@ -28,7 +28,7 @@ returns-2 c =
     let m = first-most (isFound (a .space .now) (a .wanted .now)) (countIn (a .space .now)) in
     let u = c .before .before .push .ensures .0 in
     let h : countIn (a .space .now) ≤ differenceRowOf (a .space .now) (a .wanted .now) = omega arith in
-    (omega arith, c .before .before .push .ensures .1 ∙ left-made (a .space .now) (differenceRowOf (a .space .now) (a .wanted .now)) 9 (a .p) (a .q) h)
+    (omega arith, c .before .before .push .ensures .1 ∙ left-made (a .space .now) (differenceRowOf (a .space .now) (a .wanted .now)) 10 (a .p) (a .q) h)
 
 pub difference-atom-spec : {M : Type 1} → statement M
 difference-atom-spec =
