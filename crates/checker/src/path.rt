@@ -5,7 +5,7 @@ ghost use mathlib.Core.Path.{_≡_};
 ghost use Prim.Native.Nat.{suc, _*_, _<_, _≤_};
 ghost use lib.ListN.{length};
 ghost use Rattle.terms.specs.Terms.{Space, symbolLimit};
-ghost use Rattle.checker.specs.Code.Paths.{Fresh, assumed, assumedNot, TakesChoice, Blank, Starting};
+ghost use Rattle.checker.specs.Code.Paths.{Fresh, assumed, TakesChoice, Blank, Starting};
 ghost use Rattle.checker.specs.Code.Rules.{Decidable, Chooses, NextChoices, Started, restarted, choicesOn};
 ghost use Rattle.checker.specs.Code.State.{nodeLimit, spaceSize, metIn, typesOn, Room};
 use decision::Decision;
@@ -16,7 +16,7 @@ use terms::CONJUNCTION;
 use terms::CONSTANT;
 use terms::COUNT;
 use terms::END;
-use terms::NEGATION;
+use terms::EXCLUSION;
 use terms::SYMBOL;
 use terms::TRUTH;
 use terms::atoms::symbols_atom;
@@ -67,25 +67,15 @@ pub fn fresh(space: &mut [u32], t: u32) -> u32
     }
 }
 
-// The condition becomes 'it and the guard'.
-fn assume(space: &mut [u32], guard: u32)
+// The condition becomes a row of it and the guard: their conjunction, or the condition without the guard.
+fn assume(space: &mut [u32], op: u32, guard: u32)
     requires { ⌜ Space (now space) 1 ⌝ }
     requires { ⌜ spaceSize ≤ length (now space) ⌝ }
-    ensures { λ r. ⌜ now (space .exit) ≡ assumed (now (space .entry)) guard ⌝ }
+    ensures { λ r. ⌜ now (space .exit) ≡ assumed (now (space .entry)) op guard ⌝ }
 {
     let condition = space[CONDITION];
-    let row = push(space, CONJUNCTION, condition, guard);
+    let row = push(space, op, condition, guard);
     space[CONDITION] = row;
-}
-
-// The condition becomes 'it and not the guard'.
-fn assume_not(space: &mut [u32], guard: u32)
-    requires { ⌜ Space (now space) 2 ⌝ }
-    requires { ⌜ spaceSize ≤ length (now space) ⌝ }
-    ensures { λ r. ⌜ now (space .exit) ≡ assumedNot (now (space .entry)) guard ⌝ }
-{
-    let row = push(space, NEGATION, guard, 0);
-    assume(space, row);
 }
 
 // The branch that is taken at a fork: the choice that is left, or the first one if none is. True for the first.
@@ -115,18 +105,18 @@ pub fn choose(space: &mut [u32], t: u32, p: u32, n: u32) -> Branch
         Decision::TooMany => Branch::Neither(Refusal::TooManyAtoms(n)),
         Decision::Both => {
             if take_choice(space) {
-                assume(space, p);
+                assume(space, CONJUNCTION, p);
                 return Branch::First;
             }
-            assume_not(space, p);
+            assume(space, EXCLUSION, p);
             Branch::Second
         }
         Decision::OnlyTrue => {
-            assume(space, p);
+            assume(space, CONJUNCTION, p);
             Branch::First
         }
         Decision::OnlyFalse => {
-            assume_not(space, p);
+            assume(space, EXCLUSION, p);
             Branch::Second
         }
     }

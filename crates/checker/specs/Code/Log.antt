@@ -15,10 +15,10 @@ use Rattle.checker.specs.declared.log.Found.the-variants.{Value, Nothing
 
 -- write i: the reference's type and symbol, and the value's type
 abbrev pub rightOn : List ℕ → ℕ → Bool
-rightOn ws i = leb 2 (getD ws (1161 + 4 * i) 0) && eqb (getD ws (1161 + 4 * i) 0 - 2) (getD ws (1161 + 4 * i + 2) 0)
+rightOn ws i = leb 2 (getD ws (729 + 4 * i) 0) && eqb (getD ws (729 + 4 * i) 0 - 2) (getD ws (729 + 4 * i + 2) 0)
 
 abbrev pub symbolOn : List ℕ → ℕ → ℕ
-symbolOn ws i = getD ws (1161 + 4 * i + 1) 0 / 2
+symbolOn ws i = getD ws (729 + 4 * i + 1) 0 / 2
 
 -- write i is right and through the symbol
 abbrev pub mendsOn : List ℕ → ℕ → ℕ → Bool
@@ -46,9 +46,9 @@ apartOn p q = eqb (p % 2) 1 && eqb (q % 2) 1 && not (eqb (p / 2) (q / 2))
 unfoldable pub lookupOn : List ℕ → ℕ → ℕ → Found
 lookupOn ws q zero = Nothing
 lookupOn ws q (suc i) =
-    let p = getD ws (1161 + 4 * i + 1) 0 in
+    let p = getD ws (729 + 4 * i + 1) 0 in
     pick (apartOn p q) (lookupOn ws q i)
-    (pick (eqb (p / 2) (q / 2)) (Value (getD ws (1161 + 4 * i + 2) 0) (getD ws (1161 + 4 * i + 3) 0)) Nothing)
+    (pick (eqb (p / 2) (q / 2)) (Value (getD ws (729 + 4 * i + 2) 0) (getD ws (729 + 4 * i + 3) 0)) Nothing)
 
 -- what that means
 pub data FoundAs (ws : List ℕ) : Found → Option Symbolic → Type 0 where
@@ -58,5 +58,5 @@ pub data FoundAs (ws : List ℕ) : Found → Option Symbolic → Type 0 where
 -- one write more
 abbrev pub written : List ℕ → ℕ → ℕ → ℕ → ℕ → List ℕ
 written ws t p u q =
-    let at = 1161 + 4 * writesIn ws in
-    set (set (set (set (set ws at t) (at + 1) p) (at + 2) u) (at + 3) q) 1158 (writesIn ws + 1)
+    let at = 729 + 4 * writesIn ws in
+    set (set (set (set (set ws at t) (at + 1) p) (at + 2) u) (at + 3) q) 726 (writesIn ws + 1)

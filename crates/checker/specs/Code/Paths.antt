@@ -24,12 +24,9 @@ pub record Fresh (t : ℕ) (ws : List ℕ) (q : ℕ) (left : List ℕ) : Type 0 
   pub condition : conditionIn left ≡ conditionIn ws
   pub most : countIn left ≤ countIn ws + 1
 
--- the condition joined by a guard, or by its negation
-abbrev pub assumed : List ℕ → ℕ → List ℕ
-assumed ws guard = set (pushed ws 5 (conditionIn ws) guard) 1157 (countIn ws)
-
-abbrev pub assumedNot : List ℕ → ℕ → List ℕ
-assumedNot ws guard = assumed (pushed ws 4 guard 0) (countIn ws)
+-- the condition joined by a guard, with this operator
+abbrev pub assumed : List ℕ → ℕ → ℕ → List ℕ
+assumed ws op guard = set (pushed ws op (conditionIn ws) guard) 725 (countIn ws)
 
 -- a choice: the first of those left, or the first branch if none is
 pub data Choice (ws left : List ℕ) : Bool → Type 0 where
@@ -38,8 +35,8 @@ pub data Choice (ws left : List ℕ) : Bool → Type 0 where
 
 pub record TakesChoice (ws : List ℕ) (r : Bool) (left : List ℕ) : Type 0 where
   pub same : length left ≡ length ws
-  pub before : (k : ℕ) → k < 1159 → getD left k 0 ≡ getD ws k 0
-  pub log : (k : ℕ) → 1161 ≤ k → k < 1673 → getD left k 0 ≡ getD ws k 0
+  pub before : (k : ℕ) → k < 727 → getD left k 0 ≡ getD ws k 0
+  pub log : (k : ℕ) → 729 ≤ k → k < 1241 → getD left k 0 ≡ getD ws k 0
   pub counts : metIn left ≡ metIn ws + 1
   pub choice : Choice ws left r
 

@@ -295,7 +295,7 @@ pub record ExecutesRest (limit : ℕ) (table : List ℕ) (n depth t q : ℕ) (ws
 
 -- a path at its start: so many rows, and as many symbols as variables
 abbrev pub restarted : List ℕ → ℕ → ℕ → List ℕ
-restarted ws rows depth = set (set (set (set (set ws 288 rows) 1156 depth) 1157 0) 1158 0) 1159 0
+restarted ws rows depth = set (set (set (set (set ws 288 rows) 724 depth) 725 0) 726 0) 727 0
 
 -- a workspace whose rows and variables are those of a path at its start
 pub record Started (ws : List ℕ) (depth rows : ℕ) (types : List ℕ) : Type 0 where
@@ -309,7 +309,7 @@ choicesOn ws = choicesAt ws 0 (choicesIn ws)
 
 pub data NextChoices (ws : List ℕ) : Bool → List ℕ → Type 0 where
   no-next : next (metOn ws) ≡ none → NextChoices ws false ws
-  a-next : {left : List ℕ} → length left ≡ length ws → ((k : ℕ) → k < 1160 → getD left k 0 ≡ getD ws k 0)
+  a-next : {left : List ℕ} → length left ≡ length ws → ((k : ℕ) → k < 728 → getD left k 0 ≡ getD ws k 0)
       → next (metOn ws) ≡ some (choicesOn left) → NextChoices ws true left
 
 -- how a path of type t ends: by its log, by whether it has the right type, and by whether another one follows
@@ -321,7 +321,7 @@ pub data EndOf (n t : ℕ) (ws left : List ℕ) : Bool → Bool → Walked → T
 
 pub record PathEnds (n t : ℕ) (first : Bool) (kind : ℕ) (ws : List ℕ) (r : Walked) (left : List ℕ) : Type 0 where
   pub same : length left ≡ length ws
-  pub before : (k : ℕ) → k < 1160 → getD left k 0 ≡ getD ws k 0
+  pub before : (k : ℕ) → k < 728 → getD left k 0 ≡ getD ws k 0
   pub ending : (l : List Write) → Log ws (writesIn ws) l → EndOf n t ws left (consistentAfter [] l) (first || eqb t kind) r
 
 -- node a can be followed on a path with so many rows and variables at its start

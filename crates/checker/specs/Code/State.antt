@@ -18,25 +18,25 @@ use Rattle.checker.specs.declared.operators.Step.the-variants.{Gave, Sto
 -- ---- the places of a workspace
 
 abbrev pub nextIn : List ℕ → ℕ
-nextIn ws = getD ws 1156 0
+nextIn ws = getD ws 724 0
 
 abbrev pub conditionIn : List ℕ → ℕ
-conditionIn ws = getD ws 1157 0
+conditionIn ws = getD ws 725 0
 
 abbrev pub writesIn : List ℕ → ℕ
-writesIn ws = getD ws 1158 0
+writesIn ws = getD ws 726 0
 
 abbrev pub metIn : List ℕ → ℕ
-metIn ws = getD ws 1159 0
+metIn ws = getD ws 727 0
 
 abbrev pub choicesIn : List ℕ → ℕ
-choicesIn ws = getD ws 1160 0
+choicesIn ws = getD ws 728 0
 
 abbrev pub variablesEnd : ℕ
 variablesEnd = 288
 
 abbrev pub spaceSize : ℕ
-spaceSize = 1801
+spaceSize = 1369
 
 abbrev pub nodeLimit : ℕ
 nodeLimit = 128
@@ -67,8 +67,8 @@ pub data Variables (ws : List ℕ) : ℕ → List Symbolic → Type 0 where
 pub data Log (ws : List ℕ) : ℕ → List Write → Type 0 where
   noWrite : Log ws 0 []
   aWrite : {k : ℕ} {o : Origin} {t s : ℕ} {v : Symbolic} {l : List Write} → Log ws k l
-      → Means ws (getD ws (1161 + 4 * k) 0) (getD ws (1161 + 4 * k + 1) 0) (aReference o t s)
-      → Means ws (getD ws (1161 + 4 * k + 2) 0) (getD ws (1161 + 4 * k + 3) 0) v → Log ws (suc k) (writeOf o t s v ∷ l)
+      → Means ws (getD ws (729 + 4 * k) 0) (getD ws (729 + 4 * k + 1) 0) (aReference o t s)
+      → Means ws (getD ws (729 + 4 * k + 2) 0) (getD ws (729 + 4 * k + 3) 0) v → Log ws (suc k) (writeOf o t s v ∷ l)
 
 pub record PathIn (ws : List ℕ) (p : Path) : Type 0 where
   pub next : nextIn ws ≡ p .next
@@ -97,7 +97,7 @@ pub record Standing (ws : List ℕ) (depth : ℕ) : Type 0 where
 -- k choices from place i on
 unfoldable pub choicesAt : List ℕ → ℕ → ℕ → List Bool
 choicesAt ws i zero = []
-choicesAt ws i (suc k) = eqb (getD ws (1673 + i) 0) 1 ∷ choicesAt ws (suc i) k
+choicesAt ws i (suc k) = eqb (getD ws (1241 + i) 0) 1 ∷ choicesAt ws (suc i) k
 
 -- those met, and those left
 abbrev pub metOn : List ℕ → List Bool
@@ -111,7 +111,7 @@ leftOn ws = choicesAt ws (metIn ws) (choicesIn ws - metIn ws)
 -- a whole workspace, with room for so many more nodes
 pub record Room (ws : List ℕ) (more : ℕ) : Type 0 where
   pub lent : spaceSize ≤ length ws
-  pub rows : countIn ws + 2 * more ≤ rowLimit
+  pub rows : countIn ws + more ≤ rowLimit
   pub symbols : nextIn ws + more ≤ symbolLimit
   pub writes : writesIn ws + more ≤ nodeLimit
   pub choices : metIn ws + more ≤ nodeLimit
@@ -121,7 +121,7 @@ pub record Went (ws left : List ℕ) (depth nodes : ℕ) : Type 0 where
   pub same : length left ≡ length ws
   pub before : (k : ℕ) → k < 2 * depth → getD left k 0 ≡ getD ws k 0
   pub grown : Grown ws left
-  pub rows : countIn left ≤ countIn ws + 2 * nodes
+  pub rows : countIn left ≤ countIn ws + nodes
   pub symbols : nextIn left ≤ nextIn ws + nodes
   pub writes : writesIn left ≤ writesIn ws + nodes
   pub choices : metIn left ≤ metIn ws + nodes
@@ -143,4 +143,4 @@ pub data Yields (left : List ℕ) : Step → Paths → Type 0 where
 pub record Unchosen (ws left : List ℕ) : Type 0 where
   pub met : metIn left ≡ metIn ws
   pub all : choicesIn left ≡ choicesIn ws
-  pub each : (k : ℕ) → 1673 ≤ k → getD left k 0 ≡ getD ws k 0
+  pub each : (k : ℕ) → 1241 ≤ k → getD left k 0 ≡ getD ws k 0

@@ -30,7 +30,7 @@ add-t14 : tie.Need-add-t14
 add-t14 c = omega (arith, c .before .before .before .before .before .before .before .pre .symbols)
 
 same-length : tie.Need-same-length
-same-length c = omega (arith, c .before .space .given, length-set (c .before .before .before .before .before .before .before .args .space .now) 1156 (nextIn (c .before .before .before .before .before .before .before .args .space .now) + 1))
+same-length c = omega (arith, c .before .space .given, length-set (c .before .before .before .before .before .before .before .args .space .now) 724 (nextIn (c .before .before .before .before .before .before .before .args .space .now) + 1))
 
 returns-2 : tie.Need-returns-2
 returns-2 c = ref-made (c .before .before .before .before .before .before .before .args .n) (c .before .before .before .before .before .before .before .args .t) (c .before .before .before .before .before .before .before .args .p) (c .before .before .before .before .before .before .before .pre) (c .before .before .before .before .before .if1 .left) (c .before .before .write .ensures)

@@ -17,7 +17,7 @@ fresh-requires : tie.Need-fresh-requires
 fresh-requires c κs = emptied-room (c .before .before .before .before .before .args .n) (c .before .before .before .before .before .args .t) (c .before .before .consistent .ensures) (c .before .before .before .before .before .pre)
 
 same-length-2 : tie.Need-same-length-2
-same-length-2 c = omega (arith, c .before .space .given, length-set (c .before .before .before .before .before .before .before .before .args .space .now) 1158 0)
+same-length-2 c = omega (arith, c .before .space .given, length-set (c .before .before .before .before .before .before .before .before .args .space .now) 726 0)
 
 returns-2 : tie.Need-returns-2
 returns-2 c = block-made (c .before .before .before .before .before .before .before .before .args .n) (c .before .before .before .before .before .before .before .before .args .t) (c .before .before .before .before .before .consistent .ensures) (c .before .before .before .before .before .before .before .before .pre) (not-false _ (c .before .before .before .before .if1 .left)) (c .before .before .fresh .ensures)

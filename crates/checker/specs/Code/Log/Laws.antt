@@ -48,10 +48,10 @@ eqb-turn a b = go (eqb a b) refl
 typed-right : (t c u : ℕ) → t ≡ suc (suc c) → (leb 2 t && eqb (t - 2) u) ≡ eqb u c
 typed-right t c u e = let f : t - 2 ≡ c = omega arith in rw (le-leb 2 t (omega arith), f) (eqb-turn c u)
 
-right-is : {ws : List ℕ} (k : ℕ) {c s : ℕ} {o : Origin} {v : Symbolic} → Means ws (getD ws (1161 + 4 * k) 0) (getD ws (1161 + 4 * k + 1) 0) (aReference o c s)
-    → {q : ℕ} → Means ws (getD ws (1161 + 4 * k + 2) 0) q v → rightOn ws k ≡ eqb (typeOf v) c
+right-is : {ws : List ℕ} (k : ℕ) {c s : ℕ} {o : Origin} {v : Symbolic} → Means ws (getD ws (729 + 4 * k) 0) (getD ws (729 + 4 * k + 1) 0) (aReference o c s)
+    → {q : ℕ} → Means ws (getD ws (729 + 4 * k + 2) 0) q v → rightOn ws k ≡ eqb (typeOf v) c
 right-is {ws} k {c = c} m n =
-    typed-right (getD ws (1161 + 4 * k) 0) c (getD ws (1161 + 4 * k + 2) 0) (place-of m .type) ∙ ap (λ (u : ℕ). eqb u c) (sym (means-type n))
+    typed-right (getD ws (729 + 4 * k) 0) c (getD ws (729 + 4 * k + 2) 0) (place-of m .type) ∙ ap (λ (u : ℕ). eqb u c) (sym (means-type n))
 
 -- where the writes from k on mend the symbols of m
 consistent-from : {ws : List ℕ} {k : ℕ} {l : List Write} → Log ws k l → (more : ℕ) (m : List ℕ) → ((s : ℕ) → mendedOn ws s k more ≡ has m s)
@@ -94,12 +94,12 @@ lookup-is noWrite m = found-none
 lookup-is {ws} {q = q} {s = s} {o = o} (aWrite {k = k} {o = p} {s = u} {v = v} {l = l} r a b) m =
     let x = place-of a in
     let y = place-of m in
-    let e : apartOn (getD ws (1161 + 4 * k + 1) 0) q ≡ apart p u o s = rw (x .origin, y .origin, x .symbol, y .symbol) (sym (apart-is p u o s)) in
+    let e : apartOn (getD ws (729 + 4 * k + 1) 0) q ≡ apart p u o s = rw (x .origin, y .origin, x .symbol, y .symbol) (sym (apart-is p u o s)) in
     rw (e, x .symbol, y .symbol) (go (apart p u o s) (eqb u s) (lookup-is r m))
   where
     go : (d same : Bool) → FoundAs ws (lookupOn ws q k) (lookup o s l)
         → FoundAs ws
-        (pick d (lookupOn ws q k) (pick same (Value (getD ws (1161 + 4 * k + 2) 0) (getD ws (1161 + 4 * k + 3) 0)) Nothing))
+        (pick d (lookupOn ws q k) (pick same (Value (getD ws (729 + 4 * k + 2) 0) (getD ws (729 + 4 * k + 3) 0)) Nothing))
         (pick d (lookup o s l) (pick same (some v) none))
     go true same f = f
     go false true f = found-some b
@@ -109,68 +109,68 @@ lookup-is {ws} {q = q} {s = s} {o = o} (aWrite {k = k} {o = p} {s = u} {v = v} {
 
 module _ (ws : List ℕ) (t p u q : ℕ) (lent : spaceSize ≤ length ws) (few : writesIn ws < nodeLimit) (rows : countIn ws ≤ rowLimit) where
   abbrev one : List ℕ
-  one = set ws (1161 + 4 * writesIn ws) t
+  one = set ws (729 + 4 * writesIn ws) t
 
   abbrev two : List ℕ
-  two = set one (1161 + 4 * writesIn ws + 1) p
+  two = set one (729 + 4 * writesIn ws + 1) p
 
   abbrev three : List ℕ
-  three = set two (1161 + 4 * writesIn ws + 2) u
+  three = set two (729 + 4 * writesIn ws + 2) u
 
   abbrev four : List ℕ
-  four = set three (1161 + 4 * writesIn ws + 3) q
+  four = set three (729 + 4 * writesIn ws + 3) q
 
   pub written-length : length (written ws t p u q) ≡ length ws
   written-length = simp length-set
 
   pub written-writes : writesIn (written ws t p u q) ≡ writesIn ws + 1
-  written-writes = getD-set-same four 1158 (writesIn ws + 1) 0 (simp length-set (omega arith))
+  written-writes = getD-set-same four 726 (writesIn ws + 1) 0 (simp length-set (omega arith))
 
-  written-place : (k : ℕ) → (k ≡ 1158 → ⊥) → (k ≡ 1161 + 4 * writesIn ws → ⊥) → (k ≡ 1161 + 4 * writesIn ws + 1 → ⊥) → (k ≡ 1161 + 4 * writesIn ws + 2 → ⊥)
-      → (k ≡ 1161 + 4 * writesIn ws + 3 → ⊥) → getD (written ws t p u q) k 0 ≡ getD ws k 0
+  written-place : (k : ℕ) → (k ≡ 726 → ⊥) → (k ≡ 729 + 4 * writesIn ws → ⊥) → (k ≡ 729 + 4 * writesIn ws + 1 → ⊥) → (k ≡ 729 + 4 * writesIn ws + 2 → ⊥)
+      → (k ≡ 729 + 4 * writesIn ws + 3 → ⊥) → getD (written ws t p u q) k 0 ≡ getD ws k 0
   written-place k a b c d e =
-      getD-set-other four 1158 k (writesIn ws + 1) 0 a
-      ∙ getD-set-other three (1161 + 4 * writesIn ws + 3) k q 0 e
-      ∙ getD-set-other two (1161 + 4 * writesIn ws + 2) k u 0 d
-      ∙ getD-set-other one (1161 + 4 * writesIn ws + 1) k p 0 c
-      ∙ getD-set-other ws (1161 + 4 * writesIn ws) k t 0 b
+      getD-set-other four 726 k (writesIn ws + 1) 0 a
+      ∙ getD-set-other three (729 + 4 * writesIn ws + 3) k q 0 e
+      ∙ getD-set-other two (729 + 4 * writesIn ws + 2) k u 0 d
+      ∙ getD-set-other one (729 + 4 * writesIn ws + 1) k p 0 c
+      ∙ getD-set-other ws (729 + 4 * writesIn ws) k t 0 b
 
   -- every place but the count and the new write's is as it was
-  pub written-before : (k : ℕ) → (k ≡ 1158 → ⊥) → k < 1161 + 4 * writesIn ws → getD (written ws t p u q) k 0 ≡ getD ws k 0
+  pub written-before : (k : ℕ) → (k ≡ 726 → ⊥) → k < 729 + 4 * writesIn ws → getD (written ws t p u q) k 0 ≡ getD ws k 0
   written-before k a l = written-place k a (λ e. omega arith) (λ e. omega arith) (λ e. omega arith) (λ e. omega arith)
 
-  pub written-behind : (k : ℕ) → 1673 ≤ k → getD (written ws t p u q) k 0 ≡ getD ws k 0
+  pub written-behind : (k : ℕ) → 1241 ≤ k → getD (written ws t p u q) k 0 ≡ getD ws k 0
   written-behind k l = written-place k (λ e. omega arith) (λ e. omega arith) (λ e. omega arith) (λ e. omega arith) (λ e. omega arith)
 
-  pub written-type : getD (written ws t p u q) (1161 + 4 * writesIn ws) 0 ≡ t
+  pub written-type : getD (written ws t p u q) (729 + 4 * writesIn ws) 0 ≡ t
   written-type =
       let n = writesIn ws in
-      getD-set-other four 1158 (1161 + 4 * n) (n + 1) 0 (λ e. omega arith)
-      ∙ getD-set-other three (1161 + 4 * n + 3) (1161 + 4 * n) q 0 (λ e. omega arith)
-      ∙ getD-set-other two (1161 + 4 * n + 2) (1161 + 4 * n) u 0 (λ e. omega arith)
-      ∙ getD-set-other one (1161 + 4 * n + 1) (1161 + 4 * n) p 0 (λ e. omega arith)
-      ∙ getD-set-same ws (1161 + 4 * n) t 0 (omega arith)
+      getD-set-other four 726 (729 + 4 * n) (n + 1) 0 (λ e. omega arith)
+      ∙ getD-set-other three (729 + 4 * n + 3) (729 + 4 * n) q 0 (λ e. omega arith)
+      ∙ getD-set-other two (729 + 4 * n + 2) (729 + 4 * n) u 0 (λ e. omega arith)
+      ∙ getD-set-other one (729 + 4 * n + 1) (729 + 4 * n) p 0 (λ e. omega arith)
+      ∙ getD-set-same ws (729 + 4 * n) t 0 (omega arith)
 
-  pub written-through : getD (written ws t p u q) (1161 + 4 * writesIn ws + 1) 0 ≡ p
+  pub written-through : getD (written ws t p u q) (729 + 4 * writesIn ws + 1) 0 ≡ p
   written-through =
       let n = writesIn ws in
-      getD-set-other four 1158 (1161 + 4 * n + 1) (n + 1) 0 (λ e. omega arith)
-      ∙ getD-set-other three (1161 + 4 * n + 3) (1161 + 4 * n + 1) q 0 (λ e. omega arith)
-      ∙ getD-set-other two (1161 + 4 * n + 2) (1161 + 4 * n + 1) u 0 (λ e. omega arith)
-      ∙ getD-set-same one (1161 + 4 * n + 1) p 0 (simp length-set (omega arith))
+      getD-set-other four 726 (729 + 4 * n + 1) (n + 1) 0 (λ e. omega arith)
+      ∙ getD-set-other three (729 + 4 * n + 3) (729 + 4 * n + 1) q 0 (λ e. omega arith)
+      ∙ getD-set-other two (729 + 4 * n + 2) (729 + 4 * n + 1) u 0 (λ e. omega arith)
+      ∙ getD-set-same one (729 + 4 * n + 1) p 0 (simp length-set (omega arith))
 
-  pub written-kind : getD (written ws t p u q) (1161 + 4 * writesIn ws + 2) 0 ≡ u
+  pub written-kind : getD (written ws t p u q) (729 + 4 * writesIn ws + 2) 0 ≡ u
   written-kind =
       let n = writesIn ws in
-      getD-set-other four 1158 (1161 + 4 * n + 2) (n + 1) 0 (λ e. omega arith)
-      ∙ getD-set-other three (1161 + 4 * n + 3) (1161 + 4 * n + 2) q 0 (λ e. omega arith)
-      ∙ getD-set-same two (1161 + 4 * n + 2) u 0 (simp length-set (omega arith))
+      getD-set-other four 726 (729 + 4 * n + 2) (n + 1) 0 (λ e. omega arith)
+      ∙ getD-set-other three (729 + 4 * n + 3) (729 + 4 * n + 2) q 0 (λ e. omega arith)
+      ∙ getD-set-same two (729 + 4 * n + 2) u 0 (simp length-set (omega arith))
 
-  pub written-value : getD (written ws t p u q) (1161 + 4 * writesIn ws + 3) 0 ≡ q
+  pub written-value : getD (written ws t p u q) (729 + 4 * writesIn ws + 3) 0 ≡ q
   written-value =
       let n = writesIn ws in
-      getD-set-other four 1158 (1161 + 4 * n + 3) (n + 1) 0 (λ e. omega arith)
-      ∙ getD-set-same three (1161 + 4 * n + 3) q 0 (simp length-set (omega arith))
+      getD-set-other four 726 (729 + 4 * n + 3) (n + 1) 0 (λ e. omega arith)
+      ∙ getD-set-same three (729 + 4 * n + 3) q 0 (simp length-set (omega arith))
 
   pub written-grown : Grown ws (written ws t p u q)
   written-grown =
@@ -180,8 +180,8 @@ module _ (ws : List ℕ) (t p u q : ℕ) (lent : spaceSize ≤ length ws) (few :
   pub written-ruled : Ruled ws (written ws t p u q)
   written-ruled =
       let c = written-before 288 (λ h. omega arith) (omega arith) in
-      let n = written-before 1156 (λ h. omega arith) (omega arith) in
-      let m = written-before 1159 (λ h. omega arith) (omega arith) in
+      let n = written-before 724 (λ h. omega arith) (omega arith) in
+      let m = written-before 727 (λ h. omega arith) (omega arith) in
       record {
         went = record {
           same = written-length;
@@ -194,7 +194,7 @@ module _ (ws : List ℕ) (t p u q : ℕ) (lent : spaceSize ≤ length ws) (few :
         };
         unchosen = record {
           met = m;
-          all = written-before 1160 (λ h. omega arith) (omega arith);
+          all = written-before 728 (λ h. omega arith) (omega arith);
           each = written-behind;
         };
       }
@@ -203,8 +203,8 @@ module _ (ws : List ℕ) (t p u q : ℕ) (lent : spaceSize ≤ length ws) (few :
       → PathIn (written ws t p u q) (write (writeOf o c s v) path)
   written-path path h m n =
       let f = written-before 288 (λ z. omega arith) (omega arith) in
-      path-moved written-grown (still-distinct written-grown (omega (arith, f)) (h .distinct)) (written-before 1157 (λ z. omega arith) (omega arith))
-      (written-before 1156 (λ z. omega arith) (omega arith) ∙ h .next)
+      path-moved written-grown (still-distinct written-grown (omega (arith, f)) (h .distinct)) (written-before 725 (λ z. omega arith) (omega arith))
+      (written-before 724 (λ z. omega arith) (omega arith) ∙ h .next)
       (rw (written-writes ∙ add-one (writesIn ws))
       (aWrite (log-kept (λ j i l. written-before j (λ z. omega arith) l) written-grown (h .log))
       (means-at written-grown written-type written-through m)

@@ -69,10 +69,10 @@ pub record Looking (ws : List ℕ) (q count i : ℕ) : Type 0 where
 
 module _ (ws : List ℕ) (q count : ℕ) where
   abbrev throughOn : ℕ → ℕ
-  throughOn j = getD ws (1161 + 4 * j + 1) 0
+  throughOn j = getD ws (729 + 4 * j + 1) 0
 
   abbrev valueOn : ℕ → Found
-  valueOn j = Value (getD ws (1161 + 4 * j + 2) 0) (getD ws (1161 + 4 * j + 3) 0)
+  valueOn j = Value (getD ws (729 + 4 * j + 2) 0) (getD ws (729 + 4 * j + 3) 0)
 
   looking-by : (i j : ℕ) → i ≡ suc j → lookupOn ws q i
       ≡ pick (apartOn (throughOn j) q) (lookupOn ws q j) (pick (eqb (throughOn j / 2) (q / 2)) (valueOn j) Nothing)
@@ -99,11 +99,11 @@ module _ (ws : List ℕ) (q count : ℕ) where
 
 -- ---- tests of a write
 
-pub right-typed : (ws : List ℕ) (i : ℕ) → 2 ≤ getD ws (1161 + 4 * i) 0 → eqb (getD ws (1161 + 4 * i) 0 - 2) (getD ws (1161 + 4 * i + 2) 0) ≡ rightOn ws i
-right-typed ws i l = rw (le-leb 2 (getD ws (1161 + 4 * i) 0) l) refl
+pub right-typed : (ws : List ℕ) (i : ℕ) → 2 ≤ getD ws (729 + 4 * i) 0 → eqb (getD ws (729 + 4 * i) 0 - 2) (getD ws (729 + 4 * i + 2) 0) ≡ rightOn ws i
+right-typed ws i l = rw (le-leb 2 (getD ws (729 + 4 * i) 0) l) refl
 
-pub right-untyped : (ws : List ℕ) (i : ℕ) → getD ws (1161 + 4 * i) 0 < 2 → leb 2 (getD ws (1161 + 4 * i) 0) ≡ rightOn ws i
-right-untyped ws i l = rw (lt-leb 2 (getD ws (1161 + 4 * i) 0) l) refl
+pub right-untyped : (ws : List ℕ) (i : ℕ) → getD ws (729 + 4 * i) 0 < 2 → leb 2 (getD ws (729 + 4 * i) 0) ≡ rightOn ws i
+right-untyped ws i l = rw (lt-leb 2 (getD ws (729 + 4 * i) 0) l) refl
 
 module _ (p q : ℕ) where
   pub apart-first : (p % 2 ≡ 1 → ⊥) → false ≡ apartOn p q

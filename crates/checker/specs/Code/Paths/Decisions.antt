@@ -20,8 +20,8 @@ use Rattle.decision.specs.Decision.{branchesOf, decisionOf}
 use Rattle.decision.specs.Decision.Laws.{decides}
 use Rattle.decision.specs.declared.Decision.{Decision}
 use Rattle.decision.specs.declared.Decision.the-variants.{TooMany, Both, OnlyTrue, OnlyFalse}
-use Rattle.checker.specs.Code.Paths.{Choice, of-none, of-some, TakesChoice, assumed, assumedNot}
-use Rattle.checker.specs.Code.Paths.Conditions.{Joined, joined-went, joined-unchosen, assumed-joined, assumed-path, denied-joined, denied-path}
+use Rattle.checker.specs.Code.Paths.{Choice, of-none, of-some, TakesChoice, assumed}
+use Rattle.checker.specs.Code.Paths.Conditions.{Joined, joined-went, joined-unchosen, assumed-joined, assumed-path, denied-path}
 use Rattle.checker.specs.Code.Rules.{Decidable, Chosen, first, second, neither, Chooses}
 use Rattle.checker.specs.Code.State.{conditionIn, spaceSize, Means, wordRow, truthRow, madeSymbol, otherSymbol, PathIn, metOn, leftOn, Room, Went}
 use Rattle.checker.specs.Code.State.Laws.{path-moved, log-kept, went-refl, unchosen-met, unchosen-left}
@@ -79,24 +79,24 @@ module _ {ws xs : List ℕ} {r : Bool} (room : Room ws 1) (k : TakesChoice ws r 
   takes-path : (p : Path) → PathIn ws p → PathIn xs p
   takes-path p h =
       let e = k .before 288 (omega arith) in
-      path-moved takes-grown (still-distinct takes-grown (omega (arith, e)) (h .distinct)) (k .before 1157 (omega arith)) (k .before 1156 (omega arith) ∙ h .next)
-      (rw (k .before 1158 (omega arith)) (log-kept (λ j i l. k .log j i (omega (arith, l, room .writes))) takes-grown (h .log))) h
+      path-moved takes-grown (still-distinct takes-grown (omega (arith, e)) (h .distinct)) (k .before 725 (omega arith)) (k .before 724 (omega arith) ∙ h .next)
+      (rw (k .before 726 (omega arith)) (log-kept (λ j i l. k .log j i (omega (arith, l, room .writes))) takes-grown (h .log))) h
 
   pub takes-lent : spaceSize ≤ length xs
   takes-lent = omega (arith, room .lent, k .same)
 
-  pub takes-space : Space xs 2
+  pub takes-space : Space xs 1
   takes-space = let e = k .before 288 (omega arith) in record { lent = omega (arith, takes-lent); room = omega (arith, e, room .rows) }
 
   takes-went : {left : List ℕ} → Joined xs left → Went ws left symbolLimit 1
   takes-went j =
       let w = joined-went j in
       let e = k .before 288 (omega arith) in
-      let n = k .before 1156 (omega arith) in
-      let l = k .before 1158 (omega arith) in
-      let o = j .beyond 1156 (omega arith) (λ z. omega arith) in
-      let q = j .beyond 1158 (omega arith) (λ z. omega arith) in
-      let m = j .beyond 1159 (omega arith) (λ z. omega arith) in
+      let n = k .before 724 (omega arith) in
+      let l = k .before 726 (omega arith) in
+      let o = j .beyond 724 (omega arith) (λ z. omega arith) in
+      let q = j .beyond 726 (omega arith) (λ z. omega arith) in
+      let m = j .beyond 727 (omega arith) (λ z. omega arith) in
       record {
         same = w .same ∙ k .same;
         before = λ i h. w .before i h ∙ k .before i (omega arith);
@@ -108,9 +108,6 @@ module _ {ws xs : List ℕ} {r : Bool} (room : Room ws 1) (k : TakesChoice ws r 
       }
 
 -- ---- the answers
-
-pub two-free : {ws : List ℕ} → Room ws 1 → Space ws 2
-two-free r = record { lent = omega (arith, r .lent); room = omega (arith, r .rows) }
 
 pub one-free : {ws : List ℕ} → Room ws 1 → Space ws 1
 one-free r = record { lent = omega (arith, r .lent); room = omega (arith, r .rows) }
@@ -150,68 +147,66 @@ module _ {n q : ℕ} {ws : List ℕ} where
     pub chooses-many : (t : ℕ) → t ≡ 1 → TooMany ≡ decided ws (conditionIn ws) q → Chooses n t q ws (Neither (TooManyAtoms n)) ws
     chooses-many t x is = record { went = went-refl ws symbolLimit 1; chosen = λ v p m h. many is v p (rw x at m) h }
 
-    only-true : OnlyTrue ≡ decided ws (conditionIn ws) q → (v : Symbolic) (p : Path) → Means ws 1 q v → PathIn ws p → Chosen ws (assumed ws q) n v p First
+    only-true : OnlyTrue ≡ decided ws (conditionIn ws) q → (v : Symbolic) (p : Path) → Means ws 1 q v → PathIn ws p → Chosen ws (assumed ws 5 q) n v p First
     only-true is v p (truthRow {f = g} l u) h =
-        let j = joined-unchosen (assumed-joined (one-free room) (room .lent) q) in
+        let j = joined-unchosen (assumed-joined (one-free room) (room .lent) 5 q) in
         first (assumed-path (one-free room) (room .lent) q p l u h) λ e f.
         rw (unchosen-met j, unchosen-left j)
         (ap (λ (t : Paths). follow t (metOn ws) (leftOn ws)) (tree-is n q ws room OnlyTrue is g p u l h e f))
 
-    pub chooses-true : (t : ℕ) → t ≡ 1 → OnlyTrue ≡ decided ws (conditionIn ws) q → Chooses n t q ws First (assumed ws q)
+    pub chooses-true : (t : ℕ) → t ≡ 1 → OnlyTrue ≡ decided ws (conditionIn ws) q → Chooses n t q ws First (assumed ws 5 q)
     chooses-true t x is =
         record {
-          went = joined-went (assumed-joined (one-free room) (room .lent) q);
+          went = joined-went (assumed-joined (one-free room) (room .lent) 5 q);
           chosen = λ v p m h. only-true is v p (rw x at m) h;
         }
 
     only-false : OnlyFalse ≡ decided ws (conditionIn ws) q → (v : Symbolic) (p : Path) → Means ws 1 q v → PathIn ws p
-        → Chosen ws (assumedNot ws q) n v p Second
+        → Chosen ws (assumed ws 7 q) n v p Second
     only-false is v p (truthRow {f = g} l u) h =
-        let j = joined-unchosen (denied-joined (two-free room) (room .lent) q) in
-        second (denied-path (two-free room) (room .lent) q p l u h) λ e f.
+        let j = joined-unchosen (assumed-joined (one-free room) (room .lent) 7 q) in
+        second (denied-path (one-free room) (room .lent) q p l u h) λ e f.
         rw (unchosen-met j, unchosen-left j)
         (ap (λ (t : Paths). follow t (metOn ws) (leftOn ws)) (tree-is n q ws room OnlyFalse is g p u l h e f))
 
-    pub chooses-false : (t : ℕ) → t ≡ 1 → OnlyFalse ≡ decided ws (conditionIn ws) q → Chooses n t q ws Second (assumedNot ws q)
+    pub chooses-false : (t : ℕ) → t ≡ 1 → OnlyFalse ≡ decided ws (conditionIn ws) q → Chooses n t q ws Second (assumed ws 7 q)
     chooses-false t x is =
         record {
-          went = joined-went (denied-joined (two-free room) (room .lent) q);
+          went = joined-went (assumed-joined (one-free room) (room .lent) 7 q);
           chosen = λ v p m h. only-false is v p (rw x at m) h;
         }
 
     module _ (is : Both ≡ decided ws (conditionIn ws) q) {xs : List ℕ} where
-      both-true : TakesChoice ws true xs → (v : Symbolic) (p : Path) → Means ws 1 q v → PathIn ws p → Chosen ws (assumed xs q) n v p First
+      both-true : TakesChoice ws true xs → (v : Symbolic) (p : Path) → Means ws 1 q v → PathIn ws p → Chosen ws (assumed xs 5 q) n v p First
       both-true k v p (truthRow {f = g} l u) h =
           let s = takes-space room k in
-          let o : Space xs 1 = record { lent = s .lent; room = omega (arith, s .room) } in
-          let j = joined-unchosen (assumed-joined o (takes-lent room k) q) in
-          first (assumed-path o (takes-lent room k) q p (row-on q k l) (truth-kept (takes-grown room k) u l) (takes-path room k p h)) λ e f.
+          let j = joined-unchosen (assumed-joined s (takes-lent room k) 5 q) in
+          first (assumed-path s (takes-lent room k) q p (row-on q k l) (truth-kept (takes-grown room k) u l) (takes-path room k p h)) λ e f.
           rw (unchosen-met j, unchosen-left j)
           (ap (λ (t : Paths). follow t (metOn ws) (leftOn ws)) (tree-is n q ws room Both is g p u l h e f)
           ∙ fork-first (e (truePath g p)) (f (falsePath g p)) (k .choice))
 
-      pub chooses-first : (t : ℕ) → t ≡ 1 → TakesChoice ws true xs → Chooses n t q ws First (assumed xs q)
+      pub chooses-first : (t : ℕ) → t ≡ 1 → TakesChoice ws true xs → Chooses n t q ws First (assumed xs 5 q)
       chooses-first t x k =
           let s = takes-space room k in
-          let o : Space xs 1 = record { lent = s .lent; room = omega (arith, s .room) } in
           record {
-            went = takes-went room k (assumed-joined o (takes-lent room k) q);
+            went = takes-went room k (assumed-joined s (takes-lent room k) 5 q);
             chosen = λ v p m h. both-true k v p (rw x at m) h;
           }
 
-      both-false : TakesChoice ws false xs → (v : Symbolic) (p : Path) → Means ws 1 q v → PathIn ws p → Chosen ws (assumedNot xs q) n v p Second
+      both-false : TakesChoice ws false xs → (v : Symbolic) (p : Path) → Means ws 1 q v → PathIn ws p → Chosen ws (assumed xs 7 q) n v p Second
       both-false k v p (truthRow {f = g} l u) h =
           let s = takes-space room k in
-          let j = joined-unchosen (denied-joined s (takes-lent room k) q) in
+          let j = joined-unchosen (assumed-joined s (takes-lent room k) 7 q) in
           second (denied-path s (takes-lent room k) q p (row-on q k l) (truth-kept (takes-grown room k) u l) (takes-path room k p h)) λ e f.
           rw (unchosen-met j, unchosen-left j)
           (ap (λ (t : Paths). follow t (metOn ws) (leftOn ws)) (tree-is n q ws room Both is g p u l h e f)
           ∙ fork-second (e (truePath g p)) (f (falsePath g p)) (k .choice))
 
-      pub chooses-second : (t : ℕ) → t ≡ 1 → TakesChoice ws false xs → Chooses n t q ws Second (assumedNot xs q)
+      pub chooses-second : (t : ℕ) → t ≡ 1 → TakesChoice ws false xs → Chooses n t q ws Second (assumed xs 7 q)
       chooses-second t x k =
           record {
-            went = takes-went room k (denied-joined (takes-space room k) (takes-lent room k) q);
+            went = takes-went room k (assumed-joined (takes-space room k) (takes-lent room k) 7 q);
             chosen = λ v p m h. both-false k v p (rw x at m) h;
           }
 
@@ -223,11 +218,8 @@ chooses-as e k = rw e k
 pub takes-as : {ws left : List ℕ} {r b : Bool} → TakesChoice ws r left → r ≡ b → TakesChoice ws b left
 takes-as k e = rw e at k
 
-pub takes-one : {ws xs : List ℕ} {r : Bool} → Room ws 1 → TakesChoice ws r xs → Space xs 1
-takes-one room k = let s = takes-space room k in record { lent = s .lent; room = omega (arith, s .room) }
-
 -- what the decision asks
-pub decide-needs : (ws : List ℕ) (t q : ℕ) → t ≡ 1 → Decidable ws t q → (1156 ≤ length ws) × ((conditionIn ws < rowLimit) × (q < rowLimit))
+pub decide-needs : (ws : List ℕ) (t q : ℕ) → t ≡ 1 → Decidable ws t q → (724 ≤ length ws) × ((conditionIn ws < rowLimit) × (q < rowLimit))
 decide-needs ws t q e d =
     let m = below-row (rw e at (d .valued .means)) in
     (omega (arith, d .room .lent), (omega (arith, d .holds .inside, d .room .rows), omega (arith, m, d .room .rows)))

@@ -36,7 +36,7 @@ types-last types i =
     ∙ ap (λ (k : ℕ). symbols 0 (typesOn types i) ++ (symbol (getD types (2 * i) 0) k ∷ [])) e
 
 -- where no choice and none met changes, all choices are as before
-choices-same : (ws left : List ℕ) → choicesIn left ≡ choicesIn ws → ((k : ℕ) → 1673 ≤ k → getD left k 0 ≡ getD ws k 0) → choicesOn left ≡ choicesOn ws
+choices-same : (ws left : List ℕ) → choicesIn left ≡ choicesIn ws → ((k : ℕ) → 1241 ≤ k → getD left k 0 ≡ getD ws k 0) → choicesOn left ≡ choicesOn ws
 choices-same ws left e b = rw e (choices-kept ws left 0 (choicesIn ws) λ j h l. b j (omega arith))
 
 -- ---- row 0
@@ -64,21 +64,21 @@ module _ {ws : List ℕ} (b : Blank ws) where
       let c = pushed-count blank-space 3 1 0 in
       let z = b .zeros 288 in
       let l = pushed-length blank-space 3 1 0 in
-      let d = first-beyond 1157 (omega arith) in
+      let d = first-beyond 725 (omega arith) in
       rw e
       (record {
         lent = omega (arith, l, b .lent);
         rows = omega arith;
         first = omega arith;
-        next = first-beyond 1156 (omega arith);
+        next = first-beyond 724 (omega arith);
         condition = d;
-        met = first-beyond 1159 (omega arith);
-        free = rw (first-beyond 1160 (omega arith)) refl;
+        met = first-beyond 727 (omega arith);
+        free = rw (first-beyond 728 (omega arith)) refl;
         path = record {
-          next = first-beyond 1156 (omega arith);
+          next = first-beyond 724 (omega arith);
           inside = omega arith;
           condition = rw (d ∙ sym z) (m .is);
-          log = rw (first-beyond 1158 (omega arith)) noWrite;
+          log = rw (first-beyond 726 (omega arith)) noWrite;
           distinct = m .distinct;
         };
         variables = noVariable;
@@ -154,9 +154,9 @@ module _ {types ws : List ℕ} {i : ℕ} (l : i < symbolLimit) (s : Starting typ
           rows = omega (arith, e, f .most, s .rows);
           first = omega (arith, e, g, s .first);
           next = placed-path .next;
-          condition = placed-behind 1157 (omega arith) ∙ f .condition ∙ s .condition;
-          met = placed-behind 1159 (omega arith) ∙ f .ruled .unchosen .met ∙ s .met;
-          free = choices-same ws placed (placed-behind 1160 (omega arith) ∙ f .ruled .unchosen .all)
+          condition = placed-behind 725 (omega arith) ∙ f .condition ∙ s .condition;
+          met = placed-behind 727 (omega arith) ∙ f .ruled .unchosen .met ∙ s .met;
+          free = choices-same ws placed (placed-behind 728 (omega arith) ∙ f .ruled .unchosen .all)
               (λ k h. placed-behind k (omega arith) ∙ f .ruled .unchosen .each k h)
               ∙ s .free;
           path = placed-path;
@@ -172,11 +172,11 @@ module _ {types ws : List ℕ} {depth : ℕ} (s : Starting types ws depth) where
   -- a restart changes nothing
   again : restarted ws (countIn ws) depth ≡ ws
   again =
-      ap (λ (x : List ℕ). set (set (set (set x 1156 depth) 1157 0) 1158 0) 1159 0) (set-getD ws 288 0)
-      ∙ ap (λ (x : List ℕ). set (set (set x 1157 0) 1158 0) 1159 0) (set-same ws 1156 depth (s .next))
-      ∙ ap (λ (x : List ℕ). set (set x 1158 0) 1159 0) (set-same ws 1157 0 (s .condition))
-      ∙ ap (λ (x : List ℕ). set x 1159 0) (set-same ws 1158 0 (empty-log (s .path .log)))
-      ∙ set-same ws 1159 0 (s .met)
+      ap (λ (x : List ℕ). set (set (set (set x 724 depth) 725 0) 726 0) 727 0) (set-getD ws 288 0)
+      ∙ ap (λ (x : List ℕ). set (set (set x 725 0) 726 0) 727 0) (set-same ws 724 depth (s .next))
+      ∙ ap (λ (x : List ℕ). set (set x 726 0) 727 0) (set-same ws 725 0 (s .condition))
+      ∙ ap (λ (x : List ℕ). set x 727 0) (set-same ws 726 0 (empty-log (s .path .log)))
+      ∙ set-same ws 727 0 (s .met)
 
   pub started-all : Started ws depth (countIn ws) (typesOn types depth)
   started-all =

@@ -43,16 +43,16 @@ module _ {ws : List ℕ} (s : Space ws 1) (op a b : ℕ) where
 
 module _ (ws : List ℕ) (room : Room ws 1) where
   abbrev numbered : List ℕ
-  numbered = set ws 1156 (nextIn ws + 1)
+  numbered = set ws 724 (nextIn ws + 1)
 
   numbered-length : length numbered ≡ length ws
-  numbered-length = length-set ws 1156 (nextIn ws + 1)
+  numbered-length = length-set ws 724 (nextIn ws + 1)
 
   numbered-next : nextIn numbered ≡ suc (nextIn ws)
-  numbered-next = getD-set-same ws 1156 (nextIn ws + 1) 0 (omega (arith, room .lent)) ∙ add-one (nextIn ws)
+  numbered-next = getD-set-same ws 724 (nextIn ws + 1) 0 (omega (arith, room .lent)) ∙ add-one (nextIn ws)
 
-  numbered-other : (k : ℕ) → (k ≡ 1156 → ⊥) → getD numbered k 0 ≡ getD ws k 0
-  numbered-other k n = getD-set-other ws 1156 k (nextIn ws + 1) 0 n
+  numbered-other : (k : ℕ) → (k ≡ 724 → ⊥) → getD numbered k 0 ≡ getD ws k 0
+  numbered-other k n = getD-set-other ws 724 k (nextIn ws + 1) 0 n
 
   numbered-count : countIn numbered ≡ countIn ws
   numbered-count = numbered-other 288 λ e. omega arith
@@ -76,19 +76,19 @@ module _ (ws : List ℕ) (room : Room ws 1) where
 
   numbered-path : (p : Path) → PathIn ws p → PathIn numbered (taken p)
   numbered-path p h =
-      path-moved numbered-grown (numbered-distinct (h .distinct)) (numbered-other 1157 λ e. omega arith) (numbered-next ∙ rw (h .next))
-      (rw (numbered-other 1158 λ e. omega arith) (log-kept (λ j i _. numbered-other j λ e. omega arith) numbered-grown (h .log))) h
+      path-moved numbered-grown (numbered-distinct (h .distinct)) (numbered-other 725 λ e. omega arith) (numbered-next ∙ rw (h .next))
+      (rw (numbered-other 726 λ e. omega arith) (log-kept (λ j i _. numbered-other j λ e. omega arith) numbered-grown (h .log))) h
 
   -- at most one row more
   module _ {left : List ℕ} (same : length left ≡ length numbered) (a : Added numbered left 1) where
-    behind : (k : ℕ) → 1157 ≤ k → getD left k 0 ≡ getD ws k 0
+    behind : (k : ℕ) → 725 ≤ k → getD left k 0 ≡ getD ws k 0
     behind k l = a .beyond k (omega arith) ∙ numbered-other k λ e. omega arith
 
     numbered-ruled : Ruled ws left
     numbered-ruled =
-        let n = a .beyond 1156 (omega arith) in
-        let w = behind 1158 (omega arith) in
-        let m = behind 1159 (omega arith) in
+        let n = a .beyond 724 (omega arith) in
+        let w = behind 726 (omega arith) in
+        let m = behind 727 (omega arith) in
         record {
           went = record {
             same = same ∙ numbered-length;
@@ -99,7 +99,7 @@ module _ (ws : List ℕ) (room : Room ws 1) where
             writes = omega arith;
             choices = omega arith;
           };
-          unchosen = record { met = m; all = behind 1160 (omega arith); each = λ k l. behind k (omega arith) };
+          unchosen = record { met = m; all = behind 728 (omega arith); each = λ k l. behind k (omega arith) };
         }
 
     fresh-by : (t q : ℕ) → (Distinct numbered → Distinct left) → (Distinct numbered → Means left t q (symbol t (nextIn ws))) → Fresh t ws q left
@@ -108,7 +108,7 @@ module _ (ws : List ℕ) (room : Room ws 1) where
           ruled = numbered-ruled;
           means = λ x. m (numbered-distinct x);
           path = λ p h. path-added a (d (numbered-distinct (h .distinct))) (numbered-path p h);
-          condition = behind 1157 (omega arith);
+          condition = behind 725 (omega arith);
           most = omega (arith, a .most, numbered-count);
         }
 
@@ -123,15 +123,15 @@ module _ (ws : List ℕ) (room : Room ws 1) where
       (λ d. made-symbol numbered-space d (nextIn ws) 0 fresh-symbol .distinct)
       (λ d. let m = made-symbol numbered-space d (nextIn ws) 0 fresh-symbol in wordRow (m .inside) (m .is)))
 
-  pub fresh-truth : (t q : ℕ) (left : List ℕ) → t ≡ 1 → q ≡ atomRowOf numbered 7 (nextIn ws) (nextIn ws) → left ≡ atomLeft numbered 7 (nextIn ws) (nextIn ws)
+  pub fresh-truth : (t q : ℕ) (left : List ℕ) → t ≡ 1 → q ≡ atomRowOf numbered 8 (nextIn ws) (nextIn ws) → left ≡ atomLeft numbered 8 (nextIn ws) (nextIn ws)
       → Fresh t ws q left
   unfolding symbol
   fresh-truth t q left e f g =
       let s = nextIn ws in
       rw (e, f, g)
-      (fresh-by (atom-length numbered-space 7 s s) (atom-added numbered-space 7 s s) 1 (atomRowOf numbered 7 s s)
-      (λ d. made-truth numbered-space d s (atomRowOf numbered 7 s s) (atomLeft numbered 7 s s) refl refl .distinct)
-      (λ d. let m = made-truth numbered-space d s (atomRowOf numbered 7 s s) (atomLeft numbered 7 s s) refl refl in truthRow (m .inside) (m .is)))
+      (fresh-by (atom-length numbered-space 8 s s) (atom-added numbered-space 8 s s) 1 (atomRowOf numbered 8 s s)
+      (λ d. made-truth numbered-space d s (atomRowOf numbered 8 s s) (atomLeft numbered 8 s s) refl refl .distinct)
+      (λ d. let m = made-truth numbered-space d s (atomRowOf numbered 8 s s) (atomLeft numbered 8 s s) refl refl in truthRow (m .inside) (m .is)))
 
   fresh-at : (t : ℕ) → Fresh (suc (suc t)) ws (2 * nextIn ws) numbered
   unfolding symbol

@@ -23,7 +23,7 @@ use Rattle.checker.specs.declared.path.Branch.{Branch}
 
 -- ---- the variables of the next operand
 
-module _ (k depth t q : ℕ) (ws : List ℕ) (l : depth < 144) (h : 1801 ≤ length ws) where
+module _ (k depth t q : ℕ) (ws : List ℕ) (l : depth < 144) (h : 1369 ≤ length ws) where
   abbrev one : List ℕ
   one = set ws (2 * depth) t
 
@@ -86,7 +86,7 @@ module _ (k b c n t q : ℕ) {ws : List ℕ} where
 -- ---- the end of a path
 
 module _ {n t : ℕ} {first : Bool} {kind : ℕ} {ws : List ℕ} {b : Bool} (h : (l : List Write) → Log ws (writesIn ws) l → consistentAfter [] l ≡ b) where
-  end-by : {s : Bool} {r : Walked} {left : List ℕ} → (first || eqb t kind) ≡ s → length left ≡ length ws → ((k : ℕ) → k < 1160 → getD left k 0 ≡ getD ws k 0)
+  end-by : {s : Bool} {r : Walked} {left : List ℕ} → (first || eqb t kind) ≡ s → length left ≡ length ws → ((k : ℕ) → k < 728 → getD left k 0 ≡ getD ws k 0)
       → EndOf n t ws left b s r → PathEnds n t first kind ws r left
   end-by e l p x =
       record {

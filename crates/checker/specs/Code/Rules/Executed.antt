@@ -55,9 +55,9 @@ module _ {depth : ℕ} {ws left : List ℕ} (a : Aside depth ws left) where
   pub aside-went : Went ws left depth 0
   aside-went =
       let rows = a .beyond 288 (omega arith) in
-      let symbols = a .beyond 1156 (omega arith) in
-      let writes = a .beyond 1158 (omega arith) in
-      let choices = a .beyond 1159 (omega arith) in
+      let symbols = a .beyond 724 (omega arith) in
+      let writes = a .beyond 726 (omega arith) in
+      let choices = a .beyond 727 (omega arith) in
       record {
         same = a .same;
         before = a .before;
@@ -69,7 +69,7 @@ module _ {depth : ℕ} {ws left : List ℕ} (a : Aside depth ws left) where
       }
 
   pub aside-unchosen : Unchosen ws left
-  aside-unchosen = record { met = a .beyond 1159 (omega arith); all = a .beyond 1160 (omega arith); each = λ k l. a .beyond k (omega arith) }
+  aside-unchosen = record { met = a .beyond 727 (omega arith); all = a .beyond 728 (omega arith); each = λ k l. a .beyond k (omega arith) }
 
 pub unchosen-trans : {ws xs left : List ℕ} → Unchosen ws xs → Unchosen xs left → Unchosen ws left
 unchosen-trans u v = record { met = v .met ∙ u .met; all = v .all ∙ u .all; each = λ k l. v .each k l ∙ u .each k l }
@@ -399,7 +399,7 @@ module _ (limit : ℕ) {xs ws : List ℕ} {depth n t s : ℕ} (q : ReadyRest xs 
     pub bound-room : depth < 144
     bound-room = omega (arith, g .fits, q .variables)
 
-    pub bound-lent : 1801 ≤ length left
+    pub bound-lent : 1369 ≤ length left
     bound-lent = omega (arith, q .room .lent, g .went .same)
 
     module _ {left₁ : List ℕ} {inner : ℕ} (b : BoundValues form depth t s left inner left₁) where

@@ -96,19 +96,19 @@ module _ (n t q : ℕ) {ws : List ℕ} where
 
   module _ (x : Room ws 1) (l : t < 30) where
     abbrev numbered : List ℕ
-    numbered = set ws 1156 (nextIn ws + 1)
+    numbered = set ws 724 (nextIn ws + 1)
 
     fresh : Fresh (t + 2) ws (2 * nextIn ws) numbered
     fresh = fresh-reference ws x (t + 2) (λ e. omega arith) (λ e. omega arith)
 
-    pub ref-lent : 1801 ≤ length numbered
-    ref-lent = omega (arith, length-set ws 1156 (nextIn ws + 1), x .lent)
+    pub ref-lent : 1369 ≤ length numbered
+    ref-lent = omega (arith, length-set ws 724 (nextIn ws + 1), x .lent)
 
     pub ref-few : writesIn numbered < 128
-    ref-few = let e = getD-set-other ws 1156 1158 (nextIn ws + 1) 0 (λ e. omega arith) in omega (arith, e, x .writes)
+    ref-few = let e = getD-set-other ws 724 726 (nextIn ws + 1) 0 (λ e. omega arith) in omega (arith, e, x .writes)
 
-    ref-rows : countIn numbered ≤ 289
-    ref-rows = let e = getD-set-other ws 1156 288 (nextIn ws + 1) 0 (λ e. omega arith) in omega (arith, e, x .rows)
+    ref-rows : countIn numbered ≤ 145
+    ref-rows = let e = getD-set-other ws 724 288 (nextIn ws + 1) 0 (λ e. omega arith) in omega (arith, e, x .rows)
 
     abbrev left : List ℕ
     left = written numbered (t + 2) (2 * nextIn ws + 1) t q
@@ -117,11 +117,11 @@ module _ (n t q : ℕ) {ws : List ℕ} where
     ref-went =
         let a = fresh .ruled .went in
         let b = written-ruled numbered (t + 2) (2 * nextIn ws + 1) t q ref-lent ref-few ref-rows .went in
-        let rows = getD-set-other ws 1156 288 (nextIn ws + 1) 0 (λ e. omega arith) in
-        let writes = getD-set-other ws 1156 1158 (nextIn ws + 1) 0 (λ e. omega arith) in
-        let met = getD-set-other ws 1156 1159 (nextIn ws + 1) 0 (λ e. omega arith) in
-        let next = written-before numbered (t + 2) (2 * nextIn ws + 1) t q ref-lent ref-few ref-rows 1156 (λ e. omega arith) (omega arith) in
-        let met₂ = written-before numbered (t + 2) (2 * nextIn ws + 1) t q ref-lent ref-few ref-rows 1159 (λ e. omega arith) (omega arith) in
+        let rows = getD-set-other ws 724 288 (nextIn ws + 1) 0 (λ e. omega arith) in
+        let writes = getD-set-other ws 724 726 (nextIn ws + 1) 0 (λ e. omega arith) in
+        let met = getD-set-other ws 724 727 (nextIn ws + 1) 0 (λ e. omega arith) in
+        let next = written-before numbered (t + 2) (2 * nextIn ws + 1) t q ref-lent ref-few ref-rows 724 (λ e. omega arith) (omega arith) in
+        let met₂ = written-before numbered (t + 2) (2 * nextIn ws + 1) t q ref-lent ref-few ref-rows 727 (λ e. omega arith) (omega arith) in
         record {
           same = b .same ∙ a .same;
           before = λ k i. b .before k i ∙ a .before k i;
@@ -240,13 +240,13 @@ module _ (n t : ℕ) {ws : List ℕ} {b : Bool} (e : b ≡ consistentOn ws 0 (wr
   -- the log is empty
   module _ (x : Room ws 1) where
     abbrev emptied : List ℕ
-    emptied = set ws 1158 0
+    emptied = set ws 726 0
 
-    emptied-other : (k : ℕ) → (k ≡ 1158 → ⊥) → getD emptied k 0 ≡ getD ws k 0
-    emptied-other k d = getD-set-other ws 1158 k 0 0 d
+    emptied-other : (k : ℕ) → (k ≡ 726 → ⊥) → getD emptied k 0 ≡ getD ws k 0
+    emptied-other k d = getD-set-other ws 726 k 0 0 d
 
     emptied-writes : writesIn emptied ≡ 0
-    emptied-writes = getD-set-same ws 1158 0 0 (omega (arith, x .lent))
+    emptied-writes = getD-set-same ws 726 0 0 (omega (arith, x .lent))
 
     emptied-grown : Grown ws emptied
     emptied-grown =
@@ -256,36 +256,36 @@ module _ (n t : ℕ) {ws : List ℕ} {b : Bool} (e : b ≡ consistentOn ws 0 (wr
     emptied-path : {p : Path} → PathIn ws p → PathIn emptied (forget p)
     emptied-path h =
         let k = emptied-other 288 (λ e. omega arith) in
-        path-moved emptied-grown (still-distinct emptied-grown (omega (arith, k)) (h .distinct)) (emptied-other 1157 (λ e. omega arith))
-        (emptied-other 1156 (λ e. omega arith) ∙ h .next) (rw emptied-writes noWrite) h
+        path-moved emptied-grown (still-distinct emptied-grown (omega (arith, k)) (h .distinct)) (emptied-other 725 (λ e. omega arith))
+        (emptied-other 724 (λ e. omega arith) ∙ h .next) (rw emptied-writes noWrite) h
 
     pub emptied-room : Room emptied 1
     emptied-room =
         record {
-          lent = omega (arith, x .lent, length-set ws 1158 0);
+          lent = omega (arith, x .lent, length-set ws 726 0);
           rows = omega (arith, x .rows, emptied-other 288 (λ e. omega arith));
-          symbols = omega (arith, x .symbols, emptied-other 1156 (λ e. omega arith));
+          symbols = omega (arith, x .symbols, emptied-other 724 (λ e. omega arith));
           writes = omega (arith, emptied-writes);
-          choices = omega (arith, x .choices, emptied-other 1159 (λ e. omega arith));
+          choices = omega (arith, x .choices, emptied-other 727 (λ e. omega arith));
         }
 
     emptied-went : Went ws emptied 144 0
     emptied-went =
         record {
-          same = length-set ws 1158 0;
+          same = length-set ws 726 0;
           before = λ k l. emptied-other k λ z. omega arith;
           grown = emptied-grown;
           rows = omega (arith, emptied-other 288 (λ e. omega arith));
-          symbols = omega (arith, emptied-other 1156 (λ e. omega arith));
+          symbols = omega (arith, emptied-other 724 (λ e. omega arith));
           writes = omega (arith, emptied-writes);
-          choices = omega (arith, emptied-other 1159 (λ e. omega arith));
+          choices = omega (arith, emptied-other 727 (λ e. omega arith));
         }
 
     emptied-unchosen : Unchosen ws emptied
     emptied-unchosen =
         record {
-          met = emptied-other 1159 (λ e. omega arith);
-          all = emptied-other 1160 (λ e. omega arith);
+          met = emptied-other 727 (λ e. omega arith);
+          all = emptied-other 728 (λ e. omega arith);
           each = λ k l. emptied-other k λ z. omega arith;
         }
 

@@ -35,9 +35,9 @@ ruled-refl ws = record { went = went-refl ws 144 1; unchosen = record { met = re
 
 pub added-ruled : {ws left : List ℕ} → length left ≡ length ws → Added ws left 1 → Ruled ws left
 added-ruled l a =
-    let next = a .beyond 1156 (omega arith) in
-    let writes = a .beyond 1158 (omega arith) in
-    let met = a .beyond 1159 (omega arith) in
+    let next = a .beyond 724 (omega arith) in
+    let writes = a .beyond 726 (omega arith) in
+    let met = a .beyond 727 (omega arith) in
     record {
       went = record {
         same = l;
@@ -48,7 +48,7 @@ added-ruled l a =
         writes = omega arith;
         choices = omega arith;
       };
-      unchosen = record { met = met; all = a .beyond 1160 (omega arith); each = λ k i. a .beyond k (omega arith) };
+      unchosen = record { met = met; all = a .beyond 728 (omega arith); each = λ k i. a .beyond k (omega arith) };
     }
 
 pub truth-yields : {ws left : List ℕ} {r : ℕ} {f : Formula} {p : Path} → Made ws left r f → PathIn ws p → Yields left (Gave 1 r) (ends (aTruth f) p)

@@ -32,56 +32,56 @@ use Rattle.checker.specs.declared.operators.Step.the-variants as step
 
 -- ---- a path at its start
 
-module _ (ws : List ℕ) (rows depth : ℕ) (l : 1801 ≤ length ws) where
+module _ (ws : List ℕ) (rows depth : ℕ) (l : 1369 ≤ length ws) where
   abbrev one : List ℕ
   one = set ws 288 rows
 
   abbrev two : List ℕ
-  two = set one 1156 depth
+  two = set one 724 depth
 
   abbrev three : List ℕ
-  three = set two 1157 0
+  three = set two 725 0
 
   abbrev four : List ℕ
-  four = set three 1158 0
+  four = set three 726 0
 
   pub restarted-length : length (restarted ws rows depth) ≡ length ws
   restarted-length = simp length-set
 
   pub restarted-rows : countIn (restarted ws rows depth) ≡ rows
   restarted-rows =
-      getD-set-other four 1159 288 0 0 (λ e. omega arith) ∙ getD-set-other three 1158 288 0 0 (λ e. omega arith)
-      ∙ getD-set-other two 1157 288 0 0 (λ e. omega arith) ∙ getD-set-other one 1156 288 depth 0 (λ e. omega arith)
+      getD-set-other four 727 288 0 0 (λ e. omega arith) ∙ getD-set-other three 726 288 0 0 (λ e. omega arith)
+      ∙ getD-set-other two 725 288 0 0 (λ e. omega arith) ∙ getD-set-other one 724 288 depth 0 (λ e. omega arith)
       ∙ getD-set-same ws 288 rows 0 (omega arith)
 
   pub restarted-next : nextIn (restarted ws rows depth) ≡ depth
   restarted-next =
-      getD-set-other four 1159 1156 0 0 (λ e. omega arith) ∙ getD-set-other three 1158 1156 0 0 (λ e. omega arith)
-      ∙ getD-set-other two 1157 1156 0 0 (λ e. omega arith) ∙ getD-set-same one 1156 depth 0 (simp length-set (omega arith))
+      getD-set-other four 727 724 0 0 (λ e. omega arith) ∙ getD-set-other three 726 724 0 0 (λ e. omega arith)
+      ∙ getD-set-other two 725 724 0 0 (λ e. omega arith) ∙ getD-set-same one 724 depth 0 (simp length-set (omega arith))
 
   pub restarted-condition : conditionIn (restarted ws rows depth) ≡ 0
   restarted-condition =
-      getD-set-other four 1159 1157 0 0 (λ e. omega arith) ∙ getD-set-other three 1158 1157 0 0 (λ e. omega arith)
-      ∙ getD-set-same two 1157 0 0 (simp length-set (omega arith))
+      getD-set-other four 727 725 0 0 (λ e. omega arith) ∙ getD-set-other three 726 725 0 0 (λ e. omega arith)
+      ∙ getD-set-same two 725 0 0 (simp length-set (omega arith))
 
   pub restarted-writes : writesIn (restarted ws rows depth) ≡ 0
   restarted-writes =
-      getD-set-other four 1159 1158 0 0 (λ e. omega arith)
-      ∙ getD-set-same three 1158 0 0 (simp length-set (omega arith))
+      getD-set-other four 727 726 0 0 (λ e. omega arith)
+      ∙ getD-set-same three 726 0 0 (simp length-set (omega arith))
 
   pub restarted-met : metIn (restarted ws rows depth) ≡ 0
-  restarted-met = getD-set-same four 1159 0 0 (simp length-set (omega arith))
+  restarted-met = getD-set-same four 727 0 0 (simp length-set (omega arith))
 
-  pub restarted-other : (k : ℕ) → (k ≡ 288 → ⊥) → (k < 1156) → getD (restarted ws rows depth) k 0 ≡ getD ws k 0
+  pub restarted-other : (k : ℕ) → (k ≡ 288 → ⊥) → (k < 724) → getD (restarted ws rows depth) k 0 ≡ getD ws k 0
   restarted-other k d h =
-      getD-set-other four 1159 k 0 0 (λ e. omega arith) ∙ getD-set-other three 1158 k 0 0 (λ e. omega arith)
-      ∙ getD-set-other two 1157 k 0 0 (λ e. omega arith) ∙ getD-set-other one 1156 k depth 0 (λ e. omega arith)
+      getD-set-other four 727 k 0 0 (λ e. omega arith) ∙ getD-set-other three 726 k 0 0 (λ e. omega arith)
+      ∙ getD-set-other two 725 k 0 0 (λ e. omega arith) ∙ getD-set-other one 724 k depth 0 (λ e. omega arith)
       ∙ getD-set-other ws 288 k rows 0 d
 
-  pub restarted-behind : (k : ℕ) → 1160 ≤ k → getD (restarted ws rows depth) k 0 ≡ getD ws k 0
+  pub restarted-behind : (k : ℕ) → 728 ≤ k → getD (restarted ws rows depth) k 0 ≡ getD ws k 0
   restarted-behind k h =
-      getD-set-other four 1159 k 0 0 (λ e. omega arith) ∙ getD-set-other three 1158 k 0 0 (λ e. omega arith)
-      ∙ getD-set-other two 1157 k 0 0 (λ e. omega arith) ∙ getD-set-other one 1156 k depth 0 (λ e. omega arith)
+      getD-set-other four 727 k 0 0 (λ e. omega arith) ∙ getD-set-other three 726 k 0 0 (λ e. omega arith)
+      ∙ getD-set-other two 725 k 0 0 (λ e. omega arith) ∙ getD-set-other one 724 k depth 0 (λ e. omega arith)
       ∙ getD-set-other ws 288 k rows 0 (λ e. omega arith)
 
   pub restarted-choices : metOn (restarted ws rows depth) ≡ []
@@ -91,18 +91,18 @@ module _ (ws : List ℕ) (rows depth : ℕ) (l : 1801 ≤ length ws) where
   pub restarted-left : leftOn (restarted ws rows depth) ≡ choicesOn ws
   restarted-left =
       let e = restarted-met in
-      let f = restarted-behind 1160 (omega arith) in
+      let f = restarted-behind 728 (omega arith) in
       rw (e, f, sub-zero)
       (choices-kept ws (restarted ws rows depth) 0 (choicesIn ws) λ j h i. restarted-behind j (omega arith))
 
 -- a workspace with the same variables and first rows has the same start
-pub started-kept : {ws left : List ℕ} {depth rows : ℕ} {types : List ℕ} → depth ≤ 144 → rows ≤ 289 → length left ≡ length ws
+pub started-kept : {ws left : List ℕ} {depth rows : ℕ} {types : List ℕ} → depth ≤ 144 → rows ≤ 145 → length left ≡ length ws
     → ((k : ℕ) → k < 2 * depth → getD left k 0 ≡ getD ws k 0) → ((k : ℕ) → 289 ≤ k → k < 289 + 3 * rows → getD left k 0 ≡ getD ws k 0)
     → Started ws depth rows types → Started left depth rows types
 started-kept {ws} {left} {depth} {rows} {types} small few same before each s =
     record { lent = omega (arith, s .lent, same); few = s .few; state = record { variables = vs; path = path } }
   where
-    lent : 1801 ≤ length left
+    lent : 1369 ≤ length left
     lent = omega (arith, s .lent, same)
 
     grown : Grown (restarted ws rows depth) (restarted left rows depth)
@@ -307,7 +307,7 @@ module _ {n limit followed kind : ℕ} {tree : Paths} {ws : List ℕ} (f : Follo
 
 -- what holds at each turn: the whole workspace, its start, and the rest of the verdict
 pub record Turn (table types : List ℕ) (depth limit n a rows : ℕ) (ws : List ℕ) (followed kind : ℕ) : Type 0 where
-  pub whole : length ws ≡ 1801
+  pub whole : length ws ≡ 1369
   pub started : Started ws depth rows (typesOn types depth)
   pub following : Following n limit followed kind (exec limit (treeIn table a) (symbols 0 (typesOn types depth)) (start depth)) ws
 
@@ -342,6 +342,6 @@ module _ {table types : List ℕ} {depth limit n a rows : ℕ} {ws : List ℕ} {
           following = following-more (u .following) l left (k .walked (typesOn types depth) (u .started)) e;
         }
 
-pub turn-start : (table types : List ℕ) (depth limit n a rows : ℕ) (ws : List ℕ) → length ws ≡ 1801 → Started ws depth rows (typesOn types depth) → choicesOn ws ≡ []
+pub turn-start : (table types : List ℕ) (depth limit n a rows : ℕ) (ws : List ℕ) → length ws ≡ 1369 → Started ws depth rows (typesOn types depth) → choicesOn ws ≡ []
     → Turn table types depth limit n a rows ws 0 0
 turn-start table types depth limit n a rows ws l s e = record { whole = l; started = s; following = following-start n limit _ ws e }

@@ -119,13 +119,13 @@ variables-at {ws} k l (oneMore {d = d} {env = env} {v = v} vs m) = go (below-or-
 
 -- ---- the path
 
-pub log-kept : {ws left : List ℕ} {k : ℕ} {l : List Write} → ((j : ℕ) → 1161 ≤ j → j < 1161 + 4 * k → getD left j 0 ≡ getD ws j 0) → Grown ws left
+pub log-kept : {ws left : List ℕ} {k : ℕ} {l : List Write} → ((j : ℕ) → 729 ≤ j → j < 729 + 4 * k → getD left j 0 ≡ getD ws j 0) → Grown ws left
     → Log ws k l → Log left k l
 log-kept b g noWrite = noWrite
 log-kept b g (aWrite {k = k} r m n) =
     aWrite (log-kept (λ j h i. b j h (omega arith)) g r)
-    (means-at g (b (1161 + 4 * k) (omega arith) (omega arith)) (b (1161 + 4 * k + 1) (omega arith) (omega arith)) m)
-    (means-at g (b (1161 + 4 * k + 2) (omega arith) (omega arith)) (b (1161 + 4 * k + 3) (omega arith) (omega arith)) n)
+    (means-at g (b (729 + 4 * k) (omega arith) (omega arith)) (b (729 + 4 * k + 1) (omega arith) (omega arith)) m)
+    (means-at g (b (729 + 4 * k + 2) (omega arith) (omega arith)) (b (729 + 4 * k + 3) (omega arith) (omega arith)) n)
 
 -- the condition is where it was; next symbol and log are as said
 pub path-moved : {ws left : List ℕ} {p : Path} {n : ℕ} {l : List Write} → Grown ws left → Distinct left → conditionIn left ≡ conditionIn ws → nextIn left ≡ n
@@ -140,10 +140,10 @@ path-moved g d c n l h =
     }
 
 -- every place behind the rows is as before
-pub path-kept : {ws left : List ℕ} {p : Path} → ((j : ℕ) → 1156 ≤ j → getD left j 0 ≡ getD ws j 0) → Grown ws left → Distinct left → PathIn ws p → PathIn left p
+pub path-kept : {ws left : List ℕ} {p : Path} → ((j : ℕ) → 724 ≤ j → getD left j 0 ≡ getD ws j 0) → Grown ws left → Distinct left → PathIn ws p → PathIn left p
 path-kept b g d h =
-    path-moved g d (b 1157 (omega arith)) (b 1156 (omega arith) ∙ h .next)
-    (rw (b 1158 (omega arith)) (log-kept (λ j i _. b j (omega arith)) g (h .log))) h
+    path-moved g d (b 725 (omega arith)) (b 724 (omega arith) ∙ h .next)
+    (rw (b 726 (omega arith)) (log-kept (λ j i _. b j (omega arith)) g (h .log))) h
 
 pub path-added : {ws left : List ℕ} {m : ℕ} {p : Path} → Added ws left m → Distinct left → PathIn ws p → PathIn left p
 path-added a d h = path-kept (a .beyond) (a .grown) d h
@@ -157,11 +157,11 @@ distinct-same b d = let e = b 288 (omega arith) in still-distinct (same-grown b)
 
 -- ---- the choices
 
-pub choices-kept : (ws left : List ℕ) (i k : ℕ) → ((j : ℕ) → 1673 + i ≤ j → j < 1673 + i + k → getD left j 0 ≡ getD ws j 0) → choicesAt left i k ≡ choicesAt ws i k
+pub choices-kept : (ws left : List ℕ) (i k : ℕ) → ((j : ℕ) → 1241 + i ≤ j → j < 1241 + i + k → getD left j 0 ≡ getD ws j 0) → choicesAt left i k ≡ choicesAt ws i k
 unfolding choicesAt
 choices-kept ws left i zero b = refl
 choices-kept ws left i (suc k) b =
-    rw (b (1673 + i) (omega arith) (omega arith), choices-kept ws left (suc i) k λ j h l. b j (omega arith) (omega arith))
+    rw (b (1241 + i) (omega arith) (omega arith), choices-kept ws left (suc i) k λ j h l. b j (omega arith) (omega arith))
 
 module _ {ws left : List ℕ} (u : Unchosen ws left) where
   pub unchosen-met : metOn left ≡ metOn ws
