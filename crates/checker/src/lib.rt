@@ -11,6 +11,7 @@ ghost use Rattle.checker.specs.Code.Whole.{Placed};
 
 mod log;
 mod nodes;
+mod notes;
 mod operators;
 mod path;
 mod types;

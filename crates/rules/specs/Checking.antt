@@ -18,6 +18,7 @@ use Rattle.rules.specs.SymbolicRules.{unaryExec, binaryExec, decide, typ
 use Rattle.rules.specs.TypedRules.{andThen, unaryType, binaryType, ifType}
 pub mod Bounds
 pub mod Laws
+pub mod Mentions
 
 abbrev pub pathLimit : ℕ
 pathLimit = 64

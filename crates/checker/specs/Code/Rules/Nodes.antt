@@ -16,6 +16,7 @@ use Rattle.script.specs.Tree.Laws.{Unrolled, is-int, is-truth, is-var, is-unary
 use Rattle.script.specs.declared.Checked.{Checked}
 use Rattle.script.specs.declared.Checked.the-variants.{Accepted, Refused}
 use Rattle.rules.specs.Checking.{check, exec}
+use Rattle.rules.specs.Checking.Mentions.{then-same, bind-same}
 use Rattle.rules.specs.Paths.{Path, Paths, ends, stops, forks, bind, start, leaves}
 use Rattle.rules.specs.Symbolic.{Symbolic, typeOf, symbols}
 use Rattle.rules.specs.SymbolicRules.{unaryExec, binaryExec, decide, typedResult, verdict}
@@ -34,16 +35,6 @@ bind-ends (ends v p) k h = sym (h v p)
 bind-ends (stops r) k h = refl
 bind-ends (forks t u) k h = rw (sym (bind-ends t k h), sym (bind-ends u k h))
 
-pub then-same : (c : Checked) (k l : ℕ → Checked) → ((t : ℕ) → k t ≡ l t) → andThen c k ≡ andThen c l
-then-same (Accepted t) k l h = h t
-then-same (Refused r) k l h = refl
-
-pub bind-same : (t : Paths) (k l : Symbolic → Path → Paths) → ((v : Symbolic) (p : Path) → k v p ≡ l v p) → bind t k ≡ bind t l
-unfolding bind
-bind-same (ends v p) k l h = h v p
-bind-same (stops r) k l h = refl
-bind-same (forks t u) k l h = rw (bind-same t k l h, bind-same u k l h)
-
 -- ---- the kinds of blocks and of `if`
 
 unfoldable pub blockForm : Form → ℕ
@@ -58,7 +49,7 @@ blockForm (unaryForm o) = 0
 blockForm (binaryForm o) = 0
 
 -- of all kinds only 8, 13 and 14 have them
-not-if : (k : ℕ) → (k ≡ 8 → ⊥) → eqb (blockForm (formOf k)) 1 ≡ false
+pub not-if : (k : ℕ) → (k ≡ 8 → ⊥) → eqb (blockForm (formOf k)) 1 ≡ false
 unfolding blockForm rows
 not-if k d = form-plain (λ f. eqb (blockForm f) 1) k (plain-but 8 _ _ k d λ j e. plain-all 6 j)
 
