@@ -1,5 +1,5 @@
-// What the workspace of a `sym` keeps of a path, behind the environment and the terms: the next fresh symbol, the row of the condition, the log and the
-// choices at forks. A reference's place is twice its symbol, and one more if `ref` made it on this path.
+// What the workspace of a `sym` keeps of a path, behind the environment and the terms: the next fresh symbol, the row of the condition, the log, the notes
+// on blocks and the choices at forks. A reference's place is twice its symbol, and one more if `ref` made it on this path.
 ghost use mathlib.Core.List.{[]};
 ghost use mathlib.Core.Path.{_≡_};
 ghost use Prim.Native.Nat.{suc, _*_, _<_, _≤_};
@@ -8,6 +8,7 @@ ghost use Rattle.terms.specs.Terms.{Space, symbolLimit};
 ghost use Rattle.checker.specs.Code.Paths.{Fresh, assumed, TakesChoice, Blank, Starting};
 ghost use Rattle.checker.specs.Code.Rules.{Decidable, Chooses, NextChoices, Started, restarted, choicesOn};
 ghost use Rattle.checker.specs.Code.State.{nodeLimit, spaceSize, metIn, typesOn, Room};
+use crate::notes;
 use decision::Decision;
 use decision::decide;
 use script::Refusal;
@@ -40,8 +41,11 @@ pub const CHOICES: usize = END + 4;
 // Where the log begins: four numbers a write, the reference's type and place and the value's.
 pub const LOG: usize = END + 5;
 
+// Where the notes on blocks begin.
+pub const NOTES: usize = LOG + 4 * Script::NODES;
+
 // Where the choices at forks begin: 1 for the true branch, else 0.
-pub const FORKS: usize = LOG + 4 * Script::NODES;
+pub const FORKS: usize = NOTES + notes::SIZE;
 
 // How many numbers a workspace has.
 pub const SPACE: usize = FORKS + Script::NODES;

@@ -36,7 +36,7 @@ pub data Choice (ws left : List ℕ) : Bool → Type 0 where
 pub record TakesChoice (ws : List ℕ) (r : Bool) (left : List ℕ) : Type 0 where
   pub same : length left ≡ length ws
   pub before : (k : ℕ) → k < 727 → getD left k 0 ≡ getD ws k 0
-  pub log : (k : ℕ) → 729 ≤ k → k < 1241 → getD left k 0 ≡ getD ws k 0
+  pub log : (k : ℕ) → 729 ≤ k → k < 1371 → getD left k 0 ≡ getD ws k 0
   pub counts : metIn left ≡ metIn ws + 1
   pub choice : Choice ws left r
 

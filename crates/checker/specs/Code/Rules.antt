@@ -32,7 +32,7 @@ use Rattle.rules.specs.Symbolic.{Symbolic, aWord, aTruth, number, constantly, s
 use Rattle.rules.specs.SymbolicRules.{unaryExec, binaryExec, decide, typedResult, variable, firstType, judge}
 use Rattle.rules.specs.TypedRules.{andThen, unaryType, binaryType, ifType}
 use Rattle.terms.specs.Terms.{symbolLimit, Distinct}
-use Rattle.checker.specs.Code.State.{variablesEnd, spaceSize, nodeLimit, writesIn, choicesIn, typesOn, Means, Variables, Log, PathIn, State, Valued, Standing, choicesAt, metOn, leftOn, Room, Went, Took, Yields, Unchosen}
+use Rattle.checker.specs.Code.State.{variablesEnd, spaceSize, nodeLimit, writesIn, choicesIn, typesOn, Means, Variables, Log, PathIn, State, Valued, Standing, choicesAt, metOn, leftOn, Room, Went, Took, Yields, Unchosen, Unnoted}
 use Rattle.checker.specs.declared.nodes.Next.{Next}
 use Rattle.checker.specs.declared.nodes.Next.the-variants.{Operand, Stopped}
 use Rattle.checker.specs.declared.nodes.Walked.{Walked}
@@ -201,10 +201,11 @@ pub record BoundTypes (f : Form) (depth t : ℕ) (ws : List ℕ) (count : ℕ) (
 
 -- ---- what the functions for symbolic mode ask and promise
 
--- a rule takes at most one node's room, and no choice
+-- a rule takes at most one node's room, and no choice; the notes are as before
 pub record Ruled (ws left : List ℕ) : Type 0 where
   pub went : Went ws left symbolLimit 1
   pub unchosen : Unchosen ws left
+  pub notes : Unnoted ws left
 
 pub record Leaf (f : Form) (n a depth : ℕ) (ws : List ℕ) (r : Step) (left : List ℕ) : Type 0 where
   pub ruled : Ruled ws left
@@ -233,6 +234,7 @@ pub data Chosen (ws left : List ℕ) (n : ℕ) (v : Symbolic) (p : Path) : Branc
 
 pub record Chooses (n t q : ℕ) (ws : List ℕ) (r : Branch) (left : List ℕ) : Type 0 where
   pub went : Went ws left symbolLimit 1
+  pub notes : Unnoted ws left
   pub chosen : (v : Symbolic) (p : Path) → Means ws t q v → PathIn ws p → Chosen ws left n v p r
 
 -- what the rule of two operands asks: room, their values, and different atoms
@@ -309,7 +311,7 @@ choicesOn ws = choicesAt ws 0 (choicesIn ws)
 
 pub data NextChoices (ws : List ℕ) : Bool → List ℕ → Type 0 where
   no-next : next (metOn ws) ≡ none → NextChoices ws false ws
-  a-next : {left : List ℕ} → length left ≡ length ws → ((k : ℕ) → k < 728 → getD left k 0 ≡ getD ws k 0)
+  a-next : {left : List ℕ} → length left ≡ length ws → ((k : ℕ) → k < 728 → getD left k 0 ≡ getD ws k 0) → Unnoted ws left
       → next (metOn ws) ≡ some (choicesOn left) → NextChoices ws true left
 
 -- how a path of type t ends: by its log, by whether it has the right type, and by whether another one follows
@@ -322,6 +324,7 @@ pub data EndOf (n t : ℕ) (ws left : List ℕ) : Bool → Bool → Walked → T
 pub record PathEnds (n t : ℕ) (first : Bool) (kind : ℕ) (ws : List ℕ) (r : Walked) (left : List ℕ) : Type 0 where
   pub same : length left ≡ length ws
   pub before : (k : ℕ) → k < 728 → getD left k 0 ≡ getD ws k 0
+  pub notes : Unnoted ws left
   pub ending : (l : List Write) → Log ws (writesIn ws) l → EndOf n t ws left (consistentAfter [] l) (first || eqb t kind) r
 
 -- node a can be followed on a path with so many rows and variables at its start

@@ -1,4 +1,4 @@
--- What a workspace holds: the values of the variables, the terms, and a path with its choices; what a step keeps of it, and how a step answers.
+-- What a workspace holds: the values of the variables, the terms, and a path with its notes and choices; what a step keeps of it, and how a step answers.
 -- Assumes nothing.
 pub mod Laws
 use mathlib.Core.Bool.{Bool}
@@ -36,7 +36,7 @@ abbrev pub variablesEnd : ℕ
 variablesEnd = 288
 
 abbrev pub spaceSize : ℕ
-spaceSize = 1369
+spaceSize = 1499
 
 abbrev pub nodeLimit : ℕ
 nodeLimit = 128
@@ -97,7 +97,7 @@ pub record Standing (ws : List ℕ) (depth : ℕ) : Type 0 where
 -- k choices from place i on
 unfoldable pub choicesAt : List ℕ → ℕ → ℕ → List Bool
 choicesAt ws i zero = []
-choicesAt ws i (suc k) = eqb (getD ws (1241 + i) 0) 1 ∷ choicesAt ws (suc i) k
+choicesAt ws i (suc k) = eqb (getD ws (1371 + i) 0) 1 ∷ choicesAt ws (suc i) k
 
 -- those met, and those left
 abbrev pub metOn : List ℕ → List Bool
@@ -139,8 +139,12 @@ pub data Yields (left : List ℕ) : Step → Paths → Type 0 where
   ending : {t q : ℕ} {v : Symbolic} {p : Path} → Means left t q v → PathIn left p → Yields left (Gave t q) (ends v p)
   stopping : {x : Refusal} → Yields left (Stopped x) (stops x)
 
+-- the notes are as before
+pub record Unnoted (ws left : List ℕ) : Type 0 where
+  pub each : (k : ℕ) → 1241 ≤ k → k < 1371 → getD left k 0 ≡ getD ws k 0
+
 -- the choices are as before
 pub record Unchosen (ws left : List ℕ) : Type 0 where
   pub met : metIn left ≡ metIn ws
   pub all : choicesIn left ≡ choicesIn ws
-  pub each : (k : ℕ) → 1241 ≤ k → getD left k 0 ≡ getD ws k 0
+  pub each : (k : ℕ) → 1371 ≤ k → getD left k 0 ≡ getD ws k 0

@@ -195,8 +195,9 @@ module _ (ws : List ℕ) (t p u q : ℕ) (lent : spaceSize ≤ length ws) (few :
         unchosen = record {
           met = m;
           all = written-before 728 (λ h. omega arith) (omega arith);
-          each = written-behind;
+          each = λ k l. written-behind k (omega arith);
         };
+        notes = record { each = λ k l h. written-behind k l };
       }
 
   pub written-path : {o : Origin} {c s : ℕ} {v : Symbolic} (path : Path) → PathIn ws path → Means ws t p (aReference o c s) → Means ws u q v

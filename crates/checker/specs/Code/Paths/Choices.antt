@@ -18,7 +18,7 @@ use Rattle.checker.specs.Code.State.Laws.{choices-kept}
 
 -- the choice at place k
 abbrev pub choiceOn : List ℕ → ℕ → Bool
-choiceOn ws k = eqb (getD ws (1241 + k) 0) 1
+choiceOn ws k = eqb (getD ws (1371 + k) 0) 1
 
 choices-last : (ws : List ℕ) (i k j : ℕ) → j ≡ i + k → choicesAt ws i (suc k) ≡ choicesAt ws i k ++ (choiceOn ws j ∷ [])
 unfolding choicesAt
@@ -46,7 +46,7 @@ module _ (ws : List ℕ) (room : Room ws 1) where
   more = set met 728 (metIn ws + 1)
 
   abbrev noted : List ℕ
-  noted = set more (1241 + metIn ws) 1
+  noted = set more (1371 + metIn ws) 1
 
   met-length : length met ≡ length ws
   met-length = length-set ws 727 (metIn ws + 1)
@@ -58,7 +58,7 @@ module _ (ws : List ℕ) (room : Room ws 1) where
   met-other k n = getD-set-other ws 727 k (metIn ws + 1) 0 n
 
   -- one was left
-  pub takes-some : metIn ws < getD met 728 0 → TakesChoice ws (eqb (getD met (1241 + metIn ws) 0) 1) met
+  pub takes-some : metIn ws < getD met 728 0 → TakesChoice ws (eqb (getD met (1371 + metIn ws) 0) 1) met
   takes-some l =
       let all = met-other 728 λ e. omega arith in
       record {
@@ -68,7 +68,7 @@ module _ (ws : List ℕ) (room : Room ws 1) where
         counts = met-count ∙ sym (add-one (metIn ws));
         choice = of-some {c = choiceOn met (metIn ws)}
             (choices-some ws (metIn ws) (choicesIn ws - metIn ws) (choicesIn ws - suc (metIn ws)) (omega arith)
-            ∙ rw (met-other (1241 + metIn ws) λ e. omega arith, met-count, all)
+            ∙ rw (met-other (1371 + metIn ws) λ e. omega arith, met-count, all)
             (ap (λ (cs : List Bool). choiceOn ws (metIn ws) ∷ cs)
             (sym (choices-kept ws met (suc (metIn ws)) (choicesIn ws - suc (metIn ws)) λ j h i. met-other j λ e. omega arith))))
             (rw met-count
@@ -81,21 +81,21 @@ module _ (ws : List ℕ) (room : Room ws 1) where
 
   noted-met : metIn noted ≡ suc (metIn ws)
   noted-met =
-      getD-set-other more (1241 + metIn ws) 727 1 0 (λ e. omega arith) ∙ getD-set-other met 728 727 (metIn ws + 1) 0 (λ e. omega arith)
+      getD-set-other more (1371 + metIn ws) 727 1 0 (λ e. omega arith) ∙ getD-set-other met 728 727 (metIn ws + 1) 0 (λ e. omega arith)
       ∙ met-count
 
   noted-all : choicesIn noted ≡ suc (metIn ws)
   noted-all =
-      getD-set-other more (1241 + metIn ws) 728 1 0 (λ e. omega arith)
+      getD-set-other more (1371 + metIn ws) 728 1 0 (λ e. omega arith)
       ∙ getD-set-same met 728 (metIn ws + 1) 0 (simp length-set (omega (arith, room .lent)))
       ∙ add-one (metIn ws)
 
-  noted-choice : getD noted (1241 + metIn ws) 0 ≡ 1
-  noted-choice = getD-set-same more (1241 + metIn ws) 1 0 (simp length-set (omega (arith, room .lent, room .choices)))
+  noted-choice : getD noted (1371 + metIn ws) 0 ≡ 1
+  noted-choice = getD-set-same more (1371 + metIn ws) 1 0 (simp length-set (omega (arith, room .lent, room .choices)))
 
-  noted-other : (k : ℕ) → (k ≡ 727 → ⊥) → (k ≡ 728 → ⊥) → (k ≡ 1241 + metIn ws → ⊥) → getD noted k 0 ≡ getD ws k 0
+  noted-other : (k : ℕ) → (k ≡ 727 → ⊥) → (k ≡ 728 → ⊥) → (k ≡ 1371 + metIn ws → ⊥) → getD noted k 0 ≡ getD ws k 0
   noted-other k a b c =
-      getD-set-other more (1241 + metIn ws) k 1 0 c ∙ getD-set-other met 728 k (metIn ws + 1) 0 b ∙ met-other k a
+      getD-set-other more (1371 + metIn ws) k 1 0 c ∙ getD-set-other met 728 k (metIn ws + 1) 0 b ∙ met-other k a
 
   -- none was left
   pub takes-none : getD met 728 0 ≤ metIn ws → TakesChoice ws true noted
@@ -148,20 +148,20 @@ module _ (ws : List ℕ) (i : ℕ) (l : 0 < i) (f : Flipping ws i) where
   here : i ≡ suc (i - 1)
   here = omega arith
 
-  place : 1241 + i - 1 ≡ 1241 + (i - 1)
+  place : 1371 + i - 1 ≡ 1371 + (i - 1)
   place = omega arith
 
   flipping-by : next (metOn ws) ≡ next (choicesAt ws 0 (i - 1) ++ (choiceOn ws (i - 1) ∷ []))
   flipping-by = f .rest ∙ ap (λ (k : ℕ). next (choicesAt ws 0 k)) here ∙ ap next (met-last ws (i - 1))
 
-  pub flipping-on : (getD ws (1241 + i - 1) 0 ≡ 1 → ⊥) → Flipping ws (i - 1)
+  pub flipping-on : (getD ws (1371 + i - 1) 0 ≡ 1 → ⊥) → Flipping ws (i - 1)
   flipping-on n =
-      let e : choiceOn ws (i - 1) ≡ false = ne-eqb (getD ws (1241 + (i - 1)) 0) 1 (rw place at n) in
+      let e : choiceOn ws (i - 1) ≡ false = ne-eqb (getD ws (1371 + (i - 1)) 0) 1 (rw place at n) in
       record { within = omega (arith, f .within); rest = flipping-by ∙ rw e (next-false (choicesAt ws 0 (i - 1))) }
 
   module _ (lent : spaceSize ≤ length ws) (few : metIn ws ≤ nodeLimit) where
     abbrev dropped : List ℕ
-    dropped = set ws (1241 + i - 1) 0
+    dropped = set ws (1371 + i - 1) 0
 
     abbrev flipped : List ℕ
     flipped = set dropped 728 i
@@ -172,14 +172,14 @@ module _ (ws : List ℕ) (i : ℕ) (l : 0 < i) (f : Flipping ws i) where
     flipped-all : choicesIn flipped ≡ i
     flipped-all = getD-set-same dropped 728 i 0 (simp length-set (omega arith))
 
-    flipped-choice : getD flipped (1241 + (i - 1)) 0 ≡ 0
+    flipped-choice : getD flipped (1371 + (i - 1)) 0 ≡ 0
     flipped-choice =
-        getD-set-other dropped 728 (1241 + (i - 1)) i 0 (λ e. omega arith)
+        getD-set-other dropped 728 (1371 + (i - 1)) i 0 (λ e. omega arith)
         ∙ ap (λ (k : ℕ). getD dropped k 0) (sym place)
-        ∙ getD-set-same ws (1241 + i - 1) 0 0 (omega (arith, f .within))
+        ∙ getD-set-same ws (1371 + i - 1) 0 0 (omega (arith, f .within))
 
-    flipped-other : (k : ℕ) → (k ≡ 728 → ⊥) → (k ≡ 1241 + i - 1 → ⊥) → getD flipped k 0 ≡ getD ws k 0
-    flipped-other k a b = getD-set-other dropped 728 k i 0 a ∙ getD-set-other ws (1241 + i - 1) k 0 0 b
+    flipped-other : (k : ℕ) → (k ≡ 728 → ⊥) → (k ≡ 1371 + i - 1 → ⊥) → getD flipped k 0 ≡ getD ws k 0
+    flipped-other k a b = getD-set-other dropped 728 k i 0 a ∙ getD-set-other ws (1371 + i - 1) k 0 0 b
 
     flipped-choices : choicesOn flipped ≡ choicesAt ws 0 (i - 1) ++ (false ∷ [])
     flipped-choices =
@@ -188,19 +188,20 @@ module _ (ws : List ℕ) (i : ℕ) (l : 0 < i) (f : Flipping ws i) where
         ∙ met-last flipped (i - 1)
         ∙ rw (flipped-choice, choices-kept ws flipped 0 (i - 1) λ j h m. flipped-other j (λ e. omega arith) (λ e. omega arith)))
 
-    pub flipping-found : getD ws (1241 + i - 1) 0 ≡ 1 → NextChoices ws true flipped
+    pub flipping-found : getD ws (1371 + i - 1) 0 ≡ 1 → NextChoices ws true flipped
     flipping-found e =
-        let c : choiceOn ws (i - 1) ≡ true = eq-eqb (getD ws (1241 + (i - 1)) 0) 1 (rw place at e) in
+        let c : choiceOn ws (i - 1) ≡ true = eq-eqb (getD ws (1371 + (i - 1)) 0) 1 (rw place at e) in
         a-next flipped-length (λ k h. flipped-other k (λ z. omega arith) (λ z. omega arith))
+        (record { each = λ k h m. flipped-other k (λ z. omega arith) (λ z. omega arith) })
         (flipping-by ∙ rw c (next-true (choicesAt ws 0 (i - 1))) ∙ ap (λ (cs : List Bool). some cs) (sym flipped-choices))
 
 -- the same of a list that is still the first one
 module _ (ws xs : List ℕ) (same : xs ≡ ws) (i : ℕ) (f : Flipping ws i) where
-  pub flipped-on : 0 < i → (getD xs (1241 + i - 1) 0 ≡ 1 → ⊥) → Flipping ws (i - 1)
+  pub flipped-on : 0 < i → (getD xs (1371 + i - 1) 0 ≡ 1 → ⊥) → Flipping ws (i - 1)
   flipped-on l n = flipping-on ws i l f (rw same at n)
 
-  pub flipped-found : 0 < i → spaceSize ≤ length ws → metIn ws ≤ nodeLimit → getD xs (1241 + i - 1) 0 ≡ 1
-      → NextChoices ws true (set (set xs (1241 + i - 1) 0) 728 i)
+  pub flipped-found : 0 < i → spaceSize ≤ length ws → metIn ws ≤ nodeLimit → getD xs (1371 + i - 1) 0 ≡ 1
+      → NextChoices ws true (set (set xs (1371 + i - 1) 0) 728 i)
   flipped-found l lent few e = rw same (flipping-found ws i l f lent few (rw same at e))
 
   pub flipped-end : i ≤ 0 → NextChoices ws false xs

@@ -10,7 +10,7 @@ use Rattle.rules.specs.Symbolic.{Formula, negation, conjunction}
 use Rattle.terms.specs.Terms.{countIn, Space, pushed, TruthRow, Grown, Made, rowLimit, symbolLimit}
 use Rattle.terms.specs.Terms.Laws.{still-distinct, grown-trans, truth-kept, pushed-length, pushed-count, pushed-added, made-conjunction, made-exclusion}
 use Rattle.checker.specs.Code.Paths.{assumed}
-use Rattle.checker.specs.Code.State.{conditionIn, spaceSize, PathIn, Went, Unchosen}
+use Rattle.checker.specs.Code.State.{conditionIn, spaceSize, PathIn, Went, Unchosen, Unnoted}
 use Rattle.checker.specs.Code.State.Laws.{log-kept, path-added}
 
 -- nothing changes but rows, at most one more, and the row of the condition
@@ -44,6 +44,9 @@ module _ {ws left : List ℕ} (j : Joined ws left) where
         all = j .beyond 728 (omega arith) λ e. omega arith;
         each = λ k l. j .beyond k (omega arith) λ e. omega arith;
       }
+
+  pub joined-unnoted : Unnoted ws left
+  joined-unnoted = record { each = λ k l h. j .beyond k (omega arith) λ e. omega arith }
 
 -- ---- another row of the condition
 

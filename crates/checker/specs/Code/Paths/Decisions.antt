@@ -21,10 +21,10 @@ use Rattle.decision.specs.Decision.Laws.{decides}
 use Rattle.decision.specs.declared.Decision.{Decision}
 use Rattle.decision.specs.declared.Decision.the-variants.{TooMany, Both, OnlyTrue, OnlyFalse}
 use Rattle.checker.specs.Code.Paths.{Choice, of-none, of-some, TakesChoice, assumed}
-use Rattle.checker.specs.Code.Paths.Conditions.{Joined, joined-went, joined-unchosen, assumed-joined, assumed-path, denied-path}
+use Rattle.checker.specs.Code.Paths.Conditions.{Joined, joined-went, joined-unchosen, joined-unnoted, assumed-joined, assumed-path, denied-path}
 use Rattle.checker.specs.Code.Rules.{Decidable, Chosen, first, second, neither, Chooses}
-use Rattle.checker.specs.Code.State.{conditionIn, spaceSize, Means, wordRow, truthRow, madeSymbol, otherSymbol, PathIn, metOn, leftOn, Room, Went}
-use Rattle.checker.specs.Code.State.Laws.{path-moved, log-kept, went-refl, unchosen-met, unchosen-left}
+use Rattle.checker.specs.Code.State.{conditionIn, spaceSize, Means, wordRow, truthRow, madeSymbol, otherSymbol, PathIn, metOn, leftOn, Room, Went, Unnoted}
+use Rattle.checker.specs.Code.State.Laws.{path-moved, log-kept, went-refl, unchosen-met, unchosen-left, unnoted-refl, unnoted-trans}
 use Rattle.checker.specs.declared.path.Branch.{Branch}
 use Rattle.checker.specs.declared.path.Branch.the-variants.{First, Second, Neither}
 
@@ -107,6 +107,9 @@ module _ {ws xs : List ℕ} {r : Bool} (room : Room ws 1) (k : TakesChoice ws r 
         choices = omega (arith, m, k .counts);
       }
 
+  takes-unnoted : {left : List ℕ} → Joined xs left → Unnoted ws left
+  takes-unnoted j = unnoted-trans (record { each = λ i h l. k .log i (omega arith) l }) (joined-unnoted j)
+
 -- ---- the answers
 
 pub one-free : {ws : List ℕ} → Room ws 1 → Space ws 1
@@ -120,7 +123,7 @@ no-truth d (madeSymbol x) = neither λ e f. refl
 no-truth d (otherSymbol x) = neither λ e f. refl
 
 pub chooses-no-truth : (n t q : ℕ) (ws : List ℕ) → (t ≡ 1 → ⊥) → Chooses n t q ws (Neither (WrongType n)) ws
-chooses-no-truth n t q ws d = record { went = went-refl ws symbolLimit 1; chosen = λ v p m h. no-truth d m }
+chooses-no-truth n t q ws d = record { went = went-refl ws symbolLimit 1; notes = unnoted-refl ws; chosen = λ v p m h. no-truth d m }
 
 below-row : {ws : List ℕ} {q : ℕ} {v : Symbolic} → Means ws 1 q v → q < countIn ws
 below-row (truthRow l r) = l
@@ -145,7 +148,7 @@ module _ {n q : ℕ} {ws : List ℕ} where
         neither λ e f. ap (λ (t : Paths). follow t (metOn ws) (leftOn ws)) (tree-is n q ws room TooMany is g p u l h e f)
 
     pub chooses-many : (t : ℕ) → t ≡ 1 → TooMany ≡ decided ws (conditionIn ws) q → Chooses n t q ws (Neither (TooManyAtoms n)) ws
-    chooses-many t x is = record { went = went-refl ws symbolLimit 1; chosen = λ v p m h. many is v p (rw x at m) h }
+    chooses-many t x is = record { went = went-refl ws symbolLimit 1; notes = unnoted-refl ws; chosen = λ v p m h. many is v p (rw x at m) h }
 
     only-true : OnlyTrue ≡ decided ws (conditionIn ws) q → (v : Symbolic) (p : Path) → Means ws 1 q v → PathIn ws p → Chosen ws (assumed ws 5 q) n v p First
     only-true is v p (truthRow {f = g} l u) h =
@@ -158,6 +161,7 @@ module _ {n q : ℕ} {ws : List ℕ} where
     chooses-true t x is =
         record {
           went = joined-went (assumed-joined (one-free room) (room .lent) 5 q);
+          notes = joined-unnoted (assumed-joined (one-free room) (room .lent) 5 q);
           chosen = λ v p m h. only-true is v p (rw x at m) h;
         }
 
@@ -173,6 +177,7 @@ module _ {n q : ℕ} {ws : List ℕ} where
     chooses-false t x is =
         record {
           went = joined-went (assumed-joined (one-free room) (room .lent) 7 q);
+          notes = joined-unnoted (assumed-joined (one-free room) (room .lent) 7 q);
           chosen = λ v p m h. only-false is v p (rw x at m) h;
         }
 
@@ -191,6 +196,7 @@ module _ {n q : ℕ} {ws : List ℕ} where
           let s = takes-space room k in
           record {
             went = takes-went room k (assumed-joined s (takes-lent room k) 5 q);
+            notes = takes-unnoted room k (assumed-joined s (takes-lent room k) 5 q);
             chosen = λ v p m h. both-true k v p (rw x at m) h;
           }
 
@@ -207,6 +213,7 @@ module _ {n q : ℕ} {ws : List ℕ} where
       chooses-second t x k =
           record {
             went = takes-went room k (assumed-joined (takes-space room k) (takes-lent room k) 7 q);
+            notes = takes-unnoted room k (assumed-joined (takes-space room k) (takes-lent room k) 7 q);
             chosen = λ v p m h. both-false k v p (rw x at m) h;
           }
 

@@ -36,7 +36,7 @@ types-last types i =
     ∙ ap (λ (k : ℕ). symbols 0 (typesOn types i) ++ (symbol (getD types (2 * i) 0) k ∷ [])) e
 
 -- where no choice and none met changes, all choices are as before
-choices-same : (ws left : List ℕ) → choicesIn left ≡ choicesIn ws → ((k : ℕ) → 1241 ≤ k → getD left k 0 ≡ getD ws k 0) → choicesOn left ≡ choicesOn ws
+choices-same : (ws left : List ℕ) → choicesIn left ≡ choicesIn ws → ((k : ℕ) → 1371 ≤ k → getD left k 0 ≡ getD ws k 0) → choicesOn left ≡ choicesOn ws
 choices-same ws left e b = rw e (choices-kept ws left 0 (choicesIn ws) λ j h l. b j (omega arith))
 
 -- ---- row 0

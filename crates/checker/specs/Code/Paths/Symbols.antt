@@ -100,6 +100,7 @@ module _ (ws : List ℕ) (room : Room ws 1) where
             choices = omega arith;
           };
           unchosen = record { met = m; all = behind 728 (omega arith); each = λ k l. behind k (omega arith) };
+          notes = record { each = λ k l m. behind k (omega arith) };
         }
 
     fresh-by : (t q : ℕ) → (Distinct numbered → Distinct left) → (Distinct numbered → Means left t q (symbol t (nextIn ws))) → Fresh t ws q left

@@ -14,8 +14,8 @@ use Rattle.rules.specs.Symbolic.{Symbolic}
 use Rattle.checker.specs.Code.Rules.{Aside, Chooses, operandOf, NextOf, boundOn, BoundValues, NextChoices, no-next, a-next, EndOf, inconsistent, of-another-type, the-last, one-more, PathEnds}
 use Rattle.checker.specs.Code.Rules.Typed.{aside-refl}
 use Rattle.checker.specs.Code.Rules.Types.{bound-other, let-bound}
-use Rattle.checker.specs.Code.State.{writesIn, Means, Variables, oneMore, Log}
-use Rattle.checker.specs.Code.State.Laws.{means-at, variables-kept, same-grown}
+use Rattle.checker.specs.Code.State.{writesIn, Means, Variables, oneMore, Log, Unnoted}
+use Rattle.checker.specs.Code.State.Laws.{means-at, variables-kept, same-grown, unnoted-refl}
 use Rattle.checker.specs.declared.nodes.Next.the-variants.{Operand}
 use Rattle.checker.specs.declared.nodes.Walked.{Walked}
 use Rattle.checker.specs.declared.nodes.Walked.the-variants.{Wrong, Last, More}
@@ -23,7 +23,7 @@ use Rattle.checker.specs.declared.path.Branch.{Branch}
 
 -- ---- the variables of the next operand
 
-module _ (k depth t q : ℕ) (ws : List ℕ) (l : depth < 144) (h : 1369 ≤ length ws) where
+module _ (k depth t q : ℕ) (ws : List ℕ) (l : depth < 144) (h : 1499 ≤ length ws) where
   abbrev one : List ℕ
   one = set ws (2 * depth) t
 
@@ -86,26 +86,27 @@ module _ (k b c n t q : ℕ) {ws : List ℕ} where
 -- ---- the end of a path
 
 module _ {n t : ℕ} {first : Bool} {kind : ℕ} {ws : List ℕ} {b : Bool} (h : (l : List Write) → Log ws (writesIn ws) l → consistentAfter [] l ≡ b) where
-  end-by : {s : Bool} {r : Walked} {left : List ℕ} → (first || eqb t kind) ≡ s → length left ≡ length ws → ((k : ℕ) → k < 728 → getD left k 0 ≡ getD ws k 0)
+  end-by : {s : Bool} {r : Walked} {left : List ℕ} → (first || eqb t kind) ≡ s → length left ≡ length ws → ((k : ℕ) → k < 728 → getD left k 0 ≡ getD ws k 0) → Unnoted ws left
       → EndOf n t ws left b s r → PathEnds n t first kind ws r left
-  end-by e l p x =
+  end-by e l p u x =
       record {
         same = l;
         before = p;
+        notes = u;
         ending = λ w g. rw (h w g, e) x;
       }
 
   pub end-inconsistent : b ≡ false → PathEnds n t first kind ws (Wrong (InconsistentLog n)) ws
-  end-inconsistent e = end-by refl refl (λ k l. refl) (rw e inconsistent)
+  end-inconsistent e = end-by refl refl (λ k l. refl) (unnoted-refl ws) (rw e inconsistent)
 
   pub end-other : b ≡ true → (first || eqb t kind) ≡ false → PathEnds n t first kind ws (Wrong (PathTypesDiffer n)) ws
-  end-other e f = end-by f refl (λ k l. refl) (rw e of-another-type)
+  end-other e f = end-by f refl (λ k l. refl) (unnoted-refl ws) (rw e of-another-type)
 
   module _ (e : b ≡ true) (f : (first || eqb t kind) ≡ true) where
     pub end-more : {m : Bool} {left : List ℕ} → NextChoices ws m left → m ≡ true → PathEnds n t first kind ws (More t) left
     end-more (no-next z) y = absurd (false≢true y)
-    end-more (a-next l p z) y = end-by f l p (rw e (one-more z))
+    end-more (a-next l p u z) y = end-by f l p u (rw e (one-more z))
 
     pub end-last : {m : Bool} {left : List ℕ} → NextChoices ws m left → m ≡ false → PathEnds n t first kind ws (Last t) left
-    end-last (no-next z) y = end-by f refl (λ k l. refl) (rw e (the-last z))
-    end-last (a-next l p z) y = absurd (false≢true (sym y))
+    end-last (no-next z) y = end-by f refl (λ k l. refl) (unnoted-refl ws) (rw e (the-last z))
+    end-last (a-next l p u z) y = absurd (false≢true (sym y))

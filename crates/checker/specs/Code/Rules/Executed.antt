@@ -399,7 +399,7 @@ module _ (limit : ℕ) {xs ws : List ℕ} {depth n t s : ℕ} (q : ReadyRest xs 
     pub bound-room : depth < 144
     bound-room = omega (arith, g .fits, q .variables)
 
-    pub bound-lent : 1369 ≤ length left
+    pub bound-lent : 1499 ≤ length left
     bound-lent = omega (arith, q .room .lent, g .went .same)
 
     module _ {left₁ : List ℕ} {inner : ℕ} (b : BoundValues form depth t s left inner left₁) where

@@ -22,8 +22,8 @@ use Rattle.checker.specs.Code.Paths.Symbols.{fresh-reference}
 use Rattle.checker.specs.Code.Rules.{oneExec, twoExec, Ruled, One, Two, After}
 use Rattle.checker.specs.Code.Rules.Executed.{unchosen-trans}
 use Rattle.checker.specs.Code.Rules.Operators.{ruled-refl}
-use Rattle.checker.specs.Code.State.{nextIn, writesIn, Means, wordRow, truthRow, madeSymbol, otherSymbol, noWrite, PathIn, Room, Went, Unchosen, Yields, ending, stopping}
-use Rattle.checker.specs.Code.State.Laws.{path-moved, means-type, means-kept, went-trans}
+use Rattle.checker.specs.Code.State.{nextIn, writesIn, Means, wordRow, truthRow, madeSymbol, otherSymbol, noWrite, PathIn, Room, Went, Unchosen, Unnoted, Yields, ending, stopping}
+use Rattle.checker.specs.Code.State.Laws.{path-moved, means-type, means-kept, went-trans, unnoted-trans}
 use Rattle.checker.specs.declared.log.Found.{Found}
 use Rattle.checker.specs.declared.log.Found.the-variants.{Value, Nothing}
 use Rattle.checker.specs.declared.operators.Step.the-variants.{Gave, Stopped}
@@ -51,8 +51,8 @@ no-reference l (truthRow i r) = a-truth
 no-reference l (madeSymbol e) = absurd (omega arith)
 no-reference l (otherSymbol e) = absurd (omega arith)
 
-ruled-then : {ws xs left : List ℕ} → Unchosen ws xs → Unchosen xs left → Went ws left 144 1 → Ruled ws left
-ruled-then u v w = record { went = w; unchosen = unchosen-trans u v }
+ruled-then : {ws xs left : List ℕ} → Unchosen ws xs → Unnoted ws xs → Ruled xs left → Went ws left 144 1 → Ruled ws left
+ruled-then u k v w = record { went = w; unchosen = unchosen-trans u (v .unchosen); notes = unnoted-trans k (v .notes) }
 
 -- ---- `set`
 
@@ -101,7 +101,7 @@ module _ (n t q : ℕ) {ws : List ℕ} where
     fresh : Fresh (t + 2) ws (2 * nextIn ws) numbered
     fresh = fresh-reference ws x (t + 2) (λ e. omega arith) (λ e. omega arith)
 
-    pub ref-lent : 1369 ≤ length numbered
+    pub ref-lent : 1499 ≤ length numbered
     ref-lent = omega (arith, length-set ws 724 (nextIn ws + 1), x .lent)
 
     pub ref-few : writesIn numbered < 128
@@ -148,8 +148,8 @@ module _ (n t q : ℕ) {ws : List ℕ} where
     ref-made e =
         rw e
         (record {
-          ruled = ruled-then (fresh .ruled .unchosen)
-              (written-ruled numbered (t + 2) (2 * nextIn ws + 1) t q ref-lent ref-few ref-rows .unchosen) ref-went;
+          ruled = ruled-then (fresh .ruled .unchosen) (fresh .ruled .notes)
+              (written-ruled numbered (t + 2) (2 * nextIn ws + 1) t q ref-lent ref-few ref-rows) ref-went;
           yields = ref-yields;
         })
 
@@ -293,6 +293,6 @@ module _ (n t : ℕ) {ws : List ℕ} {b : Bool} (e : b ≡ consistentOn ws 0 (wr
     unfolding typedResult
     block-made z y =
         record {
-          ruled = ruled-then emptied-unchosen (y .ruled .unchosen) (went-trans (omega arith) emptied-went (y .ruled .went));
+          ruled = ruled-then emptied-unchosen (record { each = λ k l h. emptied-other k λ z. omega arith }) (y .ruled) (went-trans (omega arith) emptied-went (y .ruled .went));
           yields = λ p h. rw (sym (consistent-is (h .log)) ∙ sym e ∙ z) (fresh-yields t t refl y (emptied-path h));
         }

@@ -31,7 +31,7 @@ pub room-space : {ws : List ℕ} → Room ws 1 → Space ws 1
 room-space r = record { lent = omega (arith, r .lent); room = omega (arith, r .rows) }
 
 pub ruled-refl : (ws : List ℕ) → Ruled ws ws
-ruled-refl ws = record { went = went-refl ws 144 1; unchosen = record { met = refl; all = refl; each = λ k l. refl } }
+ruled-refl ws = record { went = went-refl ws 144 1; unchosen = record { met = refl; all = refl; each = λ k l. refl }; notes = record { each = λ k l m. refl } }
 
 pub added-ruled : {ws left : List ℕ} → length left ≡ length ws → Added ws left 1 → Ruled ws left
 added-ruled l a =
@@ -49,6 +49,7 @@ added-ruled l a =
         choices = omega arith;
       };
       unchosen = record { met = met; all = a .beyond 728 (omega arith); each = λ k i. a .beyond k (omega arith) };
+      notes = record { each = λ k i m. a .beyond k (omega arith) };
     }
 
 pub truth-yields : {ws left : List ℕ} {r : ℕ} {f : Formula} {p : Path} → Made ws left r f → PathIn ws p → Yields left (Gave 1 r) (ends (aTruth f) p)

@@ -32,7 +32,7 @@ use Rattle.checker.specs.declared.operators.Step.the-variants as step
 
 -- ---- a path at its start
 
-module _ (ws : List ℕ) (rows depth : ℕ) (l : 1369 ≤ length ws) where
+module _ (ws : List ℕ) (rows depth : ℕ) (l : 1499 ≤ length ws) where
   abbrev one : List ℕ
   one = set ws 288 rows
 
@@ -102,7 +102,7 @@ pub started-kept : {ws left : List ℕ} {depth rows : ℕ} {types : List ℕ} �
 started-kept {ws} {left} {depth} {rows} {types} small few same before each s =
     record { lent = omega (arith, s .lent, same); few = s .few; state = record { variables = vs; path = path } }
   where
-    lent : 1369 ≤ length left
+    lent : 1499 ≤ length left
     lent = omega (arith, s .lent, same)
 
     grown : Grown (restarted ws rows depth) (restarted left rows depth)
@@ -307,7 +307,7 @@ module _ {n limit followed kind : ℕ} {tree : Paths} {ws : List ℕ} (f : Follo
 
 -- what holds at each turn: the whole workspace, its start, and the rest of the verdict
 pub record Turn (table types : List ℕ) (depth limit n a rows : ℕ) (ws : List ℕ) (followed kind : ℕ) : Type 0 where
-  pub whole : length ws ≡ 1369
+  pub whole : length ws ≡ 1499
   pub started : Started ws depth rows (typesOn types depth)
   pub following : Following n limit followed kind (exec limit (treeIn table a) (symbols 0 (typesOn types depth)) (start depth)) ws
 
@@ -342,6 +342,6 @@ module _ {table types : List ℕ} {depth limit n a rows : ℕ} {ws : List ℕ} {
           following = following-more (u .following) l left (k .walked (typesOn types depth) (u .started)) e;
         }
 
-pub turn-start : (table types : List ℕ) (depth limit n a rows : ℕ) (ws : List ℕ) → length ws ≡ 1369 → Started ws depth rows (typesOn types depth) → choicesOn ws ≡ []
+pub turn-start : (table types : List ℕ) (depth limit n a rows : ℕ) (ws : List ℕ) → length ws ≡ 1499 → Started ws depth rows (typesOn types depth) → choicesOn ws ≡ []
     → Turn table types depth limit n a rows ws 0 0
 turn-start table types depth limit n a rows ws l s e = record { whole = l; started = s; following = following-start n limit _ ws e }

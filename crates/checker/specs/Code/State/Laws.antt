@@ -15,7 +15,7 @@ use Rattle.rules.specs.Paths.Next.{Trace, arrives, halts, follow}
 use Rattle.rules.specs.Symbolic.{Symbolic, typeOf}
 use Rattle.terms.specs.Terms.{Grown, Distinct, Added}
 use Rattle.terms.specs.Terms.Laws.{grown-refl, grown-trans, sum-kept, truth-kept, still-distinct}
-use Rattle.checker.specs.Code.State.{nextIn, conditionIn, writesIn, metIn, choicesIn, typesOn, Means, wordRow, truthRow, madeSymbol, otherSymbol, Variables, noVariable, oneMore, Log, noWrite, aWrite, PathIn, choicesAt, metOn, leftOn, Room, Went, Took, arrived, halted, Yields, ending, stopping, Unchosen}
+use Rattle.checker.specs.Code.State.{nextIn, conditionIn, writesIn, metIn, choicesIn, typesOn, Means, wordRow, truthRow, madeSymbol, otherSymbol, Variables, noVariable, oneMore, Log, noWrite, aWrite, PathIn, choicesAt, metOn, leftOn, Room, Went, Took, arrived, halted, Yields, ending, stopping, Unchosen, Unnoted}
 use Rattle.checker.specs.declared.operators.Step.{Step}
 use Rattle.checker.specs.declared.operators.Step.the-variants.{Gave, Stopped}
 
@@ -157,11 +157,11 @@ distinct-same b d = let e = b 288 (omega arith) in still-distinct (same-grown b)
 
 -- ---- the choices
 
-pub choices-kept : (ws left : List ℕ) (i k : ℕ) → ((j : ℕ) → 1241 + i ≤ j → j < 1241 + i + k → getD left j 0 ≡ getD ws j 0) → choicesAt left i k ≡ choicesAt ws i k
+pub choices-kept : (ws left : List ℕ) (i k : ℕ) → ((j : ℕ) → 1371 + i ≤ j → j < 1371 + i + k → getD left j 0 ≡ getD ws j 0) → choicesAt left i k ≡ choicesAt ws i k
 unfolding choicesAt
 choices-kept ws left i zero b = refl
 choices-kept ws left i (suc k) b =
-    rw (b (1241 + i) (omega arith) (omega arith), choices-kept ws left (suc i) k λ j h l. b j (omega arith) (omega arith))
+    rw (b (1371 + i) (omega arith) (omega arith), choices-kept ws left (suc i) k λ j h l. b j (omega arith) (omega arith))
 
 module _ {ws left : List ℕ} (u : Unchosen ws left) where
   pub unchosen-met : metOn left ≡ metOn ws
@@ -169,6 +169,12 @@ module _ {ws left : List ℕ} (u : Unchosen ws left) where
 
   pub unchosen-left : leftOn left ≡ leftOn ws
   unchosen-left = rw (u .met, u .all) (choices-kept ws left (metIn ws) (choicesIn ws - metIn ws) λ j h l. u .each j (omega arith))
+
+pub unnoted-refl : (ws : List ℕ) → Unnoted ws ws
+unnoted-refl ws = record { each = λ k l h. refl }
+
+pub unnoted-trans : {ws xs left : List ℕ} → Unnoted ws xs → Unnoted xs left → Unnoted ws left
+unnoted-trans u v = record { each = λ k l h. v .each k l h ∙ u .each k l h }
 
 -- ---- room
 

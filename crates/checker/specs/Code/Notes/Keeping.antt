@@ -1,0 +1,1 @@
+-- What keeps notes right: where they and the first variables stay as they are. Assumes nothing.

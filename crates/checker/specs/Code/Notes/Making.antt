@@ -1,0 +1,1 @@
+-- Making a note: the variables that it names, and that it is right. Assumes nothing.

@@ -1,0 +1,1 @@
+-- Reading notes: what a right note says of a block is its type. Assumes nothing.
