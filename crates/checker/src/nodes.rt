@@ -1,5 +1,6 @@
 // The typed rules and the symbolic rules by the table: each node is checked or executed after its operands, whose numbers are smaller. A typed block in a
-// symbolic block hands over to the typed rules, on the same workspace; a `sym` in typed mode follows its paths in a workspace of its own.
+// symbolic block hands over to the typed rules, on the same workspace, unless a note has its type; a `sym` in typed mode follows its paths in a workspace of
+// its own.
 ghost use mathlib.Core.Bool.{_||_};
 ghost use mathlib.Core.Path.{_≡_};
 ghost use Prim.Native.Nat.{_<_, _≤_};
@@ -11,9 +12,13 @@ ghost use Rattle.rules.specs.Paths.{start, leaves};
 ghost use Rattle.rules.specs.Symbolic.{symbols};
 ghost use Rattle.rules.specs.SymbolicRules.{verdict};
 ghost use Rattle.terms.specs.Terms.{symbolLimit};
+ghost use Rattle.checker.specs.Code.Notes.{Noting, Holding, Blocked};
 ghost use Rattle.checker.specs.Code.Rules.{BoundValues, Decidable, NextOf, PathEnds, Walkable, Walks, Checkable, CheckableRest, restType, Judged, Ready, ReadyRest, Executes, ExecutesRest};
 ghost use Rattle.checker.specs.Code.State.{spaceSize, typesOn, Room};
 use crate::log::consistent;
+use crate::notes::Known;
+use crate::notes::note;
+use crate::notes::recall;
 use crate::operators::Step;
 use crate::operators::leaf;
 use crate::operators::one;
@@ -121,8 +126,9 @@ fn walk(
     first: bool,
     wanted: u32,
 ) -> Walked
-    requires { ⌜ Walkable (now table) (now space) depth a rows ⌝ }
+    requires { ⌜ Walkable limit (now table) (now space) depth a rows ⌝ }
     ensures { λ r. ⌜ Walks limit (now (table .entry)) n a depth rows first wanted (now (space .entry)) r (now (space .exit)) ⌝ }
+    ensures { λ r. ⌜ Holding limit (now (table .entry)) (now (space .entry)) (now (space .exit)) ⌝ }
 {
     restart(space, rows, depth);
     match execute(table, space, depth, limit, a) {
@@ -205,6 +211,24 @@ pub fn check_node(table: &[u32], space: &mut [u32], depth: usize, limit: u32, n:
     }
 }
 
+// The type of a typed block on a path, whose operand is node a: what the notes say, or else what the typed rules give, which is then noted.
+fn block_type(table: &[u32], space: &mut [u32], depth: usize, limit: u32, a: u32) -> Checked
+    requires { ⌜ Checkable (now table) (now space) depth a ⌝ }
+    requires { ⌜ Noting limit (now table) (now space) depth ⌝ }
+    ensures { λ r. ⌜ Blocked limit (now (table .entry)) (check limit (treeIn (now (table .entry)) a) (typesOn (now (space .entry)) depth)) depth (now (space .entry)) r (now (space .exit)) ⌝ }
+{
+    match recall(space, depth, a) {
+        Known::Typed(t) => Checked::Accepted(t),
+        Known::Nothing => match check_node(table, space, depth, limit, a) {
+            Checked::Refused(why) => Checked::Refused(why),
+            Checked::Accepted(t) => {
+                note(table, space, depth, a, t);
+                Checked::Accepted(t)
+            }
+        },
+    }
+}
+
 // Goes on with node n on a path, once its first operand gave a value of type t at place p.
 fn execute_rest(
     table: &[u32],
@@ -215,8 +239,9 @@ fn execute_rest(
     t: u32,
     p: u32,
 ) -> Step
-    requires { ⌜ ReadyRest (now table) (now space) depth n t p ⌝ }
+    requires { ⌜ ReadyRest limit (now table) (now space) depth n t p ⌝ }
     ensures { λ r. ⌜ ExecutesRest limit (now (table .entry)) n depth t p (now (space .entry)) r (now (space .exit)) ⌝ }
+    ensures { λ r. ⌜ Holding limit (now (table .entry)) (now (space .entry)) (now (space .exit)) ⌝ }
 {
     let node = node_at(table, n as usize);
     match next_operand(node.kind, node.b, node.c, t, p, space, n) {
@@ -233,15 +258,16 @@ fn execute_rest(
 
 // Executes node n on the path in the workspace: the environment is the values of the first `depth` variables.
 fn execute(table: &[u32], space: &mut [u32], depth: usize, limit: u32, n: u32) -> Step
-    requires { ⌜ Ready (now table) (now space) depth n ⌝ }
+    requires { ⌜ Ready limit (now table) (now space) depth n ⌝ }
     ensures { λ r. ⌜ Executes limit (treeIn (now (table .entry)) n) depth (now (space .entry)) r (now (space .exit)) ⌝ }
+    ensures { λ r. ⌜ Holding limit (now (table .entry)) (now (space .entry)) (now (space .exit)) ⌝ }
 {
     let node = node_at(table, n as usize);
     if node.kind < LEAVES {
         return leaf(node.kind, node.a, space, depth, n);
     }
     if node.kind == TYPED {
-        return match check_node(table, space, depth, limit, node.a) {
+        return match block_type(table, space, depth, limit, node.a) {
             Checked::Refused(why) => Step::Stopped(why),
             Checked::Accepted(t) => typed_result(t, space, n),
         };

@@ -5,10 +5,12 @@ ghost use mathlib.Core.Path.{_≡_};
 ghost use Prim.Native.Nat.{suc, _*_, _<_, _≤_};
 ghost use lib.ListN.{length};
 ghost use Rattle.terms.specs.Terms.{Space, symbolLimit};
+ghost use Rattle.checker.specs.Code.Notes.{Bare};
 ghost use Rattle.checker.specs.Code.Paths.{Fresh, assumed, TakesChoice, Blank, Starting};
 ghost use Rattle.checker.specs.Code.Rules.{Decidable, Chooses, NextChoices, Started, restarted, choicesOn};
 ghost use Rattle.checker.specs.Code.State.{nodeLimit, spaceSize, metIn, typesOn, Room};
 use crate::notes;
+use crate::notes::BASE;
 use decision::Decision;
 use decision::decide;
 use script::Refusal;
@@ -144,13 +146,14 @@ pub fn next_choices(space: &mut [u32]) -> bool
     false
 }
 
-// Each variable becomes a symbol of its type, numbered from 0 on; row 0 is `true`. Answers how many rows there are then.
+// Each variable becomes a symbol of its type, numbered from 0 on; row 0 is `true`, and there are no notes. Answers how many rows there are then.
 pub fn start(types: &[u32], space: &mut [u32], depth: usize) -> u32
     requires { ⌜ 2 * depth ≤ length (now types) ⌝ }
     requires { ⌜ depth ≤ symbolLimit ⌝ }
     requires { ⌜ Blank (now space) ⌝ }
     ensures { λ r. ⌜ Started (now (space .exit)) depth r (typesOn (now (types .entry)) depth) ⌝ }
     ensures { λ r. ⌜ choicesOn (now (space .exit)) ≡ [] ⌝ }
+    ensures { λ r. ⌜ Bare depth (now (space .exit)) ⌝ }
 {
     push(space, CONSTANT, 1, 0);
     let mut i = 0;
@@ -158,6 +161,7 @@ pub fn start(types: &[u32], space: &mut [u32], depth: usize) -> u32
         start_variable(types, space, i);
         i += 1;
     }
+    space[BASE] = depth as u32;
     space[COUNT]
 }
 

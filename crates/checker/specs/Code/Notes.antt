@@ -153,3 +153,30 @@ pub record Noted (table : List ℕ) (depth a t : ℕ) (ws left : List ℕ) : Typ
   pub before : (k : ℕ) → k < 1242 → getD left k 0 ≡ getD ws k 0
   pub beyond : (k : ℕ) → 1371 ≤ k → getD left k 0 ≡ getD ws k 0
   pub kept : (limit : ℕ) → baseIn ws ≤ depth → check limit (treeIn table a) (typesOn ws depth) ≡ Accepted t → Kept limit table ws → Kept limit table left
+
+-- ---- what the executor asks and promises of the notes
+
+-- the notes are right, and the variables at the start of a path are among so many
+pub record Noting (limit : ℕ) (table ws : List ℕ) (depth : ℕ) : Type 0 where
+  pub lent : spaceSize ≤ length ws
+  pub based : baseIn ws ≤ depth
+  pub kept : Kept limit table ws
+
+-- they stay right
+pub record Holding (limit : ℕ) (table ws left : List ℕ) : Type 0 where
+  pub base : baseIn left ≡ baseIn ws
+  pub kept : Kept limit table left
+
+-- no note yet
+pub record Bare (depth : ℕ) (ws : List ℕ) : Type 0 where
+  pub base : baseIn ws ≡ depth
+  pub none : (i : ℕ) → i < 8 → depthIn ws (noteAt i) ≡ 0
+
+-- how a typed block on a path answers: only what stands behind the first variables changes, and the notes
+pub record Blocked (limit : ℕ) (table : List ℕ) (c : Checked) (depth : ℕ) (ws : List ℕ) (r : Checked) (left : List ℕ) : Type 0 where
+  pub answer : r ≡ c
+  pub same : length left ≡ length ws
+  pub before : (k : ℕ) → k < 2 * depth → getD left k 0 ≡ getD ws k 0
+  pub between : (k : ℕ) → variablesEnd ≤ k → k < 1242 → getD left k 0 ≡ getD ws k 0
+  pub beyond : (k : ℕ) → 1371 ≤ k → getD left k 0 ≡ getD ws k 0
+  pub kept : Kept limit table left

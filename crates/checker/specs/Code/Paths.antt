@@ -56,5 +56,6 @@ pub record Starting (types ws : List ℕ) (i : ℕ) : Type 0 where
   pub condition : conditionIn ws ≡ 0
   pub met : metIn ws ≡ 0
   pub free : choicesOn ws ≡ []
+  pub bare : (k : ℕ) → 1241 ≤ k → k < 1371 → getD ws k 0 ≡ 0
   pub path : PathIn ws (start i)
   pub variables : Variables ws i (symbols 0 (typesOn types i))

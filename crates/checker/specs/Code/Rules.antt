@@ -1,6 +1,7 @@
 -- The rules by the form of node n, as the code goes by them: a leaf; the rule after one operand; what is left after the first operand; the rule after the
 -- second. And what the functions for them promise. Assumes nothing.
 pub mod Between
+pub mod Blocks
 pub mod Executed
 pub mod Memory
 pub mod Nodes
@@ -32,6 +33,7 @@ use Rattle.rules.specs.Symbolic.{Symbolic, aWord, aTruth, number, constantly, s
 use Rattle.rules.specs.SymbolicRules.{unaryExec, binaryExec, decide, typedResult, variable, firstType, judge}
 use Rattle.rules.specs.TypedRules.{andThen, unaryType, binaryType, ifType}
 use Rattle.terms.specs.Terms.{symbolLimit, Distinct}
+use Rattle.checker.specs.Code.Notes.{Noting}
 use Rattle.checker.specs.Code.State.{variablesEnd, spaceSize, nodeLimit, writesIn, choicesIn, typesOn, Means, Variables, Log, PathIn, State, Valued, Standing, choicesAt, metOn, leftOn, Room, Went, Took, Yields, Unchosen, Unnoted}
 use Rattle.checker.specs.declared.nodes.Next.{Next}
 use Rattle.checker.specs.declared.nodes.Next.the-variants.{Operand, Stopped}
@@ -268,19 +270,21 @@ pub record BoundValues (f : Form) (depth t q : ℕ) (ws : List ℕ) (count : ℕ
   pub aside : Aside depth ws left
 
 -- node n can be executed with so many variables
-pub record Ready (table ws : List ℕ) (depth n : ℕ) : Type 0 where
+pub record Ready (limit : ℕ) (table ws : List ℕ) (depth n : ℕ) : Type 0 where
   pub formed : FormedNodes table (suc n)
   pub room : Room ws (size (treeIn table n))
   pub variables : depth + size (treeIn table n) ≤ symbolLimit
   pub stands : Standing ws depth
+  pub noting : Noting limit table ws depth
 
-pub record ReadyRest (table ws : List ℕ) (depth n t q : ℕ) : Type 0 where
+pub record ReadyRest (limit : ℕ) (table ws : List ℕ) (depth n t q : ℕ) : Type 0 where
   pub formed : FormedNodes table (suc n)
   pub several : 2 ≤ nodeOperands (nodeIn table n .kind)
   pub room : Room ws (restSize table n)
   pub variables : depth + restSize table n ≤ symbolLimit
   pub stands : Standing ws depth
   pub valued : Valued ws t q
+  pub noting : Noting limit table ws depth
 
 pub record Executes (limit : ℕ) (e : Expr) (depth : ℕ) (ws : List ℕ) (r : Step) (left : List ℕ) : Type 0 where
   pub went : Went ws left depth (size e)
@@ -328,12 +332,13 @@ pub record PathEnds (n t : ℕ) (first : Bool) (kind : ℕ) (ws : List ℕ) (r :
   pub ending : (l : List Write) → Log ws (writesIn ws) l → EndOf n t ws left (consistentAfter [] l) (first || eqb t kind) r
 
 -- node a can be followed on a path with so many rows and variables at its start
-pub record Walkable (table ws : List ℕ) (depth a rows : ℕ) : Type 0 where
+pub record Walkable (limit : ℕ) (table ws : List ℕ) (depth a rows : ℕ) : Type 0 where
   pub formed : FormedNodes table (suc a)
   pub variables : depth + size (treeIn table a) ≤ symbolLimit
   pub small : size (treeIn table a) ≤ nodeLimit
   pub types : List ℕ
   pub started : Started ws depth rows types
+  pub noting : Noting limit table ws depth
 
 -- what a path says of the paths from it on, where T is the type of the first
 pub data WalkOf (n T : ℕ) (ls after : List paths.Leaf) : Walked → Type 0 where

@@ -3,7 +3,7 @@ use borrow.Author.Needs.{needs}
 use mathlib.Core.Path.{_≡_, refl}
 use Prim.Native.Nat.{_≤_, _-_}
 use native.Mathlib.Omega.{arith}
-use lib.ListN.{length}
+use lib.ListN.{length, length-set}
 use Rattle.checker.specs.Code.Paths.{Starting}
 use Rattle.checker.specs.Code.Paths.Starts.{blank-space, first-started, starting-on, starting-end}
 use Rattle.checker.proofs.path.start.Statement.{statement}
@@ -35,13 +35,23 @@ loop-again c =
     let l = c .before .before .before .before .before .loop in
     (search needs, omega (arith, c .before .before .before .before .loop-test .taken), starting-on (l .i) (c .before .before .start-variable .ensures))
 
+cast-space : tie.Need-cast-space Inv-loop μ-loop
+cast-space c = omega (arith, c .before .before .before .before .before .before .before .before .pre .1 .0)
+
+slice-write-space : tie.Need-slice-write-space Inv-loop μ-loop
+slice-write-space c = omega (arith, c .before .loop .inv .2 .lent)
+
 slice-read-result : tie.Need-slice-read-result Inv-loop μ-loop
-slice-read-result c = omega (arith, c .before .before .loop .inv .2 .lent)
+slice-read-result c = simp length-set (omega (arith, c .before .before .loop .inv .2 .lent))
+
+same-length : tie.Need-same-length Inv-loop μ-loop
+same-length c =
+    omega (arith, length-set (c .before .before .loop .space) 1241 (c .before .before .before .before .before .before .before .before .before .args .depth), c .before .before .loop .inv .0)
 
 returns : tie.Need-returns Inv-loop μ-loop
 returns c =
     let l = c .before .before .loop in
-    starting-end (c .before .before .before .before .before .before .before .before .before .args .depth) (l .inv .1) (c .before .loop-test .left) (l .inv .2)
+    starting-end (c .before .before .before .before .before .before .before .before .before .args .depth) (c .before .before .before .before .before .before .before .before .before .pre .1 .0) (l .inv .1) (c .before .loop-test .left) (l .inv .2)
 
 pub start-spec : {M : Type 1} → statement M
 start-spec =
@@ -55,6 +65,8 @@ start-spec =
     (λ c. search needs)
     (λ c. search needs)
     loop-again
+    cast-space
+    slice-write-space
     slice-read-result
-    (λ c. search needs)
+    same-length
     returns)

@@ -11,8 +11,10 @@ use Rattle.rules.specs.Paths.{start}
 use Rattle.rules.specs.Symbolic.{Symbolic, symbol, symbols}
 use Rattle.terms.specs.Terms.{countIn, Space, pushed, Distinct, Grown, symbolLimit}
 use Rattle.terms.specs.Terms.Laws.{pushed-length, pushed-count, pushed-above, made-constant}
+use Rattle.checker.specs.Code.Notes.{noteAt, Bare}
 use Rattle.checker.specs.Code.Paths.{Fresh, Blank, Starting}
 use Rattle.checker.specs.Code.Rules.{restarted, Started, choicesOn}
+use Rattle.checker.specs.Code.Rules.Walking.{started-kept}
 use Rattle.checker.specs.Code.State.{choicesIn, spaceSize, typesOn, Means, Variables, noVariable, oneMore, Log, noWrite, PathIn, choicesAt, Room}
 use Rattle.checker.specs.Code.State.Laws.{types-length, variables-kept, means-at, path-kept, distinct-same, same-grown, choices-kept}
 
@@ -74,6 +76,7 @@ module _ {ws : List ℕ} (b : Blank ws) where
         condition = d;
         met = first-beyond 727 (omega arith);
         free = rw (first-beyond 728 (omega arith)) refl;
+        bare = λ k h l. first-beyond k (omega arith);
         path = record {
           next = first-beyond 724 (omega arith);
           inside = omega arith;
@@ -159,6 +162,7 @@ module _ {types ws : List ℕ} {i : ℕ} (l : i < symbolLimit) (s : Starting typ
           free = choices-same ws placed (placed-behind 728 (omega arith) ∙ f .ruled .unchosen .all)
               (λ k h. placed-behind k (omega arith) ∙ f .ruled .unchosen .each k h)
               ∙ s .free;
+          bare = λ k h m. placed-behind k (omega arith) ∙ f .ruled .notes .each k h m ∙ s .bare k h m;
           path = placed-path;
           variables = placed-variables;
         }
@@ -191,6 +195,33 @@ module _ {types ws : List ℕ} {depth : ℕ} (s : Starting types ws depth) where
 pub starting-on : {types ws : List ℕ} (i : ℕ) → Starting types ws (suc i) → Starting types ws (i + 1)
 starting-on i s = rw (add-one i) s
 
-pub starting-end : {types ws : List ℕ} {i : ℕ} (depth : ℕ) → i ≤ depth → depth ≤ i → Starting types ws i
-    → Started ws depth (countIn ws) (typesOn types depth) × (choicesOn ws ≡ [])
-starting-end {i = i} depth l m s = let e : i ≡ depth = omega arith in let t = rw e at s in (started-all t, t .free)
+-- the number of the variables is noted
+module _ {types ws : List ℕ} {depth : ℕ} (l : depth ≤ symbolLimit) (s : Starting types ws depth) where
+  abbrev based : List ℕ
+  based = set ws 1241 depth
+
+  based-other : (k : ℕ) → (k ≡ 1241 → ⊥) → getD based k 0 ≡ getD ws k 0
+  based-other k n = getD-set-other ws 1241 k depth 0 n
+
+  based-started : Started based depth (countIn ws) (typesOn types depth)
+  based-started =
+      let r = s .rows in
+      started-kept l (omega arith) (length-set ws 1241 depth) (λ k h. based-other k λ e. omega arith) (λ k h i. based-other k λ e. omega arith) (started-all s)
+
+  based-free : choicesOn based ≡ []
+  based-free = choices-same ws based (based-other 728 λ e. omega arith) (λ k h. based-other k λ e. omega arith) ∙ s .free
+
+  based-bare : Bare depth based
+  based-bare =
+      record {
+        base = getD-set-same ws 1241 depth 0 (omega (arith, s .lent));
+        none = λ i h. based-other (noteAt i + 1) (λ e. omega arith) ∙ s .bare (noteAt i + 1) (omega arith) (omega arith);
+      }
+
+pub starting-end : {types ws : List ℕ} {i : ℕ} (depth : ℕ) → depth ≤ symbolLimit → i ≤ depth → depth ≤ i → Starting types ws i
+    → Started (set ws 1241 depth) depth (countIn (set ws 1241 depth)) (typesOn types depth)
+    × ((choicesOn (set ws 1241 depth) ≡ []) × Bare depth (set ws 1241 depth))
+starting-end {ws = ws} {i = i} depth h l m s =
+    let e : i ≡ depth = omega arith in
+    let t = rw e at s in
+    (rw (getD-set-other ws 1241 288 depth 0 λ z. omega arith) (based-started h t), (based-free h t, based-bare h t))

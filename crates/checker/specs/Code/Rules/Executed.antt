@@ -20,10 +20,13 @@ use Rattle.rules.specs.Paths.Next.{Trace, halts, follow, onward, follow-bind}
 use Rattle.rules.specs.Symbolic.{Symbolic}
 use Rattle.rules.specs.SymbolicRules.{typedResult, decide}
 use Rattle.terms.specs.Terms.{Grown}
-use Rattle.checker.specs.Code.Rules.{oneExec, twoExec, boundOn, restExec, restSize, Checkable, Aside, Judged, Leaf, One, Two, After, Chosen, first, second, neither, Chooses, Operable, Decidable, operandOf, NextOf, BoundValues, Ready, ReadyRest, Executes, ExecutesRest}
+use Rattle.terms.specs.Terms.Laws.{still-distinct}
+use Rattle.checker.specs.Code.Notes.{Holding, Blocked}
+use Rattle.checker.specs.Code.Notes.Keeping.{still-holding, noting-on, holding-trans}
+use Rattle.checker.specs.Code.Rules.{oneExec, twoExec, boundOn, restExec, restSize, Checkable, Aside, Leaf, One, Two, After, Chosen, first, second, neither, Chooses, Operable, Decidable, operandOf, NextOf, BoundValues, Ready, ReadyRest, Executes, ExecutesRest}
 use Rattle.checker.specs.Code.Rules.Nodes.{bind-ends, shaped, first-of, rest-of, several-of, leaf-exec, typed-exec, one-exec, rest-exec-of, branches-of, if-rest-exec, if-bound, if-two, two-rest-exec}
-use Rattle.checker.specs.Code.State.{typesOn, Means, PathIn, State, metOn, leftOn, Room, Went, Took, halted, Unchosen}
-use Rattle.checker.specs.Code.State.Laws.{means-kept, variables-kept, variables-types, path-kept, distinct-same, same-grown, went-trans, went-less, went-refl, room-less, room-on, Arrived, took-gave, took-stopped, yields-took, unchosen-met, unchosen-left}
+use Rattle.checker.specs.Code.State.{typesOn, Means, PathIn, State, metOn, leftOn, Room, Went, Took, halted, Unchosen, Unnoted}
+use Rattle.checker.specs.Code.State.Laws.{means-kept, variables-kept, variables-types, log-kept, path-moved, path-kept, distinct-same, same-grown, went-trans, went-less, went-refl, room-less, room-on, Arrived, took-gave, took-stopped, yields-took, unchosen-met, unchosen-left, unnoted-refl, unnoted-trans}
 use Rattle.checker.specs.declared.nodes.Next.{Next}
 use Rattle.checker.specs.declared.nodes.Next.the-variants.{Operand, Stopped}
 use Rattle.checker.specs.declared.operators.Step.{Step}
@@ -74,6 +77,50 @@ module _ {depth : ℕ} {ws left : List ℕ} (a : Aside depth ws left) where
 pub unchosen-trans : {ws xs left : List ℕ} → Unchosen ws xs → Unchosen xs left → Unchosen ws left
 unchosen-trans u v = record { met = v .met ∙ u .met; all = v .all ∙ u .all; each = λ k l. v .each k l ∙ u .each k l }
 
+-- ---- a typed block
+
+module _ {limit : ℕ} {table ws left : List ℕ} {c r : Checked} {depth : ℕ} (b : Blocked limit table c depth ws r left) (x : Room ws 0) where
+  blocked-grown : Grown ws left
+  blocked-grown =
+      let e = b .between 288 (omega arith) (omega arith) in
+      let z = x .rows in
+      record { grows = omega arith; rows = λ k h l. b .between k (omega arith) (omega arith) }
+
+  blocked-path : {p : Path} → PathIn ws p → PathIn left p
+  blocked-path h =
+      let e = b .between 288 (omega arith) (omega arith) in
+      path-moved blocked-grown (still-distinct blocked-grown (omega arith) (h .distinct)) (b .between 725 (omega arith) (omega arith))
+      (b .between 724 (omega arith) (omega arith) ∙ h .next)
+      (rw (b .between 726 (omega arith) (omega arith))
+      (log-kept (λ j i l. b .between j (omega arith) (omega (arith, l, x .writes))) blocked-grown (h .log))) h
+
+  blocked-went : Went ws left depth 0
+  blocked-went =
+      let rows = b .between 288 (omega arith) (omega arith) in
+      let symbols = b .between 724 (omega arith) (omega arith) in
+      let writes = b .between 726 (omega arith) (omega arith) in
+      let choices = b .between 727 (omega arith) (omega arith) in
+      record {
+        same = b .same;
+        before = b .before;
+        grown = blocked-grown;
+        rows = omega arith;
+        symbols = omega arith;
+        writes = omega arith;
+        choices = omega arith;
+      }
+
+  blocked-unchosen : Unchosen ws left
+  blocked-unchosen =
+      record {
+        met = b .between 727 (omega arith) (omega arith);
+        all = b .between 728 (omega arith) (omega arith);
+        each = b .beyond;
+      }
+
+  pub blocked-holding : Holding limit table ws left
+  blocked-holding = record { base = b .between 1241 (omega arith) (omega arith); kept = b .kept }
+
 -- ---- one following after the other
 
 module _ (t : Paths) (k : Symbolic → Path → Paths) (met rest : List Bool) where
@@ -92,10 +139,10 @@ module _ (t : Paths) (k : Symbolic → Path → Paths) (met rest : List Bool) wh
 
 -- ---- node n
 
-module _ {xs ws : List ℕ} {depth n : ℕ} (q : Ready xs ws depth n) where
-  pub leaf-executes : (limit : ℕ) → nodeIn xs n .kind < 4 → {r : Step} {left : List ℕ} → Leaf (formOf (nodeIn xs n .kind)) n (nodeIn xs n .a) depth ws r left
+module _ {limit : ℕ} {xs ws : List ℕ} {depth n : ℕ} (q : Ready limit xs ws depth n) where
+  pub leaf-executes : nodeIn xs n .kind < 4 → {r : Step} {left : List ℕ} → Leaf (formOf (nodeIn xs n .kind)) n (nodeIn xs n .a) depth ws r left
       → Executes limit (treeIn xs n) depth ws r left
-  leaf-executes limit z {r} {left} l =
+  leaf-executes z {r} {left} l =
       record {
         went = went-less (omega (arith, q .variables)) (size-some (treeIn xs n)) (l .ruled .went);
         took = λ env p s.
@@ -104,11 +151,14 @@ module _ {xs ws : List ℕ} {depth n : ℕ} (q : Ready xs ws depth n) where
             (yields-took (l .ruled .unchosen) (l .yields env p s));
       }
 
+  pub leaf-holding : {f : Form} {a : ℕ} {r : Step} {left : List ℕ} → Leaf f n a depth ws r left → Holding limit xs ws left
+  leaf-holding l = still-holding (q .noting) (λ k h. l .ruled .went .before k (omega (arith, q .variables))) (l .ruled .notes)
+
   module _ (h : 1 ≤ nodeOperands (nodeIn xs n .kind)) where
     pub first-before : nodeIn xs n .a < n
     first-before = first-of (shaped 0 (q .formed)) h .earlier
 
-    pub first-ready : Ready xs ws depth (nodeIn xs n .a)
+    pub first-ready : Ready limit xs ws depth (nodeIn xs n .a)
     first-ready =
         let f = first-of (shaped 0 (q .formed)) h in
         record {
@@ -116,6 +166,7 @@ module _ {xs ws : List ℕ} {depth n : ℕ} (q : Ready xs ws depth n) where
           room = room-less (omega (arith, f .smaller)) (q .room);
           variables = omega (arith, q .variables, f .smaller);
           stands = q .stands;
+          noting = q .noting;
         }
 
     pub block-checkable : Checkable xs ws depth (nodeIn xs n .a)
@@ -129,10 +180,13 @@ module _ {xs ws : List ℕ} {depth n : ℕ} (q : Ready xs ws depth n) where
         }
 
   -- a typed block
-  module _ (limit : ℕ) (h : nodeIn xs n .kind ≡ 13) {c : Checked} {left : List ℕ}
-      (j : Judged (check limit (treeIn xs (nodeIn xs n .a)) (typesOn ws depth)) depth ws c left) where
+  module _ (h : nodeIn xs n .kind ≡ 13) {c : Checked} {left : List ℕ}
+      (j : Blocked limit xs (check limit (treeIn xs (nodeIn xs n .a)) (typesOn ws depth)) depth ws c left) where
+    some-room : Room ws 0
+    some-room = room-less (omega arith) (q .room)
+
     pub result-room : Room left 1
-    result-room = room-on (room-less (size-some (treeIn xs n)) (q .room)) (aside-went (j .aside))
+    result-room = room-on (room-less (size-some (treeIn xs n)) (q .room)) (blocked-went j some-room)
 
     block-exec : {d : Checked} → c ≡ d → (env : List Symbolic) (p : Path) → State ws depth env p → exec limit (treeIn xs n) env p ≡ typedResult n p d
     block-exec e env p s =
@@ -144,22 +198,31 @@ module _ {xs ws : List ℕ} {depth n : ℕ} (q : Ready xs ws depth n) where
         record {
           went =
               went-less (omega arith) (size-some (treeIn xs n))
-              (went-trans (omega (arith, q .variables)) (aside-went (j .aside)) (a .ruled .went));
+              (went-trans (omega (arith, q .variables)) (blocked-went j some-room) (a .ruled .went));
           took = λ env p s.
               subst (λ (t : Paths). Took left₂ r (follow t (metOn ws) (leftOn ws))) (sym (block-exec e env p s))
-              (yields-took (unchosen-trans (aside-unchosen (j .aside)) (a .ruled .unchosen)) (a .yields p (aside-path (j .aside) (s .path))));
+              (yields-took (unchosen-trans (blocked-unchosen j some-room) (a .ruled .unchosen)) (a .yields p (blocked-path j some-room (s .path))));
         }
+
+    pub block-holding : {t : ℕ} {r : Step} {left₂ : List ℕ} → After n t left r left₂ → Holding limit xs ws left₂
+    block-holding a =
+        let k = blocked-holding j some-room in
+        holding-trans k
+        (still-holding (noting-on (q .noting) depth (omega arith) (j .same) k) (λ i l. a .ruled .went .before i (omega (arith, q .variables))) (a .ruled .notes))
+
+    pub block-kept : Holding limit xs ws left
+    block-kept = blocked-holding j some-room
 
     pub block-stopped : {x : Refusal} → c ≡ Refused x → Executes limit (treeIn xs n) depth ws (step.Stopped x) left
     unfolding typedResult follow
     block-stopped {x} e =
         record {
-          went = went-less (omega arith) (omega arith) (aside-went (j .aside));
+          went = went-less (omega arith) (omega arith) (blocked-went j some-room);
           took = λ env p s. subst (λ (t : Paths). Took left (step.Stopped x) (follow t (metOn ws) (leftOn ws))) (sym (block-exec e env p s)) halted;
         }
 
   -- its first operand has run
-  module _ (h : 1 ≤ nodeOperands (nodeIn xs n .kind)) (limit : ℕ) {r : Step} {left : List ℕ}
+  module _ (h : 1 ≤ nodeOperands (nodeIn xs n .kind)) {r : Step} {left : List ℕ}
       (d : Executes limit (treeIn xs (nodeIn xs n .a)) depth ws r left) where
     pub after-room : Room left 1
     after-room =
@@ -182,8 +245,14 @@ module _ {xs ws : List ℕ} {depth n : ℕ} (q : Ready xs ws depth n) where
                 (yields-took (o .ruled .unchosen) (o .yields (a .value) (a .path) (a .means) (a .holds))));
           }
 
-      pub rest-ready : 2 ≤ nodeOperands (nodeIn xs n .kind) → ReadyRest xs left depth n t s
-      rest-ready m =
+      pub one-holding : {f : Form} {r₂ : Step} {left₂ : List ℕ} → Holding limit xs ws left → One f n t s left r₂ left₂ → Holding limit xs ws left₂
+      one-holding k o =
+          holding-trans k
+          (still-holding (noting-on (q .noting) depth (omega arith) (d .went .same) k) (λ i l. o .ruled .went .before i (omega (arith, q .variables)))
+          (o .ruled .notes))
+
+      pub rest-ready : 2 ≤ nodeOperands (nodeIn xs n .kind) → Holding limit xs ws left → ReadyRest limit xs left depth n t s
+      rest-ready m k =
           let f = rest-of (shaped 0 (q .formed)) m .fits in
           let a = took-gave (d .took (q .stands .environment) (q .stands .path) (q .stands .state)) e in
           record {
@@ -200,6 +269,7 @@ module _ {xs ws : List ℕ} {depth n : ℕ} (q : Ready xs ws depth n) where
               };
             };
             valued = record { value = a .value; means = a .means };
+            noting = noting-on (q .noting) depth (omega arith) (d .went .same) k;
           }
 
       pub rest-executes : 2 ≤ nodeOperands (nodeIn xs n .kind) → {r₂ : Step} {left₂ : List ℕ} → ExecutesRest limit xs n depth t s left r₂ left₂
@@ -252,7 +322,7 @@ operand-not-stopped e = let z : _≡_ {A = ℕ} 0 1 = cc in omega arith
 same-refusal : {x y : Refusal} → Stopped x ≡ Stopped y → x ≡ y
 same-refusal e = cc
 
-module _ (limit : ℕ) {xs ws : List ℕ} {depth n t s : ℕ} (q : ReadyRest xs ws depth n t s) where
+module _ {limit : ℕ} {xs ws : List ℕ} {depth n t s : ℕ} (q : ReadyRest limit xs ws depth n t s) where
   abbrev form : Form
   form = formOf (nodeIn xs n .kind)
 
@@ -275,6 +345,7 @@ module _ (limit : ℕ) {xs ws : List ℕ} {depth n t s : ℕ} (q : ReadyRest xs 
     pub earlier : m < n
     pub taken : ℕ
     pub went : Went ws left 144 taken
+    pub notes : Unnoted ws left
     pub fits : taken + size (treeIn xs m) + 1 ≤ restSize xs n
     pub from : (env : List Symbolic) (v : Symbolic) (p : Path) → Means ws t s v → PathIn ws p → From left m v env p
 
@@ -294,6 +365,7 @@ module _ (limit : ℕ) {xs ws : List ℕ} {depth n t s : ℕ} (q : ReadyRest xs 
           earlier = rest-of (shaped 0 (q .formed)) (q .several) .earlier;
           taken = 1;
           went = c .went;
+          notes = c .notes;
           fits = omega (arith, f .fits, z);
           from = λ env v p m k. go env v p (c .chosen v p m k);
         }
@@ -317,6 +389,7 @@ module _ (limit : ℕ) {xs ws : List ℕ} {depth n t s : ℕ} (q : ReadyRest xs 
           earlier = f .earlier;
           taken = 1;
           went = c .went;
+          notes = c .notes;
           fits = omega (arith, f .fits, z);
           from = λ env v p m k. go env v p (c .chosen v p m k);
         }
@@ -365,6 +438,7 @@ module _ (limit : ℕ) {xs ws : List ℕ} {depth n t s : ℕ} (q : ReadyRest xs 
         earlier = f .earlier;
         taken = 0;
         went = went-refl ws 144 0;
+        notes = unnoted-refl ws;
         fits = omega (arith, f .second-fits);
         from = λ env v p m k.
             record {
@@ -392,6 +466,15 @@ module _ (limit : ℕ) {xs ws : List ℕ} {depth n t s : ℕ} (q : ReadyRest xs 
       where
         go : (b : Bool) → eqb (nodeIn xs n .kind) 8 ≡ b → ExecutesRest limit xs n depth t s ws (step.Stopped x) left
         go true z = let w = k .branch (eqb-true (nodeIn xs n .kind) 8 z) in stopped-if (eqb-true (nodeIn xs n .kind) 8 z) (w .0) (sym e ∙ w .1) (w .2)
+        go false z = absurd (operand-not-stopped (sym (k .plain (eqb-false (nodeIn xs n .kind) 8 z) .0) ∙ e))
+
+    pub none-holding : {x : Refusal} → r ≡ Stopped x → Holding limit xs ws left
+    none-holding {x} e = go (eqb (nodeIn xs n .kind) 8) refl
+      where
+        go : (b : Bool) → eqb (nodeIn xs n .kind) 8 ≡ b → Holding limit xs ws left
+        go true z =
+            let w = k .branch (eqb-true (nodeIn xs n .kind) 8 z) in
+            still-holding (q .noting) (λ i l. w .2 .went .before i (omega (arith, q .variables))) (w .2 .notes)
         go false z = absurd (operand-not-stopped (sym (k .plain (eqb-false (nodeIn xs n .kind) 8 z) .0) ∙ e))
 
   -- operand m is next, and the variables are bound
@@ -430,7 +513,12 @@ module _ (limit : ℕ) {xs ws : List ℕ} {depth n t s : ℕ} (q : ReadyRest xs 
             let u = aside-unchosen (b .aside) in
             rw (unchosen-met u, unchosen-left u) (sym (at .is))
 
-      pub next-ready : Ready xs left₁ inner m
+      bound-holding : Holding limit xs ws left₁
+      bound-holding =
+          still-holding (q .noting) (bound-went .before)
+          (unnoted-trans (g .notes) (record { each = λ k l h. b .aside .beyond k (omega arith) }))
+
+      pub next-ready : Ready limit xs left₁ inner m
       next-ready =
           record {
             formed = formed-less (suc m) (omega (arith, g .earlier)) (q .formed);
@@ -441,11 +529,22 @@ module _ (limit : ℕ) {xs ws : List ℕ} {depth n t s : ℕ} (q : ReadyRest xs 
               path = at (q .stands .environment) (q .valued .value) (q .stands .path) (q .stands .state) (q .valued .means) .path;
               state = bound-state (q .stands .environment) (q .valued .value) (q .stands .path) (q .stands .state) (q .valued .means);
             };
+            noting = noting-on (q .noting) inner (b .least) (bound-went .same) bound-holding;
           }
 
       module _ {r : Step} {left₂ : List ℕ} (d : Executes limit (treeIn xs m) inner left₁ r left₂) where
         next-went : Went ws left₂ depth (g .taken + size (treeIn xs m))
         next-went = went-trans (b .least) bound-went (d .went)
+
+        module _ (k : Holding limit xs left₁ left₂) where
+          pub next-holding : Holding limit xs ws left₂
+          next-holding = holding-trans bound-holding k
+
+          pub two-holding : {f : Form} {u w : ℕ} {r₂ : Step} {left₃ : List ℕ} → Two f n t s u w left₂ r₂ left₃ → Holding limit xs ws left₃
+          two-holding o =
+              holding-trans next-holding
+              (still-holding (noting-on (q .noting) depth (omega arith) (next-went .same) next-holding)
+              (λ i l. o .ruled .went .before i (omega (arith, q .variables))) (o .ruled .notes))
 
         pub next-stopped : {x : Refusal} → r ≡ step.Stopped x → ExecutesRest limit xs n depth t s ws (step.Stopped x) left₂
         next-stopped {x} e =

@@ -22,6 +22,8 @@ use Rattle.rules.specs.Symbolic.{Symbolic, typeOf, symbols}
 use Rattle.rules.specs.SymbolicRules.{firstType, judge, verdict}
 use Rattle.terms.specs.Terms.{countIn, Grown}
 use Rattle.terms.specs.Terms.Laws.{truth-kept, still-distinct}
+use Rattle.checker.specs.Code.Notes.{Noting, Holding, Bare}
+use Rattle.checker.specs.Code.Notes.Keeping.{still-holding, noting-on, holding-trans, bare-noting}
 use Rattle.checker.specs.Code.Rules.{Checkable, Ready, Executes, restarted, Started, choicesOn, EndOf, inconsistent, of-another-type, the-last, one-more, PathEnds, Walkable, WalkOf, refused, lasted, went-on, Walks}
 use Rattle.checker.specs.Code.State.{nextIn, conditionIn, writesIn, metIn, choicesIn, typesOn, Variables, noWrite, PathIn, choicesAt, metOn, leftOn, Room, Took}
 use Rattle.checker.specs.Code.State.Laws.{means-type, variables-kept, choices-kept, took-gave, took-stopped, room-less, room-on}
@@ -182,8 +184,15 @@ module _ {n T : ℕ} {ls after : List Leaf} where
   walk-more (lasted h) e = absurd (let z : _≡_ {A = ℕ} 0 1 = cc in omega arith)
   walk-more (went-on q h) e = (q ∙ cc, h)
 
-module _ {table ws : List ℕ} {depth a rows : ℕ} (q : Walkable table ws depth a rows) where
-  pub walk-ready : Ready table (restarted ws rows depth) depth a
+module _ {limit : ℕ} {table ws : List ℕ} {depth a rows : ℕ} (q : Walkable limit table ws depth a rows) where
+  restart-holding : Holding limit table ws (restarted ws rows depth)
+  restart-holding =
+      let l = q .started .lent in
+      still-holding (q .noting)
+      (λ k h. restarted-other ws rows depth l k (λ z. omega (arith, q .variables)) (omega (arith, q .variables)))
+      (record { each = λ k h m. restarted-behind ws rows depth l k (omega arith) })
+
+  pub walk-ready : Ready limit table (restarted ws rows depth) depth a
   walk-ready =
       let l = q .started .lent in
       record {
@@ -197,11 +206,23 @@ module _ {table ws : List ℕ} {depth a rows : ℕ} (q : Walkable table ws depth
         };
         variables = q .variables;
         stands = record { environment = symbols 0 (q .types); path = start depth; state = q .started .state };
+        noting = noting-on (q .noting) depth (omega arith) (restarted-length ws rows depth l) restart-holding;
       }
 
-  module _ (limit n : ℕ) {r : Step} {left : List ℕ} (d : Executes limit (treeIn table a) depth (restarted ws rows depth) r left) where
+  module _ (n : ℕ) {r : Step} {left : List ℕ} (d : Executes limit (treeIn table a) depth (restarted ws rows depth) r left) where
     pub end-room : Room left 0
     end-room = room-on (room-less (omega arith) (walk-ready .room)) (d .went)
+
+    pub walk-holding : Holding limit table (restarted ws rows depth) left → Holding limit table ws left
+    walk-holding k = holding-trans restart-holding k
+
+    pub end-holding : {t : ℕ} {first : Bool} {kind : ℕ} {w : Walked} {left₂ : List ℕ} → Holding limit table (restarted ws rows depth) left
+        → PathEnds n t first kind left w left₂ → Holding limit table ws left₂
+    end-holding k p =
+        let h = walk-holding k in
+        holding-trans h
+        (still-holding (noting-on (q .noting) depth (omega arith) (d .went .same ∙ restarted-length ws rows depth (q .started .lent)) h)
+        (λ i l. p .before i (omega (arith, q .variables))) (p .notes))
 
     walk-started : (types : List ℕ) → Started ws depth rows types → Started left depth rows types
     walk-started types s =
@@ -310,9 +331,10 @@ pub record Turn (table types : List ℕ) (depth limit n a rows : ℕ) (ws : List
   pub whole : length ws ≡ 1499
   pub started : Started ws depth rows (typesOn types depth)
   pub following : Following n limit followed kind (exec limit (treeIn table a) (symbols 0 (typesOn types depth)) (start depth)) ws
+  pub noting : Noting limit table ws depth
 
 module _ {table types : List ℕ} {depth limit n a rows : ℕ} {ws : List ℕ} {followed kind : ℕ} (u : Turn table types depth limit n a rows ws followed kind) where
-  pub turn-walkable : Checkable table types depth a → Walkable table ws depth a rows
+  pub turn-walkable : Checkable table types depth a → Walkable limit table ws depth a rows
   turn-walkable q =
       record {
         formed = q .formed;
@@ -320,6 +342,7 @@ module _ {table types : List ℕ} {depth limit n a rows : ℕ} {ws : List ℕ} {
         small = q .small;
         types = typesOn types depth;
         started = u .started;
+        noting = u .noting;
       }
 
   pub turn-none : limit ≤ followed → Refused (TooManyPaths n) ≡ verdict n limit (leaves (exec limit (treeIn table a) (symbols 0 (typesOn types depth)) (start depth)))
@@ -334,14 +357,16 @@ module _ {table types : List ℕ} {depth limit n a rows : ℕ} {ws : List ℕ} {
         → Accepted t ≡ verdict n limit (leaves (exec limit (treeIn table a) (symbols 0 (typesOn types depth)) (start depth)))
     turn-last e = following-last (u .following) l left (k .walked (typesOn types depth) (u .started)) e
 
-    pub turn-more : {t : ℕ} → w ≡ More t → length left ≡ length ws → Turn table types depth limit n a rows left (followed + 1) t
-    turn-more e s =
+    pub turn-more : {t : ℕ} → w ≡ More t → length left ≡ length ws → Holding limit table ws left → Turn table types depth limit n a rows left (followed + 1) t
+    turn-more e s h =
         record {
           whole = s ∙ u .whole;
           started = k .started (typesOn types depth) (u .started);
           following = following-more (u .following) l left (k .walked (typesOn types depth) (u .started)) e;
+          noting = noting-on (u .noting) depth (omega arith) s h;
         }
 
 pub turn-start : (table types : List ℕ) (depth limit n a rows : ℕ) (ws : List ℕ) → length ws ≡ 1499 → Started ws depth rows (typesOn types depth) → choicesOn ws ≡ []
-    → Turn table types depth limit n a rows ws 0 0
-turn-start table types depth limit n a rows ws l s e = record { whole = l; started = s; following = following-start n limit _ ws e }
+    → Bare depth ws → Turn table types depth limit n a rows ws 0 0
+turn-start table types depth limit n a rows ws l s e b =
+    record { whole = l; started = s; following = following-start n limit _ ws e; noting = bare-noting (omega arith) b }

@@ -7,35 +7,42 @@ use mathlib.Core.Path.{refl, sym}
 use Prim.Native.Nat.{_+_, _*_, _-_}
 use native.Mathlib.Omega.{arith}
 use Rattle.script.specs.Code.Forms.{has-one, has-more, some-operand}
+use Rattle.checker.specs.Code.Notes.Keeping.{holding-trans}
 use Rattle.checker.specs.Code.Paths.Start.{blank}
-use Rattle.checker.specs.Code.Rules.Executed.{size-some, leaf-executes, first-before, first-ready, block-checkable, result-room, block-executes, block-stopped, after-room, one-executes, rest-ready, rest-executes, first-stopped, next-decidable, going, none-executes, bound-room, bound-lent, next-ready, next-stopped, two-operable, two-executes}
+use Rattle.checker.specs.Code.Rules.Blocks.{block-small, block-recallables, block-recalled, judged-lent, block-judged, block-noted}
+use Rattle.checker.specs.Code.Rules.Executed.{size-some, leaf-executes, leaf-holding, first-before, first-ready, block-checkable, result-room, block-executes, block-holding, block-kept, block-stopped, after-room, one-executes, one-holding, rest-ready, rest-executes, first-stopped, next-decidable, going, none-executes, none-holding, bound-room, bound-lent, next-ready, next-holding, next-stopped, two-operable, two-executes, two-holding}
 use Rattle.checker.specs.Code.Rules.Typed.{leaf-judged, first-earlier, first-checkable, sym-judged, one-judged, rest-checkable, rest-judged, first-refused, bind-room, second-earlier, second-checkable, third-earlier, third-checkable, if-judged, third-refused, two-judged, second-refused}
-use Rattle.checker.specs.Code.Rules.Walking.{Turn, turn-start, turn-walkable, turn-none, turn-wrong, turn-last, turn-more, walk-ready, end-room, walk-stopped, walk-ended}
+use Rattle.checker.specs.Code.Rules.Walking.{Turn, turn-start, turn-walkable, turn-none, turn-wrong, turn-last, turn-more, walk-ready, end-room, walk-holding, end-holding, walk-stopped, walk-ended}
 use Rattle.checker.specs.Code.State.Laws.{room-less}
 use Prim.Native.Nat.{ℕ, _<_}
 use borrow.Fn.Kinds.{In}
 use borrow.Fn.PlainCycle.{Measures, is, falls, and}
+use Rattle.checker.proofs.nodes.block_type.Reads as block-type
+use Rattle.checker.proofs.nodes.block_type.Kinds as block-type-kinds
+use Rattle.checker.proofs.nodes.+block_type+check_node+check_rest+execute+execute_rest+paths+walk.Lts-block_type as block-type-lts
 use Rattle.checker.proofs.nodes.check_node.Reads as check-node
 use Rattle.checker.proofs.nodes.check_node.Kinds as check-node-kinds
-use Rattle.checker.proofs.nodes.+check_node+check_rest+execute+execute_rest+paths+walk.Lts-check_node as check-node-lts
+use Rattle.checker.proofs.nodes.+block_type+check_node+check_rest+execute+execute_rest+paths+walk.Lts-check_node as check-node-lts
 use Rattle.checker.proofs.nodes.check_rest.Reads as check-rest
 use Rattle.checker.proofs.nodes.check_rest.Kinds as check-rest-kinds
-use Rattle.checker.proofs.nodes.+check_node+check_rest+execute+execute_rest+paths+walk.Lts-check_rest as check-rest-lts
+use Rattle.checker.proofs.nodes.+block_type+check_node+check_rest+execute+execute_rest+paths+walk.Lts-check_rest as check-rest-lts
 use Rattle.checker.proofs.nodes.execute.Reads as execute
 use Rattle.checker.proofs.nodes.execute.Kinds as execute-kinds
-use Rattle.checker.proofs.nodes.+check_node+check_rest+execute+execute_rest+paths+walk.Lts-execute as execute-lts
+use Rattle.checker.proofs.nodes.+block_type+check_node+check_rest+execute+execute_rest+paths+walk.Lts-execute as execute-lts
 use Rattle.checker.proofs.nodes.execute_rest.Reads as execute-rest
 use Rattle.checker.proofs.nodes.execute_rest.Kinds as execute-rest-kinds
-use Rattle.checker.proofs.nodes.+check_node+check_rest+execute+execute_rest+paths+walk.Lts-execute_rest as execute-rest-lts
+use Rattle.checker.proofs.nodes.+block_type+check_node+check_rest+execute+execute_rest+paths+walk.Lts-execute_rest as execute-rest-lts
 use Rattle.checker.proofs.nodes.paths.Reads as paths
 use Rattle.checker.proofs.nodes.paths.Kinds as paths-kinds
-use Rattle.checker.proofs.nodes.+check_node+check_rest+execute+execute_rest+paths+walk.Lts-paths as paths-lts
+use Rattle.checker.proofs.nodes.+block_type+check_node+check_rest+execute+execute_rest+paths+walk.Lts-paths as paths-lts
 use Rattle.checker.proofs.nodes.walk.Reads as walk
 use Rattle.checker.proofs.nodes.walk.Kinds as walk-kinds
-use Rattle.checker.proofs.nodes.+check_node+check_rest+execute+execute_rest+paths+walk.Lts-walk as walk-lts
+use Rattle.checker.proofs.nodes.+block_type+check_node+check_rest+execute+execute_rest+paths+walk.Lts-walk as walk-lts
 use Rattle.checker.proofs.nodes.bind.Reads as bind-reads
 use Rattle.checker.proofs.nodes.next_operand.Reads as next-operand-reads
 use Rattle.checker.proofs.nodes.path_end.Reads as path-end-reads
+use Rattle.checker.proofs.notes.note.Reads as note-reads
+use Rattle.checker.proofs.notes.recall.Reads as recall-reads
 use Rattle.checker.proofs.operators.leaf.Reads as leaf-reads
 use Rattle.checker.proofs.operators.one.Reads as one-reads
 use Rattle.checker.proofs.operators.two.Reads as two-reads
@@ -49,8 +56,11 @@ use Rattle.checker.proofs.types.one_type.Reads as one-type-reads
 use Rattle.checker.proofs.types.two_type.Reads as two-type-reads
 use Rattle.script.proofs.table.has_one.Reads as has-one-reads
 use Rattle.script.proofs.table.node_at.Reads as node-at-reads
-use Rattle.checker.proofs.nodes.+check_node+check_rest+execute+execute_rest+paths+walk.{statement}
-use Rattle.checker.proofs.nodes.+check_node+check_rest+execute+execute_rest+paths+walk.Tie.{close}
+use Rattle.checker.proofs.nodes.+block_type+check_node+check_rest+execute+execute_rest+paths+walk.{statement}
+use Rattle.checker.proofs.nodes.+block_type+check_node+check_rest+execute+execute_rest+paths+walk.Tie.{close}
+
+abbrev μ-block-type : Measures 2 block-type-kinds.ps ℕ
+μ-block-type κs a = 4 * a .1 .1 .1 .1 .0 + 4
 
 abbrev μ-check-node : Measures 2 check-node-kinds.ps ℕ
 μ-check-node κs a = 4 * a .1 .1 .1 .1 .0 + 3
@@ -69,6 +79,14 @@ abbrev μ-paths : Measures 2 paths-kinds.ps ℕ
 
 abbrev μ-walk : Measures 2 walk-kinds.ps ℕ
 μ-walk κs a = 4 * a .1 .1 .1 .1 .1 .0 + 4
+
+abbrev block-type-at : ℕ → In 2 block-type-kinds.ps
+block-type-at t =
+    and 2 block-type-kinds.ps (is 2 block-type-kinds.ps μ-block-type t) block-type.Pre
+
+abbrev block-type-below : ℕ → In 2 block-type-kinds.ps
+block-type-below t =
+    and 2 block-type-kinds.ps (falls 2 block-type-kinds.ps _<_ μ-block-type t) block-type.Pre
 
 abbrev check-node-at : ℕ → In 2 check-node-kinds.ps
 check-node-at t =
@@ -116,6 +134,16 @@ walk-at t = and 2 walk-kinds.ps (is 2 walk-kinds.ps μ-walk t) walk.Pre
 abbrev walk-below : ℕ → In 2 walk-kinds.ps
 walk-below t = and 2 walk-kinds.ps (falls 2 walk-kinds.ps _<_ μ-walk t) walk.Pre
 
+abbrev block-type-calls : ℕ → block-type-lts.Claims
+block-type-calls t = (
+  recall-reads.Asked,
+  recall-reads.Learnt,
+  check-node-below t,
+  check-node.Post,
+  note-reads.Asked,
+  note-reads.Learnt,
+)
+
 abbrev check-node-calls : ℕ → check-node-lts.Claims
 check-node-calls t = (
   node-at-reads.Asked,
@@ -154,8 +182,8 @@ execute-calls t = (
   node-at-reads.Learnt,
   leaf-reads.Asked,
   leaf-reads.Learnt,
-  check-node-below t,
-  check-node.Post,
+  block-type-below t,
+  block-type.Post,
   typed-result-reads.Asked,
   typed-result-reads.Learnt,
   execute-below t,
@@ -205,6 +233,33 @@ paths-Inv-loop table types depth limit n a space₀ rows followed₀ kind₀ spa
 
 abbrev paths-μ-loop : paths-lts.MeasureT-loop
 paths-μ-loop table types depth limit n a space₀ rows followed₀ kind₀ space followed kind = limit - followed
+
+block-type-recall-requires : (t : ℕ) → block-type-lts.Need-recall-requires (block-type-calls t) (block-type-at t) block-type.Post
+block-type-recall-requires t c κs = let s = c .before .before .before .pre in block-recallables (s .1 .0) (s .1 .1)
+
+block-type-check-node-requires : (t : ℕ) → block-type-lts.Need-check-node-requires (block-type-calls t) (block-type-at t) block-type.Post
+block-type-check-node-requires t c κs = let s = c .before .before .before .before .before .before .before .pre in (omega (arith, s .0), s .1 .0)
+
+block-type-note-requires : (t : ℕ) → block-type-lts.Need-note-requires (block-type-calls t) (block-type-at t) block-type.Post
+block-type-note-requires t c κs =
+    let s = c .before .before .before .before .before .before .before .before .before .before .before .before .before .before .pre in
+    let j = c .before .before .before .before .before .before .check-node .ensures in
+    (s .1 .0 .formed, (block-small (s .1 .0) (s .1 .1), judged-lent (s .1 .0) (s .1 .1) j))
+
+block-type-returns : (t : ℕ) → block-type-lts.Need-returns (block-type-calls t) (block-type-at t) block-type.Post
+block-type-returns t c =
+    let s = c .before .before .before .before .before .before .before .pre in
+    block-recalled (s .1 .0) (s .1 .1) (c .before .before .before .recall .ensures) (c .before .t .given .1)
+
+block-type-returns-2 : (t : ℕ) → block-type-lts.Need-returns-2 (block-type-calls t) (block-type-at t) block-type.Post
+block-type-returns-2 t c =
+    let s = c .before .before .before .before .before .before .before .before .before .before .before .before .before .pre in
+    block-judged (s .1 .0) (s .1 .1) (c .before .before .before .before .before .check-node .ensures) (c .before .why .given .1)
+
+block-type-returns-3 : (t : ℕ) → block-type-lts.Need-returns-3 (block-type-calls t) (block-type-at t) block-type.Post
+block-type-returns-3 t c =
+    let s = c .before .before .before .before .before .before .before .before .before .before .before .before .before .before .before .before .before .pre in
+    block-noted (s .1 .0) (s .1 .1) (c .before .before .before .before .before .before .before .before .before .check-node .ensures) (c .before .before .before .before .before .t2 .given .1) (c .before .before .note .ensures)
 
 check-node-node-at-requires : (t : ℕ) → check-node-lts.Need-node-at-requires (check-node-calls t) (check-node-at t) check-node.Post
 check-node-node-at-requires t c κs =
@@ -366,42 +421,43 @@ execute-returns t c =
     let s = c .before .before .before .before .before .before .before .before .before .pre in
     let q = s .1 in
     let node = c .before .before .before .before .before .before .node-at .ensures in
-    leaf-executes q _ (rw node at (c .before .before .before .before .if1 .taken)) (rw node at (c .before .before .leaf .ensures))
+    let l = rw node at (c .before .before .leaf .ensures) in
+    (leaf-executes q (rw node at (c .before .before .before .before .if1 .taken)) l, leaf-holding q l)
 
-execute-check-node-requires : (t : ℕ) → execute-lts.Need-check-node-requires (execute-calls t) (execute-at t) execute.Post
-execute-check-node-requires t c κs =
+execute-block-type-requires : (t : ℕ) → execute-lts.Need-block-type-requires (execute-calls t) (execute-at t) execute.Post
+execute-block-type-requires t c κs =
     let s = c .before .before .before .before .before .before .before .before .pre in
     let q = s .1 in
     let node = c .before .before .before .before .before .node-at .ensures in
     let h = some-operand (q .formed) (rw node at (c .before .before .before .if1 .left)) in
-    rw node (omega (arith, first-before q h, s .0), block-checkable q h)
+    rw node (omega (arith, first-before q h, s .0), (block-checkable q h, q .noting))
 
 execute-typed-result-requires : (t : ℕ) → execute-lts.Need-typed-result-requires (execute-calls t) (execute-at t) execute.Post
 execute-typed-result-requires t c κs =
     let s = c .before .before .before .before .before .before .before .before .before .before .before .before .before .before .before .pre in
     let q = s .1 in
     let node = c .before .before .before .before .before .before .before .before .before .before .before .before .node-at .ensures in
-    let j = rw node at (c .before .before .before .before .before .before .check-node .ensures) in
+    let j = rw node at (c .before .before .before .before .before .before .block-type .ensures) in
     let h = rw node at (c .before .before .before .before .before .before .before .before .if2 .taken) in
-    result-room q _ h j
+    result-room q h j
 
 execute-returns-2 : (t : ℕ) → execute-lts.Need-returns-2 (execute-calls t) (execute-at t) execute.Post
 execute-returns-2 t c =
     let s = c .before .before .before .before .before .before .before .before .before .before .before .before .before .before .pre in
     let q = s .1 in
     let node = c .before .before .before .before .before .before .before .before .before .before .before .node-at .ensures in
-    let j = rw node at (c .before .before .before .before .before .check-node .ensures) in
+    let j = rw node at (c .before .before .before .before .before .block-type .ensures) in
     let h = rw node at (c .before .before .before .before .before .before .before .if2 .taken) in
-    block-stopped q _ h j (c .before .why .given .1)
+    (block-stopped q h j (c .before .why .given .1), block-kept q h j)
 
 execute-returns-3 : (t : ℕ) → execute-lts.Need-returns-3 (execute-calls t) (execute-at t) execute.Post
 execute-returns-3 t c =
     let s = c .before .before .before .before .before .before .before .before .before .before .before .before .before .before .before .before .before .before .pre in
     let q = s .1 in
     let node = c .before .before .before .before .before .before .before .before .before .before .before .before .before .before .before .node-at .ensures in
-    let j = rw node at (c .before .before .before .before .before .before .before .before .before .check-node .ensures) in
+    let j = rw node at (c .before .before .before .before .before .before .before .before .before .block-type .ensures) in
     let h = rw node at (c .before .before .before .before .before .before .before .before .before .before .before .if2 .taken) in
-    block-executes q _ h j (c .before .before .before .before .before .t .given .1) (c .before .before .typed-result .ensures)
+    (block-executes q h j (c .before .before .before .before .before .t .given .1) (c .before .before .typed-result .ensures), block-holding q h j (c .before .before .typed-result .ensures))
 
 execute-execute-requires : (t : ℕ) → execute-lts.Need-execute-requires (execute-calls t) (execute-at t) execute.Post
 execute-execute-requires t c κs =
@@ -418,7 +474,7 @@ execute-one-requires t c κs =
     let node = c .before .before .before .before .before .before .before .before .before .before .before .before .before .before .node-at .ensures in
     let h = some-operand (q .formed) (rw node at (c .before .before .before .before .before .before .before .before .before .before .before .before .if1 .left)) in
     let d = rw node at (c .before .before .before .before .before .before .before .before .execute .ensures) in
-    after-room q h _ d
+    after-room q h (d .0)
 
 execute-returns-4 : (t : ℕ) → execute-lts.Need-returns-4 (execute-calls t) (execute-at t) execute.Post
 execute-returns-4 t c =
@@ -428,7 +484,8 @@ execute-returns-4 t c =
     let h = some-operand (q .formed) (rw node at (c .before .before .before .before .before .before .before .before .before .before .before .before .before .before .before .if1 .left)) in
     let d = rw node at (c .before .before .before .before .before .before .before .before .before .before .before .execute .ensures) in
     let z = has-one _ (rw node at (c .before .before .before .before .before .has-one .ensures)) (c .before .before .before .before .if3 .taken) in
-    one-executes q h _ d (c .before .before .before .before .before .before .before .t2 .given .1) z (rw node at (c .before .before .before .before .before .before .before .before .before .before .before .before .before .if2 .left)) (rw node at (c .before .before .one .ensures))
+    let o = rw node at (c .before .before .one .ensures) in
+    (one-executes q h (d .0) (c .before .before .before .before .before .before .before .t2 .given .1) z (rw node at (c .before .before .before .before .before .before .before .before .before .before .before .before .before .if2 .left)) o, one-holding q h (d .0) (c .before .before .before .before .before .before .before .t2 .given .1) (d .1) o)
 
 execute-execute-rest-requires : (t : ℕ) → execute-lts.Need-execute-rest-requires (execute-calls t) (execute-at t) execute.Post
 execute-execute-rest-requires t c κs =
@@ -438,7 +495,7 @@ execute-execute-rest-requires t c κs =
     let h = some-operand (q .formed) (rw node at (c .before .before .before .before .before .before .before .before .before .before .before .before .if1 .left)) in
     let d = rw node at (c .before .before .before .before .before .before .before .before .execute .ensures) in
     let m = has-more _ h (rw node at (c .before .before .has-one .ensures)) (c .before .if3 .left) in
-    (omega (arith, s .0), rest-ready q h _ d (c .before .before .before .before .t2 .given .1) m)
+    (omega (arith, s .0), rest-ready q h (d .0) (c .before .before .before .before .t2 .given .1) m (d .1))
 
 execute-returns-5 : (t : ℕ) → execute-lts.Need-returns-5 (execute-calls t) (execute-at t) execute.Post
 execute-returns-5 t c =
@@ -447,7 +504,7 @@ execute-returns-5 t c =
     let node = c .before .before .before .before .before .before .before .before .before .before .before .node-at .ensures in
     let h = some-operand (q .formed) (rw node at (c .before .before .before .before .before .before .before .before .before .if1 .left)) in
     let d = rw node at (c .before .before .before .before .before .execute .ensures) in
-    first-stopped q h _ d (c .before .why2 .given .1) (rw node at (c .before .before .before .before .before .before .before .if2 .left))
+    (first-stopped q h (d .0) (c .before .why2 .given .1) (rw node at (c .before .before .before .before .before .before .before .if2 .left)), d .1)
 
 execute-returns-6 : (t : ℕ) → execute-lts.Need-returns-6 (execute-calls t) (execute-at t) execute.Post
 execute-returns-6 t c =
@@ -457,7 +514,7 @@ execute-returns-6 t c =
     let h = some-operand (q .formed) (rw node at (c .before .before .before .before .before .before .before .before .before .before .before .before .before .before .before .if1 .left)) in
     let d = rw node at (c .before .before .before .before .before .before .before .before .before .before .before .execute .ensures) in
     let m = has-more _ h (rw node at (c .before .before .before .before .before .has-one .ensures)) (c .before .before .before .before .if3 .left) in
-    rest-executes q h _ d (c .before .before .before .before .before .before .before .t2 .given .1) m (c .before .before .execute-rest .ensures)
+    (rest-executes q h (d .0) (c .before .before .before .before .before .before .before .t2 .given .1) m ((c .before .before .execute-rest .ensures) .0), holding-trans (d .1) ((c .before .before .execute-rest .ensures) .1))
 
 execute-rest-node-at-requires : (t : ℕ) → execute-rest-lts.Need-node-at-requires (execute-rest-calls t) (execute-rest-at t) execute-rest.Post
 execute-rest-node-at-requires t c κs =
@@ -467,61 +524,63 @@ execute-rest-next-operand-requires : (t : ℕ) → execute-rest-lts.Need-next-op
 execute-rest-next-operand-requires t c κs =
     let s = c .before .before .before .before .pre in
     let q = s .1 in
-    next-decidable 0 q
+    next-decidable q
 
 execute-rest-bind-requires : (t : ℕ) → execute-rest-lts.Need-bind-requires (execute-rest-calls t) (execute-rest-at t) execute-rest.Post
 execute-rest-bind-requires t c κs =
     let s = c .before .before .before .before .before .before .before .before .before .before .before .pre in
     let q = s .1 in
     let node = c .before .before .before .before .before .before .before .before .node-at .ensures in
-    let g = going (c .before .before .before .before .before .before .before .before .before .before .before .args .limit) q (rw node at (c .before .before .before .before .before .before .next-operand .ensures)) (c .before .before .m .given .1) in
-    (bound-room _ q g, bound-lent _ q g)
+    let g = going q (rw node at (c .before .before .before .before .before .before .next-operand .ensures)) (c .before .before .m .given .1) in
+    (bound-room q g, bound-lent q g)
 
 execute-rest-execute-requires : (t : ℕ) → execute-rest-lts.Need-execute-requires (execute-rest-calls t) (execute-rest-at t) execute-rest.Post
 execute-rest-execute-requires t c κs =
     let s = c .before .before .before .before .before .before .before .before .before .before .before .before .before .before .before .pre in
     let q = s .1 in
     let node = c .before .before .before .before .before .before .before .before .before .before .before .before .node-at .ensures in
-    let g = going (c .before .before .before .before .before .before .before .before .before .before .before .before .before .before .before .args .limit) q (rw node at (c .before .before .before .before .before .before .before .before .before .before .next-operand .ensures)) (c .before .before .before .before .before .before .m .given .1) in
+    let g = going q (rw node at (c .before .before .before .before .before .before .before .before .before .before .next-operand .ensures)) (c .before .before .before .before .before .before .m .given .1) in
     let b = rw node at (c .before .before .before .bind .ensures) in
-    (omega (arith, g .earlier, s .0), next-ready _ q g b)
+    (omega (arith, g .earlier, s .0), next-ready q g b)
 
 execute-rest-two-requires : (t : ℕ) → execute-rest-lts.Need-two-requires (execute-rest-calls t) (execute-rest-at t) execute-rest.Post
 execute-rest-two-requires t c κs =
     let s = c .before .before .before .before .before .before .before .before .before .before .before .before .before .before .before .before .before .before .before .before .before .before .pre in
     let q = s .1 in
     let node = c .before .before .before .before .before .before .before .before .before .before .before .before .before .before .before .before .before .before .before .node-at .ensures in
-    let g = going (c .before .before .before .before .before .before .before .before .before .before .before .before .before .before .before .before .before .before .before .before .before .before .args .limit) q (rw node at (c .before .before .before .before .before .before .before .before .before .before .before .before .before .before .before .before .before .next-operand .ensures)) (c .before .before .before .before .before .before .before .before .before .before .before .before .before .m .given .1) in
+    let g = going q (rw node at (c .before .before .before .before .before .before .before .before .before .before .before .before .before .before .before .before .before .next-operand .ensures)) (c .before .before .before .before .before .before .before .before .before .before .before .before .before .m .given .1) in
     let b = rw node at (c .before .before .before .before .before .before .before .before .before .before .bind .ensures) in
     let d = c .before .before .before .before .before .before .execute .ensures in
-    two-operable _ q g b d (c .before .before .u .given .1)
+    two-operable q g b (d .0) (c .before .before .u .given .1)
 
 execute-rest-returns : (t : ℕ) → execute-rest-lts.Need-returns (execute-rest-calls t) (execute-rest-at t) execute-rest.Post
 execute-rest-returns t c =
     let s = c .before .before .before .before .before .before .before .before .before .before .pre in
     let q = s .1 in
     let node = c .before .before .before .before .before .before .before .node-at .ensures in
-    none-executes _ q (rw node at (c .before .before .before .before .before .next-operand .ensures)) (c .before .why .given .1)
+    let k = (rw node at (c .before .before .before .before .before .next-operand .ensures)) in
+    (none-executes q k (c .before .why .given .1), none-holding q k (c .before .why .given .1))
 
 execute-rest-returns-2 : (t : ℕ) → execute-rest-lts.Need-returns-2 (execute-rest-calls t) (execute-rest-at t) execute-rest.Post
 execute-rest-returns-2 t c =
     let s = c .before .before .before .before .before .before .before .before .before .before .before .before .before .before .before .before .before .before .before .before .before .pre in
     let q = s .1 in
     let node = c .before .before .before .before .before .before .before .before .before .before .before .before .before .before .before .before .before .before .node-at .ensures in
-    let g = going (c .before .before .before .before .before .before .before .before .before .before .before .before .before .before .before .before .before .before .before .before .before .args .limit) q (rw node at (c .before .before .before .before .before .before .before .before .before .before .before .before .before .before .before .before .next-operand .ensures)) (c .before .before .before .before .before .before .before .before .before .before .before .before .m .given .1) in
+    let g = going q (rw node at (c .before .before .before .before .before .before .before .before .before .before .before .before .before .before .before .before .next-operand .ensures)) (c .before .before .before .before .before .before .before .before .before .before .before .before .m .given .1) in
     let b = rw node at (c .before .before .before .before .before .before .before .before .before .bind .ensures) in
     let d = c .before .before .before .before .before .execute .ensures in
-    next-stopped _ q g b d (c .before .why2 .given .1)
+    (next-stopped q g b (d .0) (c .before .why2 .given .1), next-holding q g b (d .0) (d .1))
 
 execute-rest-returns-3 : (t : ℕ) → execute-rest-lts.Need-returns-3 (execute-rest-calls t) (execute-rest-at t) execute-rest.Post
 execute-rest-returns-3 t c =
     let s = c .before .before .before .before .before .before .before .before .before .before .before .before .before .before .before .before .before .before .before .before .before .before .before .before .before .pre in
     let q = s .1 in
     let node = c .before .before .before .before .before .before .before .before .before .before .before .before .before .before .before .before .before .before .before .before .before .before .node-at .ensures in
-    let g = going (c .before .before .before .before .before .before .before .before .before .before .before .before .before .before .before .before .before .before .before .before .before .before .before .before .before .args .limit) q (rw node at (c .before .before .before .before .before .before .before .before .before .before .before .before .before .before .before .before .before .before .before .before .next-operand .ensures)) (c .before .before .before .before .before .before .before .before .before .before .before .before .before .before .before .before .m .given .1) in
+    let g = going q (rw node at (c .before .before .before .before .before .before .before .before .before .before .before .before .before .before .before .before .before .before .before .before .next-operand .ensures)) (c .before .before .before .before .before .before .before .before .before .before .before .before .before .before .before .before .m .given .1) in
     let b = rw node at (c .before .before .before .before .before .before .before .before .before .before .before .before .before .bind .ensures) in
     let d = c .before .before .before .before .before .before .before .before .before .execute .ensures in
-    two-executes _ q g b d (c .before .before .before .before .before .u .given .1) (rw node at (c .before .before .two .ensures))
+    let o = (rw node at (c .before .before .two .ensures)) in
+    (two-executes q g b (d .0) (c .before .before .before .before .before .u .given .1) o, two-holding q g b (d .0) (d .1) o)
 
 paths-slice-aggregate-start : (t : ℕ) → paths-lts.Need-slice-aggregate-start (paths-calls t) (paths-at t) paths.Post paths-Inv-loop paths-μ-loop
 paths-slice-aggregate-start t c = refl
@@ -534,7 +593,7 @@ paths-start-requires t c κs =
 
 paths-loop-holds : (t : ℕ) → paths-lts.Need-loop-holds (paths-calls t) (paths-at t) paths.Post paths-Inv-loop paths-μ-loop
 paths-loop-holds t c =
-    turn-start _ _ _ _ _ _ _ _ (omega (arith, c .space2 .given)) (c .before .start .ensures .0) (c .before .start .ensures .1)
+    turn-start _ _ _ _ _ _ _ _ (omega (arith, c .space2 .given)) (c .before .start .ensures .0) (c .before .start .ensures .1 .0) (c .before .start .ensures .1 .1)
 
 paths-slice-aggregate-walk : (t : ℕ) → paths-lts.Need-slice-aggregate-walk (paths-calls t) (paths-at t) paths.Post paths-Inv-loop paths-μ-loop
 paths-slice-aggregate-walk t c = sym (c .before .before .loop .inv .whole)
@@ -547,11 +606,11 @@ paths-walk-requires t c κs =
 
 paths-returns : (t : ℕ) → paths-lts.Need-returns (paths-calls t) (paths-at t) paths.Post paths-Inv-loop paths-μ-loop
 paths-returns t c =
-    turn-wrong (c .before .before .before .before .before .before .before .loop .inv) (c .before .before .before .before .before .before .loop-test .taken) _ (c .before .before .before .before .walk .ensures) (c .before .why .given .1)
+    turn-wrong (c .before .before .before .before .before .before .before .loop .inv) (c .before .before .before .before .before .before .loop-test .taken) _ (c .before .before .before .before .walk .ensures .0) (c .before .why .given .1)
 
 paths-returns-2 : (t : ℕ) → paths-lts.Need-returns-2 (paths-calls t) (paths-at t) paths.Post paths-Inv-loop paths-μ-loop
 paths-returns-2 t c =
-    turn-last (c .before .before .before .before .before .before .before .loop .inv) (c .before .before .before .before .before .before .loop-test .taken) _ (c .before .before .before .before .walk .ensures) (c .before .t .given .1)
+    turn-last (c .before .before .before .before .before .before .before .loop .inv) (c .before .before .before .before .before .before .loop-test .taken) _ (c .before .before .before .before .walk .ensures .0) (c .before .t .given .1)
 
 paths-add-followed : (t : ℕ) → paths-lts.Need-add-followed (paths-calls t) (paths-at t) paths.Post paths-Inv-loop paths-μ-loop
 paths-add-followed t c = omega arith
@@ -561,7 +620,7 @@ paths-loop-less t c = omega arith
 
 paths-loop-again : (t : ℕ) → paths-lts.Need-loop-again (paths-calls t) (paths-at t) paths.Post paths-Inv-loop paths-μ-loop
 paths-loop-again t c =
-    turn-more (c .before .before .before .before .before .before .before .loop .inv) (c .before .before .before .before .before .before .loop-test .taken) _ (c .before .before .before .before .walk .ensures) (c .before .t2 .given .1) (omega (arith, c .before .before .before .space4 .given))
+    turn-more (c .before .before .before .before .before .before .before .loop .inv) (c .before .before .before .before .before .before .loop-test .taken) _ (c .before .before .before .before .walk .ensures .0) (c .before .t2 .given .1) (omega (arith, c .before .before .before .space4 .given)) (c .before .before .before .before .walk .ensures .1)
 
 paths-returns-3 : (t : ℕ) → paths-lts.Need-returns-3 (paths-calls t) (paths-at t) paths.Post paths-Inv-loop paths-μ-loop
 paths-returns-3 t c = turn-none (c .before .loop .inv) (c .loop-test .left)
@@ -585,7 +644,7 @@ walk-path-end-requires t c κs =
     let q = s .1 in
     let w = c .before .before .before .before .before .before .before .before .before .before .restart .ensures in
     let d = rw w at (c .before .before .before .before .before .before .execute .ensures) in
-    end-room q _ 0 d
+    end-room q 0 (d .0)
 
 walk-returns : (t : ℕ) → walk-lts.Need-returns (walk-calls t) (walk-at t) walk.Post
 walk-returns t c =
@@ -593,7 +652,7 @@ walk-returns t c =
     let q = s .1 in
     let w = c .before .before .before .before .before .before .before .before .before .restart .ensures in
     let d = rw w at (c .before .before .before .before .before .execute .ensures) in
-    walk-stopped q _ _ d _ _ (c .before .why .given .1)
+    (walk-stopped q _ (d .0) _ _ (c .before .why .given .1), walk-holding q 0 (d .0) (d .1))
 
 walk-returns-2 : (t : ℕ) → walk-lts.Need-returns-2 (walk-calls t) (walk-at t) walk.Post
 walk-returns-2 t c =
@@ -601,11 +660,25 @@ walk-returns-2 t c =
     let q = s .1 in
     let w = c .before .before .before .before .before .before .before .before .before .before .before .before .before .restart .ensures in
     let d = rw w at (c .before .before .before .before .before .before .before .before .before .execute .ensures) in
-    walk-ended q _ _ d (c .before .before .before .before .before .t .given .1) _ _ (c .before .before .path-end .ensures)
+    (walk-ended q _ (d .0) (c .before .before .before .before .before .t .given .1) _ _ (c .before .before .path-end .ensures), end-holding q _ (d .0) (d .1) (c .before .before .path-end .ensures))
 
-pub +check-node+check-rest+execute+execute-rest+paths+walk-spec : {M : Type 1} → statement M
-+check-node+check-rest+execute+execute-rest+paths+walk-spec =
-    close μ-check-node μ-check-rest μ-execute μ-execute-rest μ-paths μ-walk
+pub +block-type+check-node+check-rest+execute+execute-rest+paths+walk-spec : {M : Type 1} → statement M
++block-type+check-node+check-rest+execute+execute-rest+paths+walk-spec =
+    close μ-block-type μ-check-node μ-check-rest μ-execute μ-execute-rest μ-paths μ-walk
+    (λ t. block-type-lts.spec (block-type-calls t) (block-type-at t) block-type.Post
+    (block-type-recall-requires t)
+    (λ c. search needs)
+    (λ c. search needs)
+    (block-type-check-node-requires t)
+    (λ c. search needs)
+    (λ c. search needs)
+    (block-type-note-requires t)
+    (λ c. search needs)
+    (block-type-returns t)
+    (λ c. search needs)
+    (block-type-returns-2 t)
+    (λ c. search needs)
+    (block-type-returns-3 t))
     (λ t. check-node-lts.spec (check-node-calls t) (check-node-at t) check-node.Post
     (check-node-node-at-requires t)
     (check-node-leaf-type-requires t)
@@ -650,7 +723,7 @@ pub +check-node+check-rest+execute+execute-rest+paths+walk-spec : {M : Type 1} �
     (execute-leaf-requires t)
     (λ c. search needs)
     (execute-returns t)
-    (execute-check-node-requires t)
+    (execute-block-type-requires t)
     (λ c. search needs)
     (λ c. search needs)
     (execute-typed-result-requires t)
