@@ -1,5 +1,5 @@
--- `checker::notes::agrees` meets its contract. The loop's invariant: the first i variables have the types that are named. In the answers l is the loop, t
--- that i is below the count, b that the variable read is one of the environment. Assumes nothing.
+-- `checker::notes::agrees` meets its contract. The loop's invariant: the first i variables have the types that are named. In the answers a is the
+-- arguments, l the loop, b that the variable read is one of the environment. Assumes nothing.
 use borrow.Author.Needs.{needs}
 use Prim.Native.Nat.{_-_}
 use native.Mathlib.Omega.{arith}
@@ -17,16 +17,24 @@ loop-holds : tie.Need-loop-holds Inv-loop μ-loop
 loop-holds c = let a = c .before .args in agreeing-start (a .space .now) (a .at)
 
 cast-k : tie.Need-cast-k Inv-loop μ-loop
-cast-k c = let b = c .before .before .before .before .pre .inside (c .before .before .loop .i) (c .before .loop-test .taken) in omega (arith, b)
+cast-k c =
+    let b = c .before .before .before .before .pre .inside (c .before .before .loop .i) (c .before .loop-test .taken) in
+    omega (arith, b)
 
 mul-if1 : tie.Need-mul-if1 Inv-loop μ-loop
-mul-if1 c = let b = c .before .before .before .before .pre .inside (c .before .before .loop .i) (c .before .loop-test .taken) in omega (arith, b)
+mul-if1 c =
+    let b = c .before .before .before .before .pre .inside (c .before .before .loop .i) (c .before .loop-test .taken) in
+    omega (arith, b)
 
 mul-if1-2 : tie.Need-mul-if1-2 Inv-loop μ-loop
-mul-if1-2 c = let b = c .before .before .before .before .pre .inside (c .before .before .loop .i) (c .before .loop-test .taken) in omega (arith, b)
+mul-if1-2 c =
+    let b = c .before .before .before .before .pre .inside (c .before .before .loop .i) (c .before .loop-test .taken) in
+    omega (arith, b)
 
 shared-slice-read-if1 : tie.Need-shared-slice-read-if1 Inv-loop μ-loop
-shared-slice-read-if1 c = let b = c .before .before .before .before .before .pre .inside (c .before .before .before .loop .i) (c .before .before .loop-test .taken) in omega (arith, b, c .before .before .before .before .before .pre .wide)
+shared-slice-read-if1 c =
+    let b = c .before .before .before .before .before .pre .inside (c .before .before .before .loop .i) (c .before .before .loop-test .taken) in
+    omega (arith, b, c .before .before .before .before .before .pre .wide)
 
 returns : tie.Need-returns Inv-loop μ-loop
 returns c =

@@ -1,4 +1,5 @@
--- Reading notes: the loops over a note and over the notes, and that what a right note says of a block is its type. Assumes nothing.
+-- Reading notes: the loops over a note and over the notes, that what a right note says of a block is its type, and that right notes can be read.
+-- Assumes nothing.
 use mathlib.Core.Bool.{Bool, true, false, _&&_}
 use mathlib.Core.List.{List}
 use mathlib.Core.Option.{some}
@@ -7,23 +8,22 @@ use Prim.Native.Nat.{ℕ, zero, suc, _+_, _*_, _-_, _≤_, _<_}
 use native.Mathlib.Numerals.{add-one}
 use native.Mathlib.Omega.{arith}
 use lib.Dec.{eqb}
-use lib.ListN.{length, getD, getElem?}
+use lib.ListN.{length, getD}
 use borrow.Author.Tests.{eqb-true, eqb-false, eq-eqb, ne-eqb}
 use Rattle.script.specs.Code.Forms.{treeIn}
 use Rattle.script.specs.Tests.{pick}
 use Rattle.script.specs.Tests.Laws.{both-true}
-use Rattle.script.specs.declared.Checked.{Checked}
 use Rattle.script.specs.declared.Checked.the-variants.{Accepted}
 use Rattle.rules.specs.Checking.{check}
 use Rattle.terms.specs.Terms.{symbolLimit}
-use Rattle.checker.specs.Code.Notes.{baseIn, noteAt, operandIn, depthIn, typeIn, namesIn, nameIn, namedType, Readable, Recallable, Recallables, agreesFrom, agreesOn, isOf, recalledOn, Agrees, NoteOf, Kept}
+use Rattle.checker.specs.Code.Notes.{baseIn, noteAt, operandIn, depthIn, typeIn, namesIn, nameIn, namedType, Recallables, agreesFrom, agreesOn, isOf, recalledOn, Agrees, NoteOf, Kept}
 use Rattle.checker.specs.Code.State.{spaceSize, typesOn}
 use Rattle.checker.specs.Code.State.Laws.{types-at, types-length}
-use Rattle.checker.specs.declared.notes.Known.{Known}
 use Rattle.checker.specs.declared.notes.Known.the-variants.{Typed, Nothing}
 
 -- ---- the loop over the variables of a note
 
+-- the first i variables have the types that are named
 pub record Agreeing (ws : List ℕ) (at i : ℕ) : Type 0 where
   pub within : i ≤ namesIn ws at
   pub rest : agreesOn ws at ≡ agreesFrom ws at i (namesIn ws at - i)
@@ -64,6 +64,7 @@ module _ (ws : List ℕ) (at depth a : ℕ) where
 
 -- ---- the loop over the notes
 
+-- none of the first i notes is one of node a
 pub record Recalling (ws : List ℕ) (depth a i : ℕ) : Type 0 where
   pub within : i ≤ 8
   pub rest : recalledOn ws depth a 0 8 ≡ recalledOn ws depth a i (8 - i)
@@ -143,12 +144,12 @@ kept-recallables {ws = ws} {depth = depth} lent small k =
         lent = omega arith;
         small = small;
         readable = λ e.
-          let n = k .notes i l depth (e ∙ add-one depth) in
-          record {
-            lent = omega arith;
-            wide = omega arith;
-            few = n .few;
-            inside = λ j h. let b = n .inside j h in omega (arith, b, small);
-          };
+            let n = k .notes i l depth (e ∙ add-one depth) in
+            record {
+              lent = omega arith;
+              wide = omega arith;
+              few = n .few;
+              inside = λ j h. let b = n .inside j h in omega (arith, b, small);
+            };
       };
     }
