@@ -1,12 +1,12 @@
 -- Single bits of a word, and what the word operations do to each. Assumes nothing.
 use mathlib.Core.Bool.{Bool, true, false, not, _&&_, Bool·beq}
 use mathlib.Core.Path.{_≡_, refl, sym, ap, _∙_}
-use Prim.Native.Nat.{ℕ, zero, suc, _+_, _-_, _*_, _/_, _%_, _^_, _<_}
+use Prim.Native.Nat.{ℕ, zero, suc, _+_, _-_, _*_, _/_, _%_, _^_, _≤_, _<_}
 use borrow.Author.Tests.{eqb-false}
 use native.Mathlib.Decide.{ℕ-discrete}
 use native.Mathlib.Nat.{pow-suc, suc-add, zero-add}
 use native.Mathlib.Omega.{arith}
-use lib.Bits.{bitAnd, bitXor, and-shr, and-mod, xor-shr, xor-mod, block-half, block-odd}
+use lib.Bits.{bitAnd, bitOr, bitXor, and-shr, and-mod, and-le-l, and-le-r, or-add-and, or-comm, or-mod, xor-shr, xor-mod, block-half, block-odd}
 use lib.Dec.{eqb}
 use Rattle.script.specs.Tests.Laws.{both-true}
 
@@ -72,6 +72,25 @@ bit-not (suc n) a zero h s =
 bit-not (suc n) a (suc k) h s =
     let t : a < 2 ^ n * 2 = rw (pow-suc 2 n) at s in
     rw (pow-suc 2 n, not-half (2 ^ n) a t) (bit-not n (a / 2) k (omega arith) (half-less (2 ^ n) a t))
+
+-- ---- `or` keeps what each word has
+
+pub or-first-most : (a b : ℕ) → a ≤ bitOr a b
+or-first-most a b = let s = or-add-and a b in let l = and-le-r a b in omega arith
+
+pub or-second-most : (a b : ℕ) → b ≤ bitOr a b
+or-second-most a b = let s = or-add-and a b in let l = and-le-l a b in omega arith
+
+odd-digit : (x : ℕ) → x < 2 → bitOr 1 x ≡ 1
+odd-digit zero h = refl
+odd-digit (suc zero) h = refl
+odd-digit (suc (suc x)) h = absurd (omega arith)
+
+pub or-first-odd : (a b : ℕ) → a % 2 ≡ 1 → bitOr a b % 2 ≡ 1
+or-first-odd a b e = or-mod a b 1 ∙ ap (λ (x : ℕ). bitOr x (b % 2)) e ∙ odd-digit (b % 2) (omega arith)
+
+pub or-second-odd : (a b : ℕ) → b % 2 ≡ 1 → bitOr a b % 2 ≡ 1
+or-second-odd a b e = ap (λ (x : ℕ). x % 2) (or-comm a b) ∙ or-first-odd b a e
 
 -- ---- words with no bit, and with one
 

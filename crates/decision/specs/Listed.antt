@@ -1,15 +1,15 @@
--- The atoms of the marked rows in a list, the last row first: it has each atom of the formula asked for once, and its assignments by number give the
--- atom of each row its bit. Assumes nothing.
+-- The atoms of the rows that have at least a mark in a list, the last row first: it has each atom of the formula asked for once, and its assignments by
+-- number give the atom of each row its bit. Assumes nothing.
 use mathlib.Core.Bool.{Bool, true, false, _||_, false≢true}
 use mathlib.Core.List.{List, [], _∷_}
 use mathlib.Core.Logic.{_⊎_, inl, inr}
 use mathlib.Core.Path.{_≡_, refl, sym, ap, _∙_}
 use Prim.Native.Nat.{ℕ, zero, suc, _+_, _≤_, _<_}
-use borrow.Author.Tests.{ltb-false, eqb-false, ne-eqb, le-ltb}
+use borrow.Author.Tests.{ltb-false, le-ltb}
 use native.Mathlib.Decide.{ℕ-discrete}
 use native.Mathlib.Numerals.{add-one}
 use native.Mathlib.Omega.{arith}
-use lib.Dec.{ltb, eqb}
+use lib.Dec.{ltb}
 use lib.ListN.{length, getD}
 use Rattle.script.specs.Tests.{pick}
 use Rattle.script.specs.Tests.Laws.{or-cases, or-first, or-second}
@@ -23,18 +23,18 @@ use Rattle.decision.specs.Bits.{bit}
 use Rattle.decision.specs.Code.{seenAfter, rank}
 use Rattle.decision.specs.Marks.{Part, part, Parts}
 
--- a marked row that is an atom
-pub record Counted (ws ms : List ℕ) (i : ℕ) : Type 0 where
-  pub marks : 0 < getD ms i 0
+-- a row that is an atom and has at least a mark
+pub record Counted (ws ms : List ℕ) (least i : ℕ) : Type 0 where
+  pub marks : least ≤ getD ms i 0
   pub atoms : 7 < rowIn ws i .op
 
-pub data Listed (ws ms : List ℕ) : ℕ → List Atom → Type 0 where
-  listed-none : Listed ws ms 0 []
-  listed-skip : {i : ℕ} {xs : List Atom} → rank ws ms (suc i) ≡ rank ws ms i → Listed ws ms i xs → Listed ws ms (suc i) xs
-  listed-more : {i : ℕ} {x : Atom} {xs : List Atom} → Counted ws ms i → AtomRow ws i x → Listed ws ms i xs → Listed ws ms (suc i) (x ∷ xs)
+pub data Listed (ws ms : List ℕ) (least : ℕ) : ℕ → List Atom → Type 0 where
+  listed-none : Listed ws ms least 0 []
+  listed-skip : {i : ℕ} {xs : List Atom} → rank ws ms least (suc i) ≡ rank ws ms least i → Listed ws ms least i xs → Listed ws ms least (suc i) xs
+  listed-more : {i : ℕ} {x : Atom} {xs : List Atom} → Counted ws ms least i → AtomRow ws i x → Listed ws ms least i xs → Listed ws ms least (suc i) (x ∷ xs)
 
-pub data SomeList (ws ms : List ℕ) (n : ℕ) : Type 0 where
-  some-list : {xs : List Atom} → Listed ws ms n xs → SomeList ws ms n
+pub data SomeList (ws ms : List ℕ) (least n : ℕ) : Type 0 where
+  some-list : {xs : List Atom} → Listed ws ms least n xs → SomeList ws ms least n
 
 data AtomOf (ws : List ℕ) (i : ℕ) : Type 0 where
   atom-of : {x : Atom} → AtomRow ws i x → AtomOf ws i
@@ -61,34 +61,33 @@ module _ {ws : List ℕ} where
   part-has (part (equalityRow eo ea eb ja jb t u) w) h r = absurd (omega arith)
   part-has (part (exclusionRow eo ea eb ja jb t u) w) h r = absurd (omega arith)
 
-module _ {ws ms : List ℕ} where
+module _ {ws ms : List ℕ} {least : ℕ} where
   -- ---- the number of the next atom
 
-  pub rank-counted : (i : ℕ) → Counted ws ms i → rank ws ms (suc i) ≡ suc (rank ws ms i)
+  pub rank-counted : (i : ℕ) → Counted ws ms least i → rank ws ms least (suc i) ≡ suc (rank ws ms least i)
   unfolding rank seenAfter
   rank-counted i c =
       let m = c .marks in
       let a = c .atoms in
-      rw (ne-eqb (getD ms i 0) 0 (λ e. omega arith), le-ltb (rowIn ws i .op) 8 (omega arith)) (add-one (rank ws ms i))
+      rw (le-ltb (getD ms i 0) least m, le-ltb (rowIn ws i .op) 8 (omega arith)) (add-one (rank ws ms least i))
 
-  rank-or : (i : ℕ) → (rank ws ms (suc i) ≡ rank ws ms i) ⊎ Counted ws ms i
+  rank-or : (i : ℕ) → (rank ws ms least (suc i) ≡ rank ws ms least i) ⊎ Counted ws ms least i
   unfolding rank seenAfter
-  rank-or i = go (eqb (getD ms i 0) 0) refl (ltb (rowIn ws i .op) 8) refl
+  rank-or i = go (ltb (getD ms i 0) least) refl (ltb (rowIn ws i .op) 8) refl
     where
-      go : (s : Bool) → eqb (getD ms i 0) 0 ≡ s → (t : Bool) → ltb (rowIn ws i .op) 8 ≡ t
-          → (pick s (rank ws ms i) (pick t (rank ws ms i) (rank ws ms i + 1)) ≡ rank ws ms i) ⊎ Counted ws ms i
+      go : (s : Bool) → ltb (getD ms i 0) least ≡ s → (t : Bool) → ltb (rowIn ws i .op) 8 ≡ t
+          → (pick s (rank ws ms least i) (pick t (rank ws ms least i) (rank ws ms least i + 1)) ≡ rank ws ms least i) ⊎ Counted ws ms least i
       go true e t f = inl refl
       go false e true f = inl refl
       go false e false f =
-          let m = eqb-false (getD ms i 0) 0 e in
           let a = ltb-false (rowIn ws i .op) 8 f in
-          inr (record { marks = omega arith; atoms = omega arith })
+          inr (record { marks = ltb-false (getD ms i 0) least e; atoms = omega arith })
 
   -- a counted row is no skipped one
-  skip-other : (i j : ℕ) → Counted ws ms i → rank ws ms (suc j) ≡ rank ws ms j → i ≡ j → ⊥
-  skip-other i j c e q = let r = rank-counted i c in let s : rank ws ms (suc i) ≡ rank ws ms i = rw q e in omega arith
+  skip-other : (i j : ℕ) → Counted ws ms least i → rank ws ms least (suc j) ≡ rank ws ms least j → i ≡ j → ⊥
+  skip-other i j c e q = let r = rank-counted i c in let s : rank ws ms least (suc i) ≡ rank ws ms least i = rw q e in omega arith
 
-  pub listed-length : {n : ℕ} {xs : List Atom} → Listed ws ms n xs → length xs ≡ rank ws ms n
+  pub listed-length : {n : ℕ} {xs : List Atom} → Listed ws ms least n xs → length xs ≡ rank ws ms least n
   unfolding rank
   listed-length listed-none = refl
   listed-length (listed-skip e l) = listed-length l ∙ sym e
@@ -96,23 +95,23 @@ module _ {ws ms : List ℕ} where
 
   -- ---- there is such a list
 
-  pub list-made : {whole : Formula} → Parts ws whole ms → (n : ℕ) → SomeList ws ms n
-  list-made s zero = some-list listed-none
-  list-made s (suc i) = go (rank-or i) (list-made s i)
+  pub list-made : {whole : Formula} → 0 < least → Parts ws whole ms → (n : ℕ) → SomeList ws ms least n
+  list-made p s zero = some-list listed-none
+  list-made p s (suc i) = go (rank-or i) (list-made p s i)
     where
-      more : Counted ws ms i → AtomOf ws i → SomeList ws ms i → SomeList ws ms (suc i)
+      more : Counted ws ms least i → AtomOf ws i → SomeList ws ms least i → SomeList ws ms least (suc i)
       more c (atom-of a) (some-list l) = some-list (listed-more c a l)
 
-      skip : rank ws ms (suc i) ≡ rank ws ms i → SomeList ws ms i → SomeList ws ms (suc i)
+      skip : rank ws ms least (suc i) ≡ rank ws ms least i → SomeList ws ms least i → SomeList ws ms least (suc i)
       skip e (some-list l) = some-list (listed-skip e l)
 
-      go : (rank ws ms (suc i) ≡ rank ws ms i) ⊎ Counted ws ms i → SomeList ws ms i → SomeList ws ms (suc i)
+      go : (rank ws ms least (suc i) ≡ rank ws ms least i) ⊎ Counted ws ms least i → SomeList ws ms least i → SomeList ws ms least (suc i)
       go (inl e) r = skip e r
-      go (inr c) r = more c (atom-at (s .each i (c .marks)) (c .atoms)) r
+      go (inr c) r = let m = c .marks in more c (atom-at (s .each i (omega arith)) (c .atoms)) r
 
   -- ---- it has the atoms of the marked rows, and only such of the formula
 
-  pub listed-in : {n : ℕ} {xs : List Atom} → Listed ws ms n xs → (i : ℕ) (y : Atom) → i < n → Counted ws ms i → AtomRow ws i y → among xs y ≡ true
+  pub listed-in : {n : ℕ} {xs : List Atom} → Listed ws ms least n xs → (i : ℕ) (y : Atom) → i < n → Counted ws ms least i → AtomRow ws i y → among xs y ≡ true
   unfolding among
   listed-in listed-none i y h c r = absurd (omega arith)
   listed-in (listed-skip {i = j} e l) i y h c r = listed-in l i y (go (ℕ-discrete i j)) c r
@@ -126,28 +125,28 @@ module _ {ws ms : List ℕ} where
       go (yes q) ih = let e : x ≡ y = atom-one a (rw q at r) in or-first (sameAtom x y) (among xs y) (rw e (sameAtom-refl y))
       go (no q) ih = or-second (sameAtom x y) (among xs y) (ih (omega arith))
 
-  pub listed-part : {whole : Formula} → Parts ws whole ms → {n : ℕ} {xs : List Atom} → Listed ws ms n xs → (z : Atom) → among xs z ≡ true
+  pub listed-part : {whole : Formula} → 0 < least → Parts ws whole ms → {n : ℕ} {xs : List Atom} → Listed ws ms least n xs → (z : Atom) → among xs z ≡ true
       → among (atomsOf whole) z ≡ true
   unfolding among
-  listed-part s listed-none z h = absurd (false≢true h)
-  listed-part s (listed-skip e l) z h = listed-part s l z h
-  listed-part {whole} s (listed-more {i = i} {x = x} {xs = xs} c a l) z h =
-      go (or-cases (sameAtom x z) (among xs z) h) (listed-part s l z)
+  listed-part p s listed-none z h = absurd (false≢true h)
+  listed-part p s (listed-skip e l) z h = listed-part p s l z h
+  listed-part {whole} p s (listed-more {i = i} {x = x} {xs = xs} c a l) z h =
+      go (or-cases (sameAtom x z) (among xs z) h) (listed-part p s l z)
     where
       go : (sameAtom x z ≡ true) ⊎ (among xs z ≡ true) → (among xs z ≡ true → among (atomsOf whole) z ≡ true) → among (atomsOf whole) z ≡ true
-      go (inl e) ih = sym (among-same (atomsOf whole) x z e) ∙ part-has (s .each i (c .marks)) (c .atoms) a
+      go (inl e) ih = sym (among-same (atomsOf whole) x z e) ∙ (let m = c .marks in part-has (s .each i (omega arith)) (c .atoms) a)
       go (inr k) ih = ih k
 
   -- ---- each once
 
-  listed-below : Distinct ws → {n : ℕ} {xs : List Atom} → Listed ws ms n xs → (j : ℕ) (y : Atom) → n ≤ j → j < countIn ws → AtomRow ws j y → among xs y ≡ false
+  listed-below : Distinct ws → {n : ℕ} {xs : List Atom} → Listed ws ms least n xs → (j : ℕ) (y : Atom) → n ≤ j → j < countIn ws → AtomRow ws j y → among xs y ≡ false
   unfolding among
   listed-below d listed-none j y h k r = refl
   listed-below d (listed-skip e l) j y h k r = listed-below d l j y (omega arith) k r
   listed-below d (listed-more {i = i} {x = x} c a l) j y h k r =
       rw (d .apart i j x y (omega arith) k a r, listed-below d l j y (omega arith) k r)
 
-  pub listed-apart : Distinct ws → {n : ℕ} {xs : List Atom} → Listed ws ms n xs → n ≤ countIn ws → Apart xs
+  pub listed-apart : Distinct ws → {n : ℕ} {xs : List Atom} → Listed ws ms least n xs → n ≤ countIn ws → Apart xs
   listed-apart d listed-none h = apart-none
   listed-apart d (listed-skip e l) h = listed-apart d l (omega arith)
   listed-apart d (listed-more {i = i} {x = x} c a l) h =
@@ -155,8 +154,8 @@ module _ {ws ms : List ℕ} where
 
   -- ---- the assignments by number
 
-  pub listed-assigns : Distinct ws → {n : ℕ} {xs : List Atom} → Listed ws ms n xs → n ≤ countIn ws → (m i : ℕ) (y : Atom) → i < n → Counted ws ms i
-      → AtomRow ws i y → assign xs m y ≡ bit m (rank ws ms i)
+  pub listed-assigns : Distinct ws → {n : ℕ} {xs : List Atom} → Listed ws ms least n xs → n ≤ countIn ws → (m i : ℕ) (y : Atom) → i < n → Counted ws ms least i
+      → AtomRow ws i y → assign xs m y ≡ bit m (rank ws ms least i)
   unfolding assign
   listed-assigns d listed-none b m i y h c r = absurd (omega arith)
   listed-assigns d (listed-skip {i = j} e l) b m i y h c r = listed-assigns d l (omega arith) m i y (go (ℕ-discrete i j)) c r
@@ -167,9 +166,9 @@ module _ {ws ms : List ℕ} where
   listed-assigns d (listed-more {i = j} {x = x} {xs = xs} f a l) b m i y h c r =
       go (ℕ-discrete i j) (λ k. listed-assigns d l (omega arith) m i y k c r)
     where
-      go : Dec (i ≡ j) → (i < j → assign xs m y ≡ bit m (rank ws ms i)) → pick (sameAtom x y) (bit m (length xs)) (assign xs m y) ≡ bit m (rank ws ms i)
+      go : Dec (i ≡ j) → (i < j → assign xs m y ≡ bit m (rank ws ms least i)) → pick (sameAtom x y) (bit m (length xs)) (assign xs m y) ≡ bit m (rank ws ms least i)
       go (yes q) ih =
           let e : x ≡ y = atom-one a (rw q at r) in
-          let n : length xs ≡ rank ws ms i = rw q (listed-length l) in
+          let n : length xs ≡ rank ws ms least i = rw q (listed-length l) in
           rw (e, sameAtom-refl y, n)
       go (no q) ih = rw (same-turned y x (d .apart i j y x (omega arith) (omega arith) r a)) (ih (omega arith))

@@ -1,14 +1,15 @@
--- The words are right: bit p of a marked row's word is the truth of its formula under assignment 64 * block + p. Assumes nothing.
+-- The words are right: bit p of the word of a row that has at least the mark is the truth of its formula under assignment 64 * block + p.
+-- Assumes nothing.
 use mathlib.Core.Bool.{Bool, true, false, not, _&&_, Bool·beq, false≢true}
 use mathlib.Core.List.{List, [], _∷_, _++_}
 use mathlib.Core.Logic.{_⊎_, inl, inr}
 use mathlib.Core.Path.{_≡_, refl, sym, ap, ap₂, _∙_}
 use Prim.Native.Nat.{ℕ, zero, suc, _+_, _-_, _*_, _^_, _≤_, _<_}
-use borrow.Author.Tests.{ne-eqb, le-leb}
+use borrow.Author.Tests.{le-ltb, le-leb}
 use native.Mathlib.Decide.{ℕ-discrete, le-ind}
 use native.Mathlib.Omega.{arith}
 use lib.Bits.{bitAnd, bitXor, and-lt, xor-lt}
-use lib.Dec.{ltb, eqb, lit<}
+use lib.Dec.{ltb, lit<}
 use lib.ListN.{getD, List·getD-append}
 use lib.Seq.{getD-at}
 use Rattle.script.specs.Tests.{pick}
@@ -21,10 +22,10 @@ use Rattle.terms.specs.Terms.{rowIn, countIn, bitOf, TruthRow, constantRow, ato
 use Rattle.terms.specs.declared.Row.{Row}
 use Rattle.decision.specs.Atoms.{assign, assign-respects}
 use Rattle.decision.specs.Bits.{bit, bit-and, bit-xor, bit-not}
-use Rattle.decision.specs.Code.{ones, spreadOf, patternOf, seenAfter, rank, rowWord, wordOf, words}
-use Rattle.decision.specs.Code.Laws.{words-length}
+use Rattle.decision.specs.Code.{ones, spreadOf, patternOf, rank, rowWord, wordOf, words}
+use Rattle.decision.specs.Code.Laws.{seen-grows, words-length}
 use Rattle.decision.specs.Listed.{Counted, Listed, rank-counted, listed-in, listed-assigns}
-use Rattle.decision.specs.Marks.{Operand}
+use Rattle.decision.specs.Marks.{Operand, AtLeast}
 use Rattle.decision.specs.Patterns.{pattern-bit, pattern-small, spread-bit, spread-small}
 
 -- ---- a row's word by its operator
@@ -56,32 +57,32 @@ module _ (r : Row) (x y m block : ℕ) where
 
 -- ---- a row's word by the words of its operands
 
-module _ (ws ms : List ℕ) (block : ℕ) where
+module _ (ws ms : List ℕ) (least block : ℕ) where
   pub words-at : (n i : ℕ) → i < n
-      → getD (words ws ms block n) i 0 ≡ wordOf (words ws ms block i) (rowIn ws i) (getD ms i 0) (rank ws ms i) block
+      → getD (words ws ms least block n) i 0 ≡ wordOf (words ws ms least block i) (rowIn ws i) (getD ms i 0) least (rank ws ms least i) block
   unfolding words
   words-at zero i h = absurd (omega arith)
   words-at (suc n) i h = go (ℕ-discrete n i) (words-at n i)
     where
       w : ℕ
-      w = wordOf (words ws ms block n) (rowIn ws n) (getD ms n 0) (rank ws ms n) block
+      w = wordOf (words ws ms least block n) (rowIn ws n) (getD ms n 0) least (rank ws ms least n) block
 
-      go : Dec (n ≡ i) → (i < n → getD (words ws ms block n) i 0 ≡ wordOf (words ws ms block i) (rowIn ws i) (getD ms i 0) (rank ws ms i) block)
-          → getD (words ws ms block n ++ (wordOf (words ws ms block n) (rowIn ws n) (getD ms n 0) (rank ws ms n) block ∷ [])) i 0
-          ≡ wordOf (words ws ms block i) (rowIn ws i) (getD ms i 0) (rank ws ms i) block
-      go (yes q) ih = rw q (getD-at (words ws ms block i) _ [] 0 i (words-length ws ms block i))
+      go : Dec (n ≡ i) → (i < n → getD (words ws ms least block n) i 0 ≡ wordOf (words ws ms least block i) (rowIn ws i) (getD ms i 0) least (rank ws ms least i) block)
+          → getD (words ws ms least block n ++ (wordOf (words ws ms least block n) (rowIn ws n) (getD ms n 0) least (rank ws ms least n) block ∷ [])) i 0
+          ≡ wordOf (words ws ms least block i) (rowIn ws i) (getD ms i 0) least (rank ws ms least i) block
+      go (yes q) ih = rw q (getD-at (words ws ms least block i) _ [] 0 i (words-length ws ms least block i))
       go (no q) ih =
-          let l = words-length ws ms block n in
-          List·getD-append (words ws ms block n) _ 0 i (omega arith) ∙ ih (omega arith)
+          let l = words-length ws ms least block n in
+          List·getD-append (words ws ms least block n) _ 0 i (omega arith) ∙ ih (omega arith)
 
-  words-same : (n i j : ℕ) → j < i → j < n → getD (words ws ms block i) j 0 ≡ getD (words ws ms block n) j 0
+  pub words-same : (n i j : ℕ) → j < i → j < n → getD (words ws ms least block i) j 0 ≡ getD (words ws ms least block n) j 0
   words-same n i j h k = words-at i j h ∙ sym (words-at n j k)
 
-  word-row : (n i : ℕ) → i < n → 0 < getD ms i 0
-      → getD (words ws ms block n) i 0
-      ≡ rowWord (rowIn ws i) (getD (words ws ms block i) (rowIn ws i .a) 0) (getD (words ws ms block i) (rowIn ws i .b) 0) (rank ws ms i) block
+  word-row : (n i : ℕ) → i < n → least ≤ getD ms i 0
+      → getD (words ws ms least block n) i 0
+      ≡ rowWord (rowIn ws i) (getD (words ws ms least block i) (rowIn ws i .a) 0) (getD (words ws ms least block i) (rowIn ws i .b) 0) (rank ws ms least i) block
   unfolding wordOf
-  word-row n i h k = words-at n i h ∙ rw (ne-eqb (getD ms i 0) 0 (λ e. omega arith))
+  word-row n i h k = words-at n i h ∙ rw (le-ltb (getD ms i 0) least k)
 
 -- ---- right words
 
@@ -114,129 +115,136 @@ module _ {xs : List Atom} {block : ℕ} where
             ∙ ap₂ Bool·beq (r .bits p h) (s .bits p h);
       }
 
-  right-constant : (b : Bool) → Right xs block (spreadOf (bitOf b)) (constantly b)
+  pub right-constant : (b : Bool) → Right xs block (spreadOf (bitOf b)) (constantly b)
   unfolding holds
   right-constant true = record { small = spread-small 1; bits = λ p h. spread-bit 1 p (lit< tt) h }
   right-constant false = record { small = spread-small 0; bits = λ p h. spread-bit 0 p (lit< tt) h }
 
 -- ---- all marked rows have right words
 
--- with a marked row its operands are marked
-pub record Closed (ws ms : List ℕ) (n : ℕ) : Type 0 where
-  pub first : (i : ℕ) → i < n → Operand 4 (rowIn ws i .op) (getD ms i 0) i (rowIn ws i .a) → 0 < getD ms (rowIn ws i .a) 0
-  pub second : (i : ℕ) → i < n → Operand 5 (rowIn ws i .op) (getD ms i 0) i (rowIn ws i .b) → 0 < getD ms (rowIn ws i .b) 0
+-- what holds of a row's mark holds of its operands' marks
+pub record Closed (P : ℕ → Type 0) (ws ms : List ℕ) (n : ℕ) : Type 0 where
+  pub some : (i : ℕ) → P (getD ms i 0) → 0 < getD ms i 0
+  pub first : (i : ℕ) → i < n → Operand 4 (rowIn ws i .op) (getD ms i 0) i (rowIn ws i .a) → P (getD ms i 0) → P (getD ms (rowIn ws i .a) 0)
+  pub second : (i : ℕ) → i < n → Operand 5 (rowIn ws i .op) (getD ms i 0) i (rowIn ws i .b) → P (getD ms i 0) → P (getD ms (rowIn ws i .b) 0)
 
-seen-grows : (op mark seen : ℕ) → seen ≤ seenAfter op mark seen
-unfolding seenAfter
-seen-grows op mark seen = go (eqb mark 0) (ltb op 8)
-  where
-    go : (a b : Bool) → seen ≤ pick a seen (pick b seen (seen + 1))
-    go true b = omega arith
-    go false true = omega arith
-    go false false = omega arith
-
-rank-more : (ws ms : List ℕ) (i : ℕ) → rank ws ms i ≤ rank ws ms (suc i)
+rank-more : (ws ms : List ℕ) (least i : ℕ) → rank ws ms least i ≤ rank ws ms least (suc i)
 unfolding rank
-rank-more ws ms i = seen-grows (rowIn ws i .op) (getD ms i 0) (rank ws ms i)
+rank-more ws ms least i = seen-grows (rowIn ws i .op) (getD ms i 0) least (rank ws ms least i)
 
-rank-grows : (ws ms : List ℕ) (i n : ℕ) → i ≤ n → rank ws ms i ≤ rank ws ms n
-rank-grows ws ms i n h = le-ind (λ (m : ℕ). rank ws ms i ≤ rank ws ms m) (omega arith) (λ m l e. let o = rank-more ws ms m in omega arith) n h
+pub rank-grows : (ws ms : List ℕ) (least i n : ℕ) → i ≤ n → rank ws ms least i ≤ rank ws ms least n
+rank-grows ws ms least i n h =
+    le-ind (λ (m : ℕ). rank ws ms least i ≤ rank ws ms least m) (omega arith) (λ m l e. let o = rank-more ws ms least m in omega arith) n h
 
-atom-op : {ws : List ℕ} {i : ℕ} {x : Atom} → AtomRow ws i x → 7 < rowIn ws i .op
+pub atom-op : {ws : List ℕ} {i : ℕ} {x : Atom} → AtomRow ws i x → 7 < rowIn ws i .op
 atom-op (truthSymbolRow eo ea eb) = omega arith
 atom-op (pairRow eo ea eb) = omega arith
 atom-op (differenceRow eo ea eb ja jb p q) = omega arith
 
 -- an atom of two formulas is one of the first or one of the second
-pub either : {b : Bool} (f g : Formula) (z : Atom) → among (atomsOf f ++ atomsOf g) z ≡ true → (among (atomsOf f) z ≡ true → b ≡ true)
-    → (among (atomsOf g) z ≡ true → b ≡ true) → b ≡ true
-either {b} f g z m p q = go (or-cases (among (atomsOf f) z) (among (atomsOf g) z) (sym (among-append (atomsOf f) (atomsOf g) z) ∙ m))
-  where
-    go : (among (atomsOf f) z ≡ true) ⊎ (among (atomsOf g) z ≡ true) → b ≡ true
-    go (inl h) = p h
-    go (inr h) = q h
+pub either : (f g : Formula) (z : Atom) → among (atomsOf f ++ atomsOf g) z ≡ true → (among (atomsOf f) z ≡ true) ⊎ (among (atomsOf g) z ≡ true)
+either f g z m = or-cases (among (atomsOf f) z) (among (atomsOf g) z) (sym (among-append (atomsOf f) (atomsOf g) z) ∙ m)
+
+-- ---- the atoms of a marked row's formula have marked rows
+
+-- the row of an atom
+pub data RowOf (P : ℕ → Type 0) (ws ms : List ℕ) (n : ℕ) (z : Atom) : Type 0 where
+  row-of : (i : ℕ) {x : Atom} → i < n → AtomRow ws i x → sameAtom x z ≡ true → P (getD ms i 0) → RowOf P ws ms n z
+
+module _ {P : ℕ → Type 0} {ws ms : List ℕ} {n : ℕ} (s : Closed P ws ms n) where
+  -- a marked operand below its row
+  first-marked : (i j : ℕ) → i < n → P (getD ms i 0) → 4 ≤ rowIn ws i .op → rowIn ws i .op ≤ 7 → rowIn ws i .a ≡ j → j < i → P (getD ms j 0)
+  first-marked i j h k l u e b = rw e at (s .first i h (record { marks = s .some i k; low = l; high = u; below = omega arith }) k)
+
+  second-marked : (i j : ℕ) → i < n → P (getD ms i 0) → 5 ≤ rowIn ws i .op → rowIn ws i .op ≤ 7 → rowIn ws i .b ≡ j → j < i → P (getD ms j 0)
+  second-marked i j h k l u e b = rw e at (s .second i h (record { marks = s .some i k; low = l; high = u; below = omega arith }) k)
+
+  two-rows : (f g : Formula) (z : Atom) → among (atomsOf f ++ atomsOf g) z ≡ true → (among (atomsOf f) z ≡ true → RowOf P ws ms n z)
+      → (among (atomsOf g) z ≡ true → RowOf P ws ms n z) → RowOf P ws ms n z
+  two-rows f g z m p q = go (either f g z m)
+    where
+      go : (among (atomsOf f) z ≡ true) ⊎ (among (atomsOf g) z ≡ true) → RowOf P ws ms n z
+      go (inl h) = p h
+      go (inr h) = q h
+
+  pub rows-of : {i : ℕ} {f : Formula} → TruthRow ws i f → i < n → P (getD ms i 0) → (z : Atom) → among (atomsOf f) z ≡ true → RowOf P ws ms n z
+  unfolding atomsOf among
+  rows-of (constantRow eo ea) h k z m = absurd (false≢true m)
+  rows-of (atomRow {i = i} {x = x} {y = y} a e) h k z m = go (or-cases (sameAtom y z) false m)
+    where
+      go : (sameAtom y z ≡ true) ⊎ (false ≡ true) → RowOf P ws ms n z
+      go (inl q) = row-of i h a (sameAtom-trans x y z e q) k
+      go (inr q) = absurd (false≢true q)
+  rows-of (negationRow {i = i} {j = j} eo ea ja t) h k z m =
+      rows-of t (omega arith) (first-marked i j h k (omega arith) (omega arith) ea ja) z m
+  rows-of (conjunctionRow {i = i} {j = j} {k = l} {f = f} {g = g} eo ea eb ja jb t u) h k z m =
+      two-rows f g z m
+      (rows-of t (omega arith) (first-marked i j h k (omega arith) (omega arith) ea ja) z)
+      (rows-of u (omega arith) (second-marked i l h k (omega arith) (omega arith) eb jb) z)
+  rows-of (equalityRow {i = i} {j = j} {k = l} {f = f} {g = g} eo ea eb ja jb t u) h k z m =
+      two-rows f g z m
+      (rows-of t (omega arith) (first-marked i j h k (omega arith) (omega arith) ea ja) z)
+      (rows-of u (omega arith) (second-marked i l h k (omega arith) (omega arith) eb jb) z)
+  rows-of (exclusionRow {i = i} {j = j} {k = l} {f = f} {g = g} eo ea eb ja jb t u) h k z m =
+      two-rows f (negation g) z m
+      (rows-of t (omega arith) (first-marked i j h k (omega arith) (omega arith) ea ja) z)
+      (rows-of u (omega arith) (second-marked i l h k (omega arith) (omega arith) eb jb) z)
 
 -- what the words stand on
-pub record Sweep (ws ms : List ℕ) (n : ℕ) (xs : List Atom) : Type 0 where
+pub record Sweep (ws ms : List ℕ) (least n : ℕ) (xs : List Atom) : Type 0 where
   pub distinct : Distinct ws
   pub rows : n ≤ countIn ws
-  pub closed : Closed ws ms n
-  pub listed : Listed ws ms n xs
+  pub closed : Closed (AtLeast least) ws ms n
+  pub listed : Listed ws ms least n xs
 
-module _ {ws ms : List ℕ} {n : ℕ} {xs : List Atom} (s : Sweep ws ms n xs) where
-  -- a marked operand below its row
-  first-marked : (i j : ℕ) → i < n → 0 < getD ms i 0 → 4 ≤ rowIn ws i .op → rowIn ws i .op ≤ 7 → rowIn ws i .a ≡ j → j < i → 0 < getD ms j 0
-  first-marked i j h k l u e b = rw e at (s .closed .first i h (record { marks = k; low = l; high = u; below = omega arith }))
-
-  second-marked : (i j : ℕ) → i < n → 0 < getD ms i 0 → 5 ≤ rowIn ws i .op → rowIn ws i .op ≤ 7 → rowIn ws i .b ≡ j → j < i → 0 < getD ms j 0
-  second-marked i j h k l u e b = rw e at (s .closed .second i h (record { marks = k; low = l; high = u; below = omega arith }))
-
+module _ {ws ms : List ℕ} {least n : ℕ} {xs : List Atom} (s : Sweep ws ms least n xs) where
   -- the atoms of a marked row's formula are listed
-  pub rows-listed : {i : ℕ} {f : Formula} → TruthRow ws i f → i < n → 0 < getD ms i 0 → (z : Atom) → among (atomsOf f) z ≡ true → among xs z ≡ true
-  unfolding atomsOf among
-  rows-listed (constantRow eo ea) h k z m = absurd (false≢true m)
-  rows-listed (atomRow {i = i} {x = x} {y = y} a e) h k z m = go (or-cases (sameAtom y z) false m)
+  pub rows-listed : {i : ℕ} {f : Formula} → TruthRow ws i f → i < n → least ≤ getD ms i 0 → (z : Atom) → among (atomsOf f) z ≡ true → among xs z ≡ true
+  rows-listed t h k z m = go (rows-of (s .closed) t h k z m)
     where
-      go : (sameAtom y z ≡ true) ⊎ (false ≡ true) → among xs z ≡ true
-      go (inl q) =
-          sym (among-same xs x z (sameAtom-trans x y z e q))
-          ∙ listed-in (s .listed) i x h (record { marks = k; atoms = atom-op a }) a
-      go (inr q) = absurd (false≢true q)
-  rows-listed (negationRow {i = i} {j = j} eo ea ja t) h k z m =
-      rows-listed t (omega arith) (first-marked i j h k (omega arith) (omega arith) ea ja) z m
-  rows-listed (conjunctionRow {i = i} {j = j} {k = l} {f = f} {g = g} eo ea eb ja jb t u) h k z m =
-      either f g z m
-      (rows-listed t (omega arith) (first-marked i j h k (omega arith) (omega arith) ea ja) z)
-      (rows-listed u (omega arith) (second-marked i l h k (omega arith) (omega arith) eb jb) z)
-  rows-listed (equalityRow {i = i} {j = j} {k = l} {f = f} {g = g} eo ea eb ja jb t u) h k z m =
-      either f g z m
-      (rows-listed t (omega arith) (first-marked i j h k (omega arith) (omega arith) ea ja) z)
-      (rows-listed u (omega arith) (second-marked i l h k (omega arith) (omega arith) eb jb) z)
-  rows-listed (exclusionRow {i = i} {j = j} {k = l} {f = f} {g = g} eo ea eb ja jb t u) h k z m =
-      either f (negation g) z m
-      (rows-listed t (omega arith) (first-marked i j h k (omega arith) (omega arith) ea ja) z)
-      (rows-listed u (omega arith) (second-marked i l h k (omega arith) (omega arith) eb jb) z)
+      go : RowOf (AtLeast least) ws ms n z → among xs z ≡ true
+      go (row-of i {x = x} l a e p) = sym (among-same xs x z e) ∙ listed-in (s .listed) i x l (record { marks = p; atoms = atom-op a }) a
 
-  module _ (few : rank ws ms n ≤ 10) (block : ℕ) where
+  module _ (few : rank ws ms least n ≤ 10) (block : ℕ) where
     -- an operand's word
-    operand-word : (i a j : ℕ) → i < n → a ≡ j → j < i → getD (words ws ms block i) a 0 ≡ getD (words ws ms block n) j 0
-    operand-word i a j h e b = ap (λ (k : ℕ). getD (words ws ms block i) k 0) e ∙ words-same ws ms block n i j b (omega arith)
+    operand-word : (i a j : ℕ) → i < n → a ≡ j → j < i → getD (words ws ms least block i) a 0 ≡ getD (words ws ms least block n) j 0
+    operand-word i a j h e b = ap (λ (k : ℕ). getD (words ws ms least block i) k 0) e ∙ words-same ws ms least block n i j b (omega arith)
 
-    right-atom : (i : ℕ) (x y : Atom) → AtomRow ws i x → sameAtom x y ≡ true → i < n → 0 < getD ms i 0
-        → Right xs block (patternOf (rank ws ms i) block) (atom y)
+    right-atom : (i : ℕ) (x y : Atom) → AtomRow ws i x → sameAtom x y ≡ true → i < n → least ≤ getD ms i 0
+        → Right xs block (patternOf (rank ws ms least i) block) (atom y)
     unfolding holds
     right-atom i x y a e h k =
-        let c : Counted ws ms i = record { marks = k; atoms = atom-op a } in
+        let c : Counted ws ms least i = record { marks = k; atoms = atom-op a } in
         let r = rank-counted i c in
-        let g = rank-grows ws ms (suc i) n h in
+        let g = rank-grows ws ms least (suc i) n h in
         record {
-          small = pattern-small (rank ws ms i) block;
+          small = pattern-small (rank ws ms least i) block;
           bits = λ p q.
-              pattern-bit (rank ws ms i) block p (omega arith) q
+              pattern-bit (rank ws ms least i) block p (omega arith) q
               ∙ sym (listed-assigns (s .distinct) (s .listed) (s .rows) (block * 64 + p) i x h c a)
               ∙ assign-respects xs (block * 64 + p) .same x y e;
         }
 
-    pub rows-right : {i : ℕ} {f : Formula} → TruthRow ws i f → i < n → 0 < getD ms i 0 → Right xs block (getD (words ws ms block n) i 0) f
+    pub rows-right : {i : ℕ} {f : Formula} → TruthRow ws i f → i < n → least ≤ getD ms i 0 → Right xs block (getD (words ws ms least block n) i 0) f
     rows-right (constantRow {i = i} {b = b} eo ea) h k =
-        rw (word-row ws ms block n i h k, word-constant (rowIn ws i) _ _ _ block eo, ea) (right-constant b)
+        rw (word-row ws ms least block n i h k, word-constant (rowIn ws i) _ _ _ block eo, ea) (right-constant b)
     rows-right (atomRow {i = i} {x = x} {y = y} a e) h k =
-        rw (word-row ws ms block n i h k, word-atom (rowIn ws i) _ _ _ block (atom-op a)) (right-atom i x y a e h k)
+        rw (word-row ws ms least block n i h k, word-atom (rowIn ws i) _ _ _ block (atom-op a)) (right-atom i x y a e h k)
     rows-right (negationRow {i = i} {j = j} eo ea ja t) h k =
-        rw (word-row ws ms block n i h k, word-negation (rowIn ws i) _ _ _ block eo, operand-word i (rowIn ws i .a) j h ea ja)
-        (right-negation (rows-right t (omega arith) (first-marked i j h k (omega arith) (omega arith) ea ja)))
+        rw (word-row ws ms least block n i h k, word-negation (rowIn ws i) _ _ _ block eo, operand-word i (rowIn ws i .a) j h ea ja)
+        (right-negation (rows-right t (omega arith) (first-marked (s .closed) i j h k (omega arith) (omega arith) ea ja)))
     rows-right (conjunctionRow {i = i} {j = j} {k = m} eo ea eb ja jb t u) h k =
-        rw (word-row ws ms block n i h k, word-conjunction (rowIn ws i) _ _ _ block eo, operand-word i (rowIn ws i .a) j h ea ja, operand-word i (rowIn ws i .b) m h eb jb)
+        rw (word-row ws ms least block n i h k, word-conjunction (rowIn ws i) _ _ _ block eo, operand-word i (rowIn ws i .a) j h ea ja, operand-word i (rowIn ws i .b) m h eb jb)
         (right-conjunction
-        (rows-right t (omega arith) (first-marked i j h k (omega arith) (omega arith) ea ja))
-        (rows-right u (omega arith) (second-marked i m h k (omega arith) (omega arith) eb jb)))
+        (rows-right t (omega arith) (first-marked (s .closed) i j h k (omega arith) (omega arith) ea ja))
+        (rows-right u (omega arith) (second-marked (s .closed) i m h k (omega arith) (omega arith) eb jb)))
     rows-right (equalityRow {i = i} {j = j} {k = m} eo ea eb ja jb t u) h k =
-        rw (word-row ws ms block n i h k, word-equality (rowIn ws i) _ _ _ block eo, operand-word i (rowIn ws i .a) j h ea ja, operand-word i (rowIn ws i .b) m h eb jb)
+        rw (word-row ws ms least block n i h k, word-equality (rowIn ws i) _ _ _ block eo, operand-word i (rowIn ws i .a) j h ea ja, operand-word i (rowIn ws i .b) m h eb jb)
         (right-equality
-        (rows-right t (omega arith) (first-marked i j h k (omega arith) (omega arith) ea ja))
-        (rows-right u (omega arith) (second-marked i m h k (omega arith) (omega arith) eb jb)))
+        (rows-right t (omega arith) (first-marked (s .closed) i j h k (omega arith) (omega arith) ea ja))
+        (rows-right u (omega arith) (second-marked (s .closed) i m h k (omega arith) (omega arith) eb jb)))
     rows-right (exclusionRow {i = i} {j = j} {k = m} eo ea eb ja jb t u) h k =
-        rw (word-row ws ms block n i h k, word-exclusion (rowIn ws i) _ _ _ block eo, operand-word i (rowIn ws i .a) j h ea ja, operand-word i (rowIn ws i .b) m h eb jb)
+        rw (word-row ws ms least block n i h k, word-exclusion (rowIn ws i) _ _ _ block eo, operand-word i (rowIn ws i .a) j h ea ja, operand-word i (rowIn ws i .b) m h eb jb)
         (right-conjunction
-        (rows-right t (omega arith) (first-marked i j h k (omega arith) (omega arith) ea ja))
-        (right-negation (rows-right u (omega arith) (second-marked i m h k (omega arith) (omega arith) eb jb))))
+        (rows-right t (omega arith) (first-marked (s .closed) i j h k (omega arith) (omega arith) ea ja))
+        (right-negation (rows-right u (omega arith) (second-marked (s .closed) i m h k (omega arith) (omega arith) eb jb))))

@@ -1,11 +1,12 @@
 // The decision at an `if`: which branches some assignment of the atoms allows. First the rows that the condition and the guard reach are marked, and the
-// atoms among them counted, the lowest row first. Then the rows are computed for 64 assignments at a time, one bit each.
+// atoms among them counted. Then the rows are computed for 64 assignments at a time, one bit each. A guard that shares no atom with the condition is
+// decided alone: the condition of a path is satisfiable.
 ghost use mathlib.Core.Bool.{_&&_};
 ghost use mathlib.Core.Path.{_≡_};
 ghost use Prim.Native.Nat.{_+_, _<_, _≤_};
 ghost use lib.ListN.{length, getD, take};
 ghost use Rattle.decision.specs.Decision.{branchesOf};
-ghost use Rattle.decision.specs.Code.{above as after, Room, operandBelow, reached, markRow, marked, seenAfter, rank, spreadOf, patternOf, rowWord, wordOf, words as wordsOf, blocksOf, nonZero, searched};
+ghost use Rattle.decision.specs.Code.{above as after, Room, Low, operandBelow, reached, markRow, marked, seenAfter, Visited, countsOf, spreadOf, patternOf, rowWord, Stepped, words as wordsOf, blocksOf, conditionWord, nonZero, searched};
 ghost use Rattle.decision.specs.Promise.{Decides};
 ghost use Rattle.terms.specs.Terms.{rowLimit, rowsEnd};
 use terms::CONJUNCTION;
@@ -26,8 +27,22 @@ pub enum Decision {
     OnlyFalse,
 }
 
+// How many atoms are marked, how many of them the guard reaches, and how many both do.
+struct Counts {
+    all: u32,
+    own: u32,
+    shared: u32,
+}
+
 // At most how many different atoms a decision has.
 const ATOMS: u32 = 10;
+
+// What a mark says: the condition reaches the row, the guard does, or both do. So a row that the guard reaches has at least its mark.
+const CONDITION: u8 = 1;
+
+const GUARD: u8 = 2;
+
+const BOTH: u8 = 3;
 
 // A word of which each bit is 1.
 const ONES: u64 = 0xFFFF_FFFF_FFFF_FFFF;
@@ -44,7 +59,7 @@ fn above(a: usize, b: usize) -> usize
 }
 
 // Below which row an operand of row i lies that the operators from `least` on have; 0 if the row is not marked or has none.
-fn operand_below(least: u32, op: u32, mark: u32, i: usize) -> usize
+fn operand_below(least: u32, op: u32, mark: u8, i: usize) -> usize
     ensures { λ r. ⌜ r ≡ operandBelow least op mark i ⌝ }
 {
     if mark == 0 {
@@ -59,46 +74,39 @@ fn operand_below(least: u32, op: u32, mark: u32, i: usize) -> usize
     i
 }
 
-// Marks row a, if it is below the row given.
-fn reach(marks: &mut [u32], a: u32, below: usize)
+// Adds a mark to row a, if it is below the row given.
+fn reach(marks: &mut [u8], a: u32, below: usize, mark: u8)
     requires { ⌜ below ≤ length (now marks) ⌝ }
-    ensures { λ _. ⌜ now (marks .exit) ≡ reached (now (marks .entry)) a below ⌝ }
+    ensures { λ _. ⌜ now (marks .exit) ≡ reached (now (marks .entry)) a below mark ⌝ }
 {
     let k = a as usize;
     if below <= k {
         return;
     }
-    marks[k] = 1;
+    marks[k] = marks[k] | mark;
 }
 
-// Marks the operands of row i, if that is marked.
-fn mark_row(marks: &mut [u32], row: Row, i: usize)
+// The operands of row i have its mark too.
+fn mark_row(marks: &mut [u8], row: Row, i: usize)
     requires { ⌜ i < length (now marks) ⌝ }
     ensures { λ _. ⌜ now (marks .exit) ≡ markRow (now (marks .entry)) row i ⌝ }
 {
     let mark = marks[i];
-    reach(marks, row.a, operand_below(NEGATION, row.op, mark, i));
-    reach(marks, row.b, operand_below(CONJUNCTION, row.op, mark, i));
+    reach(marks, row.a, operand_below(NEGATION, row.op, mark, i), mark);
+    reach(
+        marks,
+        row.b,
+        operand_below(CONJUNCTION, row.op, mark, i),
+        mark,
+    );
 }
 
-// Marks what the marked rows below n reach: from the last row down, each marks its operands.
-fn mark_all(space: &[u32], n: usize, marks: &mut [u32])
-    requires { ⌜ Room (now space) n (now marks) ⌝ }
-    ensures { λ _. ⌜ now (marks .exit) ≡ marked (now (space .entry)) n (now (marks .entry)) ⌝ }
-{
-    let mut j = n;
-    while 0 < j {
-        j -= 1;
-        mark_row(marks, row_at(space, j), j);
-    }
-}
-
-// How many atoms are seen after a row.
-fn seen_after(op: u32, mark: u32, seen: u32) -> u32
+// How many atoms with at least a mark are seen after a row.
+fn seen_after(op: u32, mark: u8, least: u8, seen: u32) -> u32
     requires { ⌜ seen < rowLimit ⌝ }
-    ensures { λ r. ⌜ r ≡ seenAfter op mark seen ⌝ }
+    ensures { λ r. ⌜ r ≡ seenAfter op mark least seen ⌝ }
 {
-    if mark == 0 {
+    if mark < least {
         return seen;
     }
     if op < TRUTH {
@@ -107,18 +115,45 @@ fn seen_after(op: u32, mark: u32, seen: u32) -> u32
     seen + 1
 }
 
-// How many of the first n rows are marked atoms.
-fn count_atoms(space: &[u32], n: usize, marks: &[u32]) -> u32
-    requires { ⌜ Room (now space) n (now marks) ⌝ }
-    ensures { λ r. ⌜ r ≡ rank (now (space .entry)) (now (marks .entry)) n ⌝ }
+// Row i: an atom is counted, of another row the operands are marked. Most rows have no mark.
+fn visit(space: &[u32], marks: &mut [u8], i: usize, counts: Counts) -> Counts
+    requires { ⌜ Room (now space) (i + 1) (now marks) ⌝ }
+    requires { ⌜ Low counts ⌝ }
+    ensures { λ r. ⌜ Visited (now (space .entry)) (now (marks .entry)) i counts r (now (marks .exit)) ⌝ }
 {
-    let mut seen = 0;
-    let mut i = 0;
-    while i < n {
-        seen = seen_after(row_at(space, i).op, marks[i], seen);
-        i += 1;
+    let mark = marks[i];
+    if mark == 0 {
+        return counts;
     }
-    seen
+    let row = row_at(space, i);
+    if TRUTH <= row.op {
+        return Counts {
+            all: seen_after(row.op, mark, CONDITION, counts.all),
+            own: seen_after(row.op, mark, GUARD, counts.own),
+            shared: seen_after(row.op, mark, BOTH, counts.shared),
+        };
+    }
+    mark_row(marks, row, i);
+    counts
+}
+
+// Marks what the marked rows below n reach, from the last row down, and counts the atoms.
+fn mark_all(space: &[u32], n: usize, marks: &mut [u8]) -> Counts
+    requires { ⌜ Room (now space) n (now marks) ⌝ }
+    ensures { λ r. ⌜ r ≡ countsOf (now (space .entry)) (now (marks .exit)) n ⌝ }
+    ensures { λ r. ⌜ now (marks .exit) ≡ marked (now (space .entry)) n (now (marks .entry)) ⌝ }
+{
+    let mut counts = Counts {
+        all: 0,
+        own: 0,
+        shared: 0,
+    };
+    let mut j = n;
+    while 0 < j {
+        j -= 1;
+        counts = visit(space, marks, j, counts);
+    }
+    counts
 }
 
 // A word of which each bit is b, where b is 0 or 1.
@@ -187,36 +222,47 @@ fn row_word(row: Row, x: u64, y: u64, m: u32, block: u32) -> u64
     0
 }
 
-// The truths of row i, by the words of the rows before; 0 if it is not marked.
-fn word_at(words: &[u64], row: Row, mark: u32, i: usize, m: u32, block: u32) -> u64
-    requires { ⌜ i ≤ length (now words) ⌝ }
-    ensures { λ r. ⌜ r ≡ wordOf (take i (now (words .entry))) row mark m block ⌝ }
+// The truths of row i, by the words of the rows before: 0 if it has less than the mark. Answers the number of the next atom.
+fn sweep_row(
+    space: &[u32],
+    marks: &[u8],
+    least: u8,
+    block: u32,
+    words: &mut [u64],
+    i: usize,
+    seen: u32,
+) -> u32
+    requires { ⌜ Room (now space) (i + 1) (now marks) ⌝ }
+    requires { ⌜ i < length (now words) ⌝ }
+    requires { ⌜ seen < rowLimit ⌝ }
+    ensures { λ r. ⌜ Stepped (now (space .entry)) (now (marks .entry)) least block (now (words .entry)) i seen r (now (words .exit)) ⌝ }
 {
-    if mark == 0 {
-        return 0;
+    let mark = marks[i];
+    if mark < least {
+        words[i] = 0;
+        return seen;
     }
-    row_word(
+    let row = row_at(space, i);
+    words[i] = row_word(
         row,
         operand(words, row.a, i),
         operand(words, row.b, i),
-        m,
+        seen,
         block,
-    )
+    );
+    seen_after(row.op, mark, least, seen)
 }
 
-// The truths of the first n rows under the assignments of one block.
-fn sweep(space: &[u32], n: usize, marks: &[u32], block: u32, words: &mut [u64])
+// The truths of those of the first n rows that have at least a mark, under the assignments of one block.
+fn sweep(space: &[u32], n: usize, marks: &[u8], least: u8, block: u32, words: &mut [u64])
     requires { ⌜ Room (now space) n (now marks) ⌝ }
     requires { ⌜ n ≤ length (now words) ⌝ }
-    ensures { λ _. ⌜ take n (now (words .exit)) ≡ wordsOf (now (space .entry)) (now (marks .entry)) block n ⌝ }
+    ensures { λ _. ⌜ take n (now (words .exit)) ≡ wordsOf (now (space .entry)) (now (marks .entry)) least block n ⌝ }
 {
     let mut seen = 0;
     let mut i = 0;
     while i < n {
-        let row = row_at(space, i);
-        let mark = marks[i];
-        words[i] = word_at(words, row, mark, i, seen, block);
-        seen = seen_after(row.op, mark, seen);
+        seen = sweep_row(space, marks, least, block, words, i, seen);
         i += 1;
     }
 }
@@ -257,11 +303,29 @@ fn both_found(yes: u64, no: u64) -> bool
     no != 0
 }
 
-// The branches that some assignment of the blocks allows.
-fn search(space: &[u32], condition: usize, guard: usize, marks: &[u32], blocks: u32) -> Decision
+// The truths of the condition; where only the guard's rows have words, it is true.
+fn condition_word(words: &[u64], condition: usize, least: u8) -> u64
+    requires { ⌜ condition < length (now words) ⌝ }
+    ensures { λ r. ⌜ r ≡ conditionWord (now (words .entry)) condition least ⌝ }
+{
+    if least == GUARD {
+        return ONES;
+    }
+    words[condition]
+}
+
+// The branches that some assignment of the blocks allows, by the rows that have at least a mark.
+fn search(
+    space: &[u32],
+    condition: usize,
+    guard: usize,
+    marks: &[u8],
+    least: u8,
+    blocks: u32,
+) -> Decision
     requires { ⌜ (condition < rowLimit) × (guard < rowLimit) ⌝ }
     requires { ⌜ Room (now space) (after condition guard) (now marks) ⌝ }
-    ensures { λ r. ⌜ r ≡ searched (now (space .entry)) (now (marks .entry)) condition guard blocks ⌝ }
+    ensures { λ r. ⌜ r ≡ searched (now (space .entry)) (now (marks .entry)) least condition guard blocks ⌝ }
 {
     let n = above(condition, guard);
     let mut words = [0u64; ROWS];
@@ -269,8 +333,8 @@ fn search(space: &[u32], condition: usize, guard: usize, marks: &[u32], blocks: 
     let mut no: u64 = 0;
     let mut block = 0;
     while block < blocks {
-        sweep(space, n, marks, block, &mut words);
-        let c = words[condition];
+        sweep(space, n, marks, least, block, &mut words);
+        let c = condition_word(&words, condition, least);
         let g = words[guard];
         yes = yes | (c & g);
         no = no | (c & !g);
@@ -282,7 +346,7 @@ fn search(space: &[u32], condition: usize, guard: usize, marks: &[u32], blocks: 
     branches_of(yes, no)
 }
 
-// Which of 'condition and guard' and 'condition and not guard' is satisfiable.
+// Which of 'condition and guard' and 'condition and not guard' is satisfiable, where the condition is.
 pub fn decide(space: &[u32], condition: u32, guard: u32) -> Decision
     requires { ⌜ rowsEnd ≤ length (now space) ⌝ }
     requires { ⌜ (condition < rowLimit) × (guard < rowLimit) ⌝ }
@@ -290,14 +354,15 @@ pub fn decide(space: &[u32], condition: u32, guard: u32) -> Decision
 {
     let c = condition as usize;
     let g = guard as usize;
-    let mut marks = [0u32; ROWS];
-    marks[c] = 1;
-    marks[g] = 1;
-    let n = above(c, g);
-    mark_all(space, n, &mut marks);
-    let atoms = count_atoms(space, n, &marks);
-    if ATOMS < atoms {
+    let mut marks = [0u8; ROWS];
+    marks[c] = CONDITION;
+    marks[g] = marks[g] | GUARD;
+    let counts = mark_all(space, above(c, g), &mut marks);
+    if ATOMS < counts.all {
         return Decision::TooMany;
     }
-    search(space, c, g, &marks, blocks_of(atoms))
+    if counts.shared == 0 {
+        return search(space, g, g, &marks, GUARD, blocks_of(counts.own));
+    }
+    search(space, c, g, &marks, CONDITION, blocks_of(counts.all))
 }

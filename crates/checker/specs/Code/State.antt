@@ -1,7 +1,7 @@
 -- What a workspace holds: the values of the variables, the terms, and a path with its notes and choices; what a step keeps of it, and how a step answers.
 -- Assumes nothing.
 pub mod Laws
-use mathlib.Core.Bool.{Bool}
+use mathlib.Core.Bool.{Bool, true}
 use mathlib.Core.List.{List, [], _∷_, _++_}
 use mathlib.Core.Path.{_≡_}
 use Prim.Native.Nat.{ℕ, zero, suc, _+_, _*_, _-_, _≤_, _<_}
@@ -10,6 +10,7 @@ use lib.ListN.{length, getD}
 use Rattle.script.specs.declared.Refusal.{Refusal}
 use Rattle.rules.specs.Paths.{Path, Paths, ends, stops, Write, writeOf}
 use Rattle.rules.specs.Paths.Next.{Trace, arrives, halts}
+use Rattle.rules.specs.Satisfiable.{satisfiable}
 use Rattle.rules.specs.Symbolic.{Sum, Formula, Origin, made, other, Symbolic, aWord, aTruth, aReference}
 use Rattle.terms.specs.Terms.{countIn, SumRow, TruthRow, Distinct, Grown, rowLimit, symbolLimit}
 use Rattle.checker.specs.declared.operators.Step.{Step}
@@ -70,10 +71,12 @@ pub data Log (ws : List ℕ) : ℕ → List Write → Type 0 where
       → Means ws (getD ws (729 + 4 * k) 0) (getD ws (729 + 4 * k + 1) 0) (aReference o t s)
       → Means ws (getD ws (729 + 4 * k + 2) 0) (getD ws (729 + 4 * k + 3) 0) v → Log ws (suc k) (writeOf o t s v ∷ l)
 
+-- the condition is satisfiable: a branch is taken only where it is
 pub record PathIn (ws : List ℕ) (p : Path) : Type 0 where
   pub next : nextIn ws ≡ p .next
   pub inside : conditionIn ws < countIn ws
   pub condition : TruthRow ws (conditionIn ws) (p .condition)
+  pub allowed : satisfiable (p .condition) ≡ true
   pub log : Log ws (writesIn ws) (p .log)
   pub distinct : Distinct ws
 

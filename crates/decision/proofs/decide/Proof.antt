@@ -1,8 +1,7 @@
 -- `decision::decide` meets its contract: the parts, one after the other. Assumes nothing.
 use borrow.Author.Needs.{needs}
-use native.Mathlib.Omega.{arith}
 use Rattle.decision.specs.Code.{Room, startMarks}
-use Rattle.decision.specs.Code.Whole.{Prepared, room-start, room-marked, decided-many, decided-few}
+use Rattle.decision.specs.Code.Whole.{Prepared, room-start, room-marked, room-guard, decided-many, decided-alone, decided-both}
 use Rattle.decision.specs.Promise.{promised}
 use Rattle.decision.proofs.decide.Statement.{statement}
 use Rattle.decision.proofs.decide.Tie as tie
@@ -10,40 +9,42 @@ use Rattle.decision.proofs.decide.Tie as tie
 -- the room for the marks at first, and for what is marked
 begun : (c : tie.After-marks) → Room (c .before .before .before .args .space .now) (c .before .above .result) (startMarks (c .before .before .before .args .condition) (c .before .before .before .args .guard))
 begun c =
-    let s = c .before .before .before in
-    let a = s .args in
-    room-start (a .space .now) (a .condition) (a .guard) (c .before .above .result) (c .before .above .ensures) (s .pre .0) (s .pre .1 .0) (s .pre .1 .1)
+    let a = c .before .before .before .args in
+    let p = c .before .before .before .pre in
+    room-start (a .space .now) (a .condition) (a .guard) (c .before .above .result) (c .before .above .ensures) (p .0) (p .1 .0) (p .1 .1)
 
-room : (c : tie.After-marks3) → Room (c .before .before .before .before .before .before .args .space .now) (c .before .before .before .before .above .result) (c .before .before .mark-all .last .1 .1 .0)
-room c = room-marked _ (begun (c .before .before .before)) (c .before .before .mark-all .ensures)
+room : (c : tie.After-mark-all) → Room (c .before .before .before .before .args .space .now) (c .before .before .above .result) (c .mark-all .last .1 .1 .0)
+room c = room-marked _ (begun (c .before)) (c .mark-all .ensures .1)
 
 -- what the parts give
-parts : (c : tie.After-count-atoms) → Prepared (c .before .before .before .before .before .before .before .args .space .now) (c .before .before .before .before .before .before .before .args .condition) (c .before .before .before .before .before .before .before .args .guard) (c .before .before .before .before .before .above .result) (c .before .before .before .mark-all .last .1 .1 .0) (c .count-atoms .result)
-parts c =
-    record {
-      up = c .before .before .before .before .before .above .ensures;
-      marks = c .before .before .before .mark-all .ensures;
-      count = c .count-atoms .ensures;
-    }
+parts : (c : tie.After-mark-all) → Prepared (c .before .before .before .before .args .space .now) (c .before .before .before .before .args .condition) (c .before .before .before .before .args .guard) (c .before .before .above .result) (c .mark-all .last .1 .1 .0) (c .mark-all .result)
+parts c = record { up = c .before .before .above .ensures; marks = c .mark-all .ensures .1; counts = c .mark-all .ensures .0 }
 
 returns : tie.Need-returns
 returns c =
-    let a = c .before .before .before .before .before .before .before .before .args in
-    let t = c .if1 .taken in
-    promised (decided-many (a .space .now) (a .condition) (a .guard) (parts (c .before)) (omega arith))
+    let a = c .before .before .before .before .before .before .before .args in
+    promised (decided-many (a .space .now) (a .condition) (a .guard) (parts (c .before .before .before)) (c .if1 .taken))
 
 search-requires : tie.Need-search-requires
 search-requires c κs =
-    let m = c .before .before .before in
-    let s = m .before .before .before .before .before .before .before in
-    let e = m .before .before .before .before .before .above .ensures in
-    (s .pre .1, rw e at (room (m .before)))
+    let a = c .before .before .before .before .before .before .before .before .before .before .before .args in
+    let p = c .before .before .before .before .before .before .before .before .before .before .before .pre .1 in
+    ((p .1, p .1), room-guard (a .condition) (a .guard) (room (c .before .before .before .before .before .before .before)) (c .before .before .before .before .before .before .before .before .before .above .ensures))
 
 returns-2 : tie.Need-returns-2
 returns-2 c =
-    let m = c .before .before .before .before in
-    let a = m .before .before .before .before .before .before .before .args in
-    promised (decided-few (a .space .now) (a .condition) (a .guard) (c .before .blocks-of .result) (c .search .result) (parts m) (c .before .before .before .if1 .left) (c .before .blocks-of .ensures) (c .search .ensures))
+    let a = c .before .before .before .before .before .before .before .before .before .before .before .before .args in
+    promised (decided-alone (a .space .now) (a .condition) (a .guard) (parts (c .before .before .before .before .before .before .before .before)) (c .before .blocks-of .result) (c .search .result) (c .before .before .before .before .before .if1 .left) (c .before .before .before .if2 .taken) (c .before .blocks-of .ensures) (c .search .ensures))
+
+search-requires-2 : tie.Need-search-requires-2
+search-requires-2 c κs =
+    let e = c .before .before .before .before .before .before .before .before .before .above .ensures in
+    (c .before .before .before .before .before .before .before .before .before .before .before .pre .1, rw e at (room (c .before .before .before .before .before .before .before)))
+
+returns-3 : tie.Need-returns-3
+returns-3 c =
+    let a = c .before .before .before .before .before .before .before .before .before .before .before .before .args in
+    promised (decided-both (a .space .now) (a .condition) (a .guard) (parts (c .before .before .before .before .before .before .before .before)) (c .before .blocks-of2 .result) (c .search2 .result) (c .before .before .before .before .before .if1 .left) (c .before .before .before .if2 .left) (c .before .blocks-of2 .ensures) (c .search2 .ensures))
 
 pub decide-spec : {M : Type 1} → statement M
 decide-spec =
@@ -52,14 +53,15 @@ decide-spec =
     (λ c. search needs)
     (λ c. search needs)
     (λ c. search needs)
-    (λ c. search needs)
     (λ c κs. search needs)
     (λ c. search needs)
     (λ c κs. begun c)
-    (λ c. search needs)
-    (λ c κs. room c)
     returns
     (λ c. search needs)
     (λ c κs. search needs)
     search-requires
-    returns-2)
+    returns-2
+    (λ c. search needs)
+    (λ c κs. search needs)
+    search-requires-2
+    returns-3)

@@ -16,26 +16,22 @@ reach-requires c κs =
 
 reach-requires-2 : tie.Need-reach-requires-2
 reach-requires-2 c κs =
-    let s = c .before .before .before .before .before .before .before .before .before in
-    let a = s .args in
+    let a = c .before .before .before .before .before .before .before .before .before .args in
     let e = c .operand-below2 .ensures in
     let h = below-within 5 (a .row .op) (getD (a .marks .now) (a .i) 0) (a .i) in
-    let p = s .pre in
-    let r = c .before .before .before .before .reach in
-    let q = ap length (r .ensures) ∙ reached-length (a .marks .now) (a .row .a) (c .before .before .before .before .before .operand-below .result) in
+    let p = c .before .before .before .before .before .before .before .before .before .pre in
+    let q = ap length (c .before .before .before .before .reach .ensures) ∙ reached-length (a .marks .now) (a .row .a) (c .before .before .before .before .before .operand-below .result) (getD (a .marks .now) (a .i) 0) in
     omega arith
 
 returns : tie.Need-returns
 returns c =
-    let r = c .before .before .before .before .before .before .before in
-    let a = r .before .before .before .before .before .args in
-    mark-made (a .marks .now) _ _ (a .row) (a .i) _ _ (r .before .operand-below .ensures) (r .reach .ensures) (c .before .before .before .operand-below2 .ensures) (c .before .before .reach2 .ensures)
+    let a = c .before .before .before .before .before .before .before .before .before .before .before .before .args in
+    mark-made (a .marks .now) _ _ (a .row) (a .i) _ _ (c .before .before .before .before .before .before .before .before .operand-below .ensures) (c .before .before .before .before .before .before .before .reach .ensures) (c .before .before .before .operand-below2 .ensures) (c .before .before .reach2 .ensures)
 
 pub mark-row-spec : {M : Type 1} → statement M
 mark-row-spec =
     tie.close
     (tie.spec
-    (λ c. search needs)
     (λ c. search needs)
     (λ c κs. search needs)
     reach-requires

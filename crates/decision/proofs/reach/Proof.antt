@@ -11,7 +11,7 @@ returns c = simp (le-leb _ _ (c .if1 .taken))
 
 returns-2 : tie.Need-returns-2
 unfolding reached
-returns-2 c = simp (lt-leb _ _ (c .if1 .left))
+returns-2 c = simp (lt-leb _ _ (c .before .if1 .left))
 
 pub reach-spec : {M : Type 1} → statement M
 reach-spec = tie.close (tie.spec returns (λ c. search needs) (λ c. search needs) (λ c. search needs) returns-2)

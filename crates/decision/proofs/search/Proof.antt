@@ -10,13 +10,13 @@ use Rattle.decision.proofs.search.Statement.{statement}
 use Rattle.decision.proofs.search.Tie as tie
 
 abbrev Inv-loop : tie.InvT-loop
-Inv-loop space condition guard marks blocks n words₀ yes₀ no₀ block₀ words yes' no' block = (length words ≡ rowLimit) × Searching space marks condition guard blocks yes' no' block
+Inv-loop space condition guard marks least blocks n words₀ yes₀ no₀ block₀ words yes' no' block = (length words ≡ rowLimit) × Searching space marks least condition guard blocks yes' no' block
 
 abbrev μ-loop : tie.MeasureT-loop
-μ-loop space condition guard marks blocks n words₀ yes₀ no₀ block₀ words yes' no' block = blocks - block
+μ-loop space condition guard marks least blocks n words₀ yes₀ no₀ block₀ words yes' no' block = blocks - block
 
 loop-holds : tie.Need-loop-holds Inv-loop μ-loop
-loop-holds c = let a = c .before .before .before .args in (refl, searching (a .space .now) (a .marks .now) (a .condition) (a .guard) (a .blocks))
+loop-holds c = let a = c .before .before .before .args in (refl, searching (a .space .now) (a .marks .now) (a .least) (a .condition) (a .guard) (a .blocks))
 
 sweep-requires : tie.Need-sweep-requires Inv-loop μ-loop
 sweep-requires c κs =
@@ -27,15 +27,11 @@ sweep-requires c κs =
 
 returns : tie.Need-returns Inv-loop μ-loop
 returns c =
-    let s = c .before .before .before in
-    let l = s .before .before .before in
-    searching-both (c .before .both-found .result) (searching-on (l .before .above .result) (s .sweep .last .1 .1 .1 .1 .0) (l .loop .inv .1) (s .before .before .loop-test .taken) (l .before .above .ensures) (s .sweep .ensures)) (c .before .both-found .ensures) (c .if1 .taken)
+    searching-both (c .before .both-found .result) (searching-on (c .before .before .before .before .before .before .before .before .before .above .result) (c .before .before .condition-word .result) (c .before .before .before .before .before .sweep .last .1 .1 .1 .1 .1 .0) (c .before .before .before .before .before .before .before .before .loop .inv .1) (c .before .before .before .before .before .before .before .loop-test .taken) (c .before .before .before .before .before .before .before .before .before .above .ensures) (c .before .before .before .before .before .sweep .ensures) (c .before .before .condition-word .ensures)) (c .before .both-found .ensures) (c .if1 .taken)
 
 loop-again : tie.Need-loop-again Inv-loop μ-loop
 loop-again c =
-    let s = c .before .before .before in
-    let l = s .before .before .before in
-    (search needs, searching-on (l .before .above .result) (s .sweep .last .1 .1 .1 .1 .0) (l .loop .inv .1) (s .before .before .loop-test .taken) (l .before .above .ensures) (s .sweep .ensures))
+    (search needs, searching-on (c .before .before .before .before .before .before .before .before .before .above .result) (c .before .before .condition-word .result) (c .before .before .before .before .before .sweep .last .1 .1 .1 .1 .1 .0) (c .before .before .before .before .before .before .before .before .loop .inv .1) (c .before .before .before .before .before .before .before .loop-test .taken) (c .before .before .before .before .before .before .before .before .before .above .ensures) (c .before .before .before .before .before .sweep .ensures) (c .before .before .condition-word .ensures))
 
 returns-2 : tie.Need-returns-2 Inv-loop μ-loop
 returns-2 c = searching-end (c .branches-of .result) (c .before .before .loop .inv .1) (c .before .loop-test .left) (c .branches-of .ensures)
@@ -51,7 +47,7 @@ search-spec =
     (λ c. search needs)
     sweep-requires
     (λ c. search needs)
-    (λ c. search needs)
+    (λ c κs. search needs)
     (λ c. search needs)
     (λ c. search needs)
     (λ c κs. search needs)

@@ -1,19 +1,21 @@
 -- Laws of the steps: what the proofs of the functions cite. Assumes nothing.
 use mathlib.Core.Bool.{Bool, true, false}
 use mathlib.Core.List.{List, [], _∷_}
-use mathlib.Core.Path.{_≡_, refl, _∙_}
+use mathlib.Core.Path.{_≡_, refl, ap, _∙_}
 use Prim.Native.Nat.{ℕ, zero, suc, _+_, _-_, _/_, _%_, _≤_, _<_}
-use borrow.Author.Tests.{lt-ltb, le-ltb, ne-eqb}
+use borrow.Author.Tests.{lt-ltb, le-ltb, le-leb}
 use native.Mathlib.Decide.{decLt}
 use native.Mathlib.Numerals.{add-one}
 use native.Mathlib.Omega.{arith}
+use lib.Bits.{bitOr}
 use lib.Dec.{leb, ltb, eqb}
 use lib.ListN.{length, getD, take, set, length-set, length-append, length-take, List·getD-eq-default}
 use lib.Seq.{take-suc-set}
 use Rattle.script.specs.Tests.{pick}
 use Rattle.terms.specs.Terms.{rowIn}
 use Rattle.terms.specs.declared.Row.{Row}
-use Rattle.decision.specs.Code.{above, operandBelow, reached, markRow, marked, seenAfter, rank, spreadOf, patternOf, rowWord, wordOf, words}
+use Rattle.decision.specs.declared.Counts.{Counts}
+use Rattle.decision.specs.Code.{above, Room, operandBelow, reached, markRow, marked, seenAfter, rank, tally, Visited, spreadOf, patternOf, rowWord, wordOf, words, Stepped}
 
 -- ---- above
 
@@ -51,23 +53,52 @@ pub below-within : (least op mark i : ℕ) → operandBelow least op mark i ≤ 
 unfolding operandBelow
 below-within least op mark i = pick-within (eqb mark 0) _ i (pick-within (ltb op least) _ i (pick-within (ltb 7 op) i i (omega arith)))
 
-pub reached-length : (ms : List ℕ) (a below : ℕ) → length (reached ms a below) ≡ length ms
+pub reached-length : (ms : List ℕ) (a below mark : ℕ) → length (reached ms a below mark) ≡ length ms
 unfolding reached
-reached-length ms a below = go (leb below a)
+reached-length ms a below mark = go (leb below a)
   where
-    go : (b : Bool) → length (pick b ms (set ms a 1)) ≡ length ms
+    go : (b : Bool) → length (pick b ms (set ms a (bitOr (getD ms a 0) mark))) ≡ length ms
     go true = refl
-    go false = length-set ms a 1
+    go false = length-set ms a (bitOr (getD ms a 0) mark)
+
+-- no row is below row 0
+pub reached-none : (ms : List ℕ) (a mark : ℕ) → reached ms a 0 mark ≡ ms
+unfolding reached
+reached-none ms a mark = rw (le-leb 0 a (omega arith))
+
+below-unmarked : (least op i : ℕ) → operandBelow least op 0 i ≡ 0
+unfolding operandBelow
+below-unmarked least op i = refl
+
+below-atom : (least op mark i : ℕ) → 8 ≤ op → operandBelow least op mark i ≡ 0
+unfolding operandBelow
+below-atom least op mark i h = rw (lt-ltb 7 op h) (go (eqb mark 0) (ltb op least))
+  where
+    go : (a b : Bool) → pick a zero (pick b zero zero) ≡ 0
+    go true b = refl
+    go false true = refl
+    go false false = refl
 
 -- both operands, one after the other
-pub mark-made : (ms mid last : List ℕ) (r : Row) (i f s : ℕ) → f ≡ operandBelow 4 (r .op) (getD ms i 0) i → mid ≡ reached ms (r .a) f
-    → s ≡ operandBelow 5 (r .op) (getD ms i 0) i → last ≡ reached mid (r .b) s → last ≡ markRow ms r i
+pub mark-made : (ms mid last : List ℕ) (r : Row) (i f s : ℕ) → f ≡ operandBelow 4 (r .op) (getD ms i 0) i → mid ≡ reached ms (r .a) f (getD ms i 0)
+    → s ≡ operandBelow 5 (r .op) (getD ms i 0) i → last ≡ reached mid (r .b) s (getD ms i 0) → last ≡ markRow ms r i
 unfolding markRow
 mark-made ms mid last r i f s ef em es el = rw (el, em, ef, es)
 
 pub markRow-length : (ms : List ℕ) (r : Row) (i : ℕ) → length (markRow ms r i) ≡ length ms
 unfolding markRow
-markRow-length ms r i = reached-length _ (r .b) _ ∙ reached-length ms (r .a) _
+markRow-length ms r i = reached-length _ (r .b) _ _ ∙ reached-length ms (r .a) _ _
+
+-- a row with no mark marks none, and no more does an atom
+mark-unmarked : (ms : List ℕ) (r : Row) (i : ℕ) → getD ms i 0 ≡ 0 → ms ≡ markRow ms r i
+unfolding markRow
+mark-unmarked ms r i e =
+    rw (e, below-unmarked 4 (r .op) i, below-unmarked 5 (r .op) i, reached-none ms (r .a) 0, reached-none ms (r .b) 0)
+
+mark-atom : (ms : List ℕ) (r : Row) (i : ℕ) → 8 ≤ r .op → ms ≡ markRow ms r i
+unfolding markRow
+mark-atom ms r i h =
+    rw (below-atom 4 (r .op) (getD ms i 0) i h, below-atom 5 (r .op) (getD ms i 0) i h, reached-none ms (r .a) (getD ms i 0), reached-none ms (r .b) (getD ms i 0))
 
 pub marked-length : (ws : List ℕ) (n : ℕ) (ms : List ℕ) → length (marked ws n ms) ≡ length ms
 unfolding marked
@@ -85,27 +116,99 @@ marked-on ws ms j k e = rw e refl
 
 -- ---- atoms
 
-pub rank-none : (ws ms : List ℕ) → rank ws ms 0 ≡ 0
+pub rank-none : (ws ms : List ℕ) (least : ℕ) → rank ws ms least 0 ≡ 0
 unfolding rank
-rank-none ws ms = refl
+rank-none ws ms least = refl
 
-pub rank-on : (ws ms : List ℕ) (i : ℕ) → rank ws ms (i + 1) ≡ seenAfter (rowIn ws i .op) (getD ms i 0) (rank ws ms i)
+pub rank-on : (ws ms : List ℕ) (least i : ℕ) → rank ws ms least (i + 1) ≡ seenAfter (rowIn ws i .op) (getD ms i 0) least (rank ws ms least i)
 unfolding rank
-rank-on ws ms i = rw (add-one i)
+rank-on ws ms least i = rw (add-one i)
 
-seen-within : (op mark seen n : ℕ) → seen ≤ n → seenAfter op mark seen ≤ suc n
+module _ (op mark least : ℕ) where
+  -- counted before or after is the same
+  pub seen-sum : (a b : ℕ) → seenAfter op mark least a + b ≡ a + seenAfter op mark least b
+  unfolding seenAfter
+  seen-sum a b = go (ltb mark least) (ltb op 8)
+    where
+      go : (s t : Bool) → pick s a (pick t a (a + 1)) + b ≡ a + pick s b (pick t b (b + 1))
+      go true t = refl
+      go false true = refl
+      go false false = omega arith
+
+  pub seen-grows : (seen : ℕ) → seen ≤ seenAfter op mark least seen
+  unfolding seenAfter
+  seen-grows seen = go (ltb mark least) (ltb op 8)
+    where
+      go : (s t : Bool) → seen ≤ pick s seen (pick t seen (seen + 1))
+      go true t = omega arith
+      go false true = omega arith
+      go false false = omega arith
+
+  pub seen-most : (seen : ℕ) → seenAfter op mark least seen ≤ suc seen
+  unfolding seenAfter
+  seen-most seen = go (ltb mark least) (ltb op 8)
+    where
+      go : (s t : Bool) → pick s seen (pick t seen (seen + 1)) ≤ suc seen
+      go true t = omega arith
+      go false true = omega arith
+      go false false = omega arith
+
+-- a row with no mark is not counted
+seen-unmarked : (op least seen : ℕ) → 0 < least → seenAfter op 0 least seen ≡ seen
 unfolding seenAfter
-seen-within op mark seen n h = go (eqb mark 0) (ltb op 8)
-  where
-    go : (a b : Bool) → pick a seen (pick b seen (seen + 1)) ≤ suc n
-    go true b = omega arith
-    go false true = omega arith
-    go false false = omega arith
+seen-unmarked op least seen h = rw (lt-ltb 0 least h)
 
-pub rank-within : (ws ms : List ℕ) (i : ℕ) → rank ws ms i ≤ i
-unfolding rank
-rank-within ws ms zero = omega arith
-rank-within ws ms (suc i) = seen-within (rowIn ws i .op) (getD ms i 0) (rank ws ms i) i (rank-within ws ms i)
+tally-unmarked : (op mark : ℕ) (k : Counts) → mark ≡ 0 → k ≡ tally op mark k
+unfolding tally
+tally-unmarked op mark k e =
+    rw (e, seen-unmarked op 1 (k .all) (omega arith), seen-unmarked op 2 (k .own) (omega arith), seen-unmarked op 3 (k .shared) (omega arith))
+
+-- nor is one that is no atom
+seen-other : (op mark least seen : ℕ) → op < 8 → seenAfter op mark least seen ≡ seen
+unfolding seenAfter
+seen-other op mark least seen h = rw (lt-ltb op 8 h) (go (ltb mark least))
+  where
+    go : (s : Bool) → pick s seen seen ≡ seen
+    go true = refl
+    go false = refl
+
+tally-other : (op mark : ℕ) (k : Counts) → op < 8 → k ≡ tally op mark k
+unfolding tally
+tally-other op mark k h = rw (seen-other op mark 1 (k .all) h, seen-other op mark 2 (k .own) h, seen-other op mark 3 (k .shared) h)
+
+tally-made : (op mark a b d : ℕ) (k : Counts) → a ≡ seenAfter op mark 1 (k .all) → b ≡ seenAfter op mark 2 (k .own) → d ≡ seenAfter op mark 3 (k .shared)
+    → record { all = a; own = b; shared = d } ≡ tally op mark k
+unfolding tally
+tally-made op mark a b d k ea eb ed = rw (ea, eb, ed)
+
+-- ---- one row: marked and counted
+
+module _ {ws ms : List ℕ} (i : ℕ) (k : Counts) where
+  pub visited-unmarked : getD ms i 0 ≡ 0 → Visited ws ms i k k ms
+  visited-unmarked e =
+      record { counts = tally-unmarked (rowIn ws i .op) (getD ms i 0) k e; marks = mark-unmarked ms (rowIn ws i) i e }
+
+  pub visited-atom : (r : Row) (a b d : ℕ) → r ≡ rowIn ws i → 8 ≤ r .op → a ≡ seenAfter (r .op) (getD ms i 0) 1 (k .all)
+      → b ≡ seenAfter (r .op) (getD ms i 0) 2 (k .own) → d ≡ seenAfter (r .op) (getD ms i 0) 3 (k .shared)
+      → Visited ws ms i k (record { all = a; own = b; shared = d }) ms
+  visited-atom r a b d e h ea eb ed =
+      record {
+        counts = tally-made (r .op) (getD ms i 0) a b d k ea eb ed ∙ ap (λ (q : Row). tally (q .op) (getD ms i 0) k) e;
+        marks = mark-atom ms r i h ∙ ap (λ (q : Row). markRow ms q i) e;
+      }
+
+  pub visited-other : (r : Row) (out : List ℕ) → r ≡ rowIn ws i → r .op < 8 → out ≡ markRow ms r i → Visited ws ms i k k out
+  visited-other r out e h eo =
+      record {
+        counts = tally-other (r .op) (getD ms i 0) k h ∙ ap (λ (q : Row). tally (q .op) (getD ms i 0) k) e;
+        marks = eo ∙ ap (λ (q : Row). markRow ms q i) e;
+      }
+
+pub room-below : {ws ms : List ℕ} {n : ℕ} (i : ℕ) → Room ws n ms → i < n → Room ws (i + 1) ms
+room-below i r h =
+    let f = r .few in
+    let m = r .marks in
+    record { lent = r .lent; few = omega arith; marks = omega arith }
 
 -- ---- words
 
@@ -120,28 +223,47 @@ pattern-many m block h = go (m - 9) (omega arith)
     go t e = rw e refl
 
 -- a marked row
-pub word-marked : (vs : List ℕ) (r : Row) (mark m block x y w : ℕ) → (mark ≡ 0 → ⊥) → x ≡ getD vs (r .a) 0 → y ≡ getD vs (r .b) 0
-    → w ≡ rowWord r x y m block → w ≡ wordOf vs r mark m block
+word-marked : (vs : List ℕ) (r : Row) (mark least m block x y w : ℕ) → least ≤ mark → x ≡ getD vs (r .a) 0 → y ≡ getD vs (r .b) 0
+    → w ≡ rowWord r x y m block → w ≡ wordOf vs r mark least m block
 unfolding wordOf
-word-marked vs r mark m block x y w n ex ey ew = rw (ne-eqb mark 0 n, ew, ex, ey)
+word-marked vs r mark least m block x y w l ex ey ew = rw (le-ltb mark least l, ew, ex, ey)
 
-pub words-none : (ws ms : List ℕ) (block : ℕ) → words ws ms block 0 ≡ []
-unfolding words
-words-none ws ms block = refl
+-- ---- one step
 
--- one word more, in its place
-pub words-on : (ws ms vs : List ℕ) (block i : ℕ) → i < length vs → take i vs ≡ words ws ms block i
-    → take (i + 1) (set vs i (wordOf (take i vs) (rowIn ws i) (getD ms i 0) (rank ws ms i) block)) ≡ words ws ms block (i + 1)
-unfolding words
-words-on ws ms vs block i h e = rw (add-one i, take-suc-set vs i _ h, e)
+module _ {ws ms : List ℕ} (least block : ℕ) (vs : List ℕ) (i seen : ℕ) where
+  pub stepped-unmarked : getD ms i 0 < least → Stepped ws ms least block vs i seen seen (set vs i 0)
+  unfolding seenAfter wordOf
+  stepped-unmarked h = record { counts = rw (lt-ltb (getD ms i 0) least h); word = rw (lt-ltb (getD ms i 0) least h) }
 
-pub words-length : (ws ms : List ℕ) (block i : ℕ) → length (words ws ms block i) ≡ i
-unfolding words
-words-length ws ms block zero = refl
-words-length ws ms block (suc i) =
-    let l = length-append (words ws ms block i) (wordOf (words ws ms block i) (rowIn ws i) (getD ms i 0) (rank ws ms i) block ∷ []) in
-    let h = words-length ws ms block i in
-    omega arith
+  pub stepped-marked : (r : Row) (x y w next : ℕ) → r ≡ rowIn ws i → least ≤ getD ms i 0 → x ≡ getD (take i vs) (r .a) 0
+      → y ≡ getD (take i vs) (r .b) 0 → w ≡ rowWord r x y seen block → next ≡ seenAfter (r .op) (getD ms i 0) least seen
+      → Stepped ws ms least block vs i seen next (set vs i w)
+  stepped-marked r x y w next e l ex ey ew en =
+      record {
+        counts = en ∙ ap (λ (q : Row). seenAfter (q .op) (getD ms i 0) least seen) e;
+        word =
+            ap (λ (v : ℕ). set vs i v)
+            (word-marked (take i vs) r (getD ms i 0) least seen block x y w l ex ey ew ∙ ap (λ (q : Row). wordOf (take i vs) q (getD ms i 0) least seen block) e);
+      }
+
+module _ (ws ms : List ℕ) (least block : ℕ) where
+  pub words-none : words ws ms least block 0 ≡ []
+  unfolding words
+  words-none = refl
+
+  -- one word more, in its place
+  pub words-on : (vs : List ℕ) (i : ℕ) → i < length vs → take i vs ≡ words ws ms least block i
+      → take (i + 1) (set vs i (wordOf (take i vs) (rowIn ws i) (getD ms i 0) least (rank ws ms least i) block)) ≡ words ws ms least block (i + 1)
+  unfolding words
+  words-on vs i h e = rw (add-one i, take-suc-set vs i _ h, e)
+
+  pub words-length : (i : ℕ) → length (words ws ms least block i) ≡ i
+  unfolding words
+  words-length zero = refl
+  words-length (suc i) =
+      let l = length-append (words ws ms least block i) (wordOf (words ws ms least block i) (rowIn ws i) (getD ms i 0) least (rank ws ms least i) block ∷ []) in
+      let h = words-length i in
+      omega arith
 
 -- an operand at or after its row is 0
 pub operand-out : (vs : List ℕ) (i a : ℕ) → i ≤ a → getD (take i vs) a 0 ≡ 0

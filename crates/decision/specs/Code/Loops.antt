@@ -5,20 +5,24 @@ use mathlib.Core.Path.{_≡_, refl, sym, ap, ap₂, _∙_}
 use Prim.Native.Nat.{ℕ, suc, _+_, _-_, _≤_, _<_}
 use borrow.Author.Tests.{eqb-false, ne-eqb, not-true}
 use native.Mathlib.Decide.{le-ind}
+use native.Mathlib.Nat.{zero-add}
 use native.Mathlib.Numerals.{add-one}
 use native.Mathlib.Omega.{arith}
-use lib.Bits.{bitAnd, bitOr, or-add-and, and-le-r}
+use lib.Bits.{bitAnd, bitOr}
 use lib.Dec.{eqb}
+use lib.ListN.{length, getD, take, length-set}
 use lib.Seq.{getD-take}
+use Rattle.script.specs.Tests.{pick}
 use Rattle.script.specs.Tests.Laws.{both-true}
+use Rattle.terms.specs.Terms.{rowIn, rowLimit}
+use Rattle.decision.specs.Bits.{or-first-most}
+use Rattle.decision.specs.Code.{above, Room, markRow, marked, seenAfter, rank, tally, countsOf, Low, Visited, words, Stepped, ones, together, conditionWord, trueWord, falseWord, nonZero, searched}
+use Rattle.decision.specs.Code.Laws.{above-first, above-second, markRow-length, marked-none, marked-on, rank-none, rank-on, seen-sum, seen-most, words-none, words-on}
 use Rattle.decision.specs.Decision.{branchesOf}
+use Rattle.decision.specs.Marks.{row-above, marked-above}
+use Rattle.decision.specs.declared.Counts.{Counts}
 use Rattle.decision.specs.declared.Decision.{Decision}
 use Rattle.decision.specs.declared.Decision.the-variants.{Both}
-use lib.ListN.{length, getD, take, set, length-set}
-use Rattle.terms.specs.Terms.{rowIn}
-use Rattle.terms.specs.declared.Row.{Row}
-use Rattle.decision.specs.Code.{above, markRow, marked, seenAfter, rank, wordOf, words, ones, together, trueWord, falseWord, nonZero, searched}
-use Rattle.decision.specs.Code.Laws.{above-first, above-second, markRow-length, marked-none, marked-on, rank-none, rank-on, rank-within, words-none, words-on}
 
 -- ---- marks: what is left to mark gives what is wanted
 
@@ -30,65 +34,134 @@ pub record Marking (ws : List ℕ) (n : ℕ) (start ms : List ℕ) (j : ℕ) : T
 pub marking : (ws : List ℕ) (n : ℕ) (start : List ℕ) → Marking ws n start start n
 marking ws n start = record { within = omega arith; same = refl; rest = refl }
 
-pub marking-on : {ws : List ℕ} {n : ℕ} {start ms : List ℕ} {j : ℕ} (r : Row) (out : List ℕ) → Marking ws n start ms j → 0 < j
-    → r ≡ rowIn ws (j - 1) → out ≡ markRow ms r (j - 1) → Marking ws n start out (j - 1)
-marking-on {ws} {n} {start} {ms} {j} r out k h er eo =
+pub marking-on : {ws : List ℕ} {n : ℕ} {start ms : List ℕ} {j : ℕ} (out : List ℕ) → Marking ws n start ms j → 0 < j
+    → out ≡ markRow ms (rowIn ws (j - 1)) (j - 1) → Marking ws n start out (j - 1)
+marking-on {ws} {n} {start} {ms} {j} out k h eo =
     record {
       within = omega arith;
-      same = ap length eo ∙ markRow-length ms r (j - 1) ∙ k .same;
-      rest = rw (eo, er) (marked-on ws ms j (j - 1) (omega arith) ∙ k .rest);
+      same = ap length eo ∙ markRow-length ms (rowIn ws (j - 1)) (j - 1) ∙ k .same;
+      rest = rw eo (marked-on ws ms j (j - 1) (omega arith) ∙ k .rest);
     }
 
 pub marking-end : {ws : List ℕ} {n : ℕ} {start ms : List ℕ} {j : ℕ} → Marking ws n start ms j → j ≤ 0 → ms ≡ marked ws n start
 marking-end {ws} {n} {start} {ms} {j} k h = let e : j ≡ 0 = omega arith in sym (marked-none ws ms) ∙ rw e at (k .rest)
 
--- ---- atoms
+-- a row is marked as it will stay when its turn comes
+pub marking-last : {ws : List ℕ} {n : ℕ} {start ms : List ℕ} {j : ℕ} → Marking ws n start ms j → 0 < j
+    → getD ms (j - 1) 0 ≡ getD (marked ws n start) (j - 1) 0
+marking-last {ws} {n} {start} {ms} {j} k h =
+    let r = rowIn ws (j - 1) in
+    let e = marked-on ws ms j (j - 1) (omega arith) ∙ k .rest in
+    sym (ap (λ (l : List ℕ). getD l (j - 1) 0) (sym e) ∙ marked-above ws (j - 1) (markRow ms r (j - 1)) (j - 1) (omega arith)
+    ∙ row-above ms r (j - 1) (j - 1) (omega arith))
 
-pub record Counting (ws : List ℕ) (n : ℕ) (ms : List ℕ) (seen i : ℕ) : Type 0 where
-  pub within : i ≤ n
-  pub is : seen ≡ rank ws ms i
-  pub few : seen ≤ i
+-- ---- atoms from the last row down: with those of the rows below they are all
 
-pub counting : (ws : List ℕ) (n : ℕ) (ms : List ℕ) → Counting ws n ms 0 0
-counting ws n ms = record { within = omega arith; is = sym (rank-none ws ms); few = omega arith }
+pub record Passed (ws ms : List ℕ) (least n j seen : ℕ) : Type 0 where
+  pub few : seen + j ≤ n
+  pub is : seen + rank ws ms least j ≡ rank ws ms least n
 
-pub counting-on : {ws : List ℕ} {n : ℕ} {ms : List ℕ} {seen i : ℕ} (r : Row) (next : ℕ) → Counting ws n ms seen i → i < n → r ≡ rowIn ws i
-    → next ≡ seenAfter (r .op) (getD ms i 0) seen → Counting ws n ms next (i + 1)
-counting-on {ws} {n} {ms} {seen} {i} r next k h er en =
-    let e : next ≡ rank ws ms (i + 1) =
-    en ∙ ap (λ (q : Row). seenAfter (q .op) (getD ms i 0) seen) er ∙ ap (seenAfter (rowIn ws i .op) (getD ms i 0)) (k .is) ∙ sym (rank-on ws ms i) in
-    let w = rank-within ws ms (i + 1) in
-    record { within = omega arith; is = e; few = omega arith }
+passed-on : {ws ms : List ℕ} {least n seen : ℕ} (j k mark : ℕ) → Passed ws ms least n j seen → j ≡ suc k → mark ≡ getD ms k 0
+    → Passed ws ms least n k (seenAfter (rowIn ws k .op) mark least seen)
+unfolding rank
+passed-on {ws} {ms} {least} {n} {seen} j k mark p e em =
+    let m = seen-most (rowIn ws k .op) mark least seen in
+    let s = seen-sum (rowIn ws k .op) mark least seen (rank ws ms least k) in
+    let f = p .few in
+    record { few = omega arith; is = s ∙ rw em (rw e at (p .is)) }
 
-pub counting-end : {ws : List ℕ} {n : ℕ} {ms : List ℕ} {seen i : ℕ} → Counting ws n ms seen i → n ≤ i → seen ≡ rank ws ms n
-counting-end {ws} {n} {ms} {seen} {i} k h = let e : i ≡ n = omega arith in rw e at (k .is)
+pub record Tallying (ws : List ℕ) (n : ℕ) (start ms : List ℕ) (j : ℕ) (k : Counts) : Type 0 where
+  pub marks : Marking ws n start ms j
+  pub all : Passed ws (marked ws n start) 1 n j (k .all)
+  pub own : Passed ws (marked ws n start) 2 n j (k .own)
+  pub shared : Passed ws (marked ws n start) 3 n j (k .shared)
+
+pub tallying : (ws : List ℕ) (n : ℕ) (start : List ℕ) → Tallying ws n start start n (record { all = 0; own = 0; shared = 0 })
+tallying ws n start =
+    record {
+      marks = marking ws n start;
+      all = record { few = omega arith; is = zero-add _ };
+      own = record { few = omega arith; is = zero-add _ };
+      shared = record { few = omega arith; is = zero-add _ };
+    }
+
+-- the row before can be visited
+pub tallying-room : {ws : List ℕ} {n : ℕ} {start ms : List ℕ} {j : ℕ} {k : Counts} → Tallying ws n start ms j k → 0 < j → Room ws n start
+    → Room ws (j - 1 + 1) ms
+tallying-room t h r =
+    let w = t .marks .within in
+    let l = t .marks .same in
+    let f = r .few in
+    let m = r .marks in
+    record { lent = r .lent; few = omega arith; marks = omega arith }
+
+pub tallying-low : {ws : List ℕ} {n : ℕ} {start ms : List ℕ} {j : ℕ} {k : Counts} → Tallying ws n start ms j k → 0 < j → n ≤ rowLimit → Low k
+tallying-low t h l =
+    let a = t .all .few in
+    let b = t .own .few in
+    let d = t .shared .few in
+    record { all = omega arith; own = omega arith; shared = omega arith }
+
+pub tallying-on : {ws : List ℕ} {n : ℕ} {start ms : List ℕ} {j : ℕ} {k : Counts} (out : List ℕ) (next : Counts) → Tallying ws n start ms j k → 0 < j
+    → Visited ws ms (j - 1) k next out → Tallying ws n start out (j - 1) next
+unfolding tally
+tallying-on {ws} {n} {start} {ms} {j} {k} out next t h v =
+    let m = marking-last (t .marks) h in
+    let e : j ≡ suc (j - 1) = omega arith in
+    rw (v .counts)
+    (record {
+      marks = marking-on out (t .marks) h (v .marks);
+      all = passed-on j (j - 1) (getD ms (j - 1) 0) (t .all) e m;
+      own = passed-on j (j - 1) (getD ms (j - 1) 0) (t .own) e m;
+      shared = passed-on j (j - 1) (getD ms (j - 1) 0) (t .shared) e m;
+    })
+
+passed-end : {ws ms : List ℕ} {least n j seen : ℕ} → Passed ws ms least n j seen → j ≡ 0 → seen ≡ rank ws ms least n
+passed-end {ws} {ms} {least} {n} {j} {seen} p e =
+    let z = rank-none ws ms least in
+    let s : seen + rank ws ms least 0 ≡ rank ws ms least n = rw e at (p .is) in
+    omega arith
+
+pub tallying-end : {ws : List ℕ} {n : ℕ} {start ms : List ℕ} {j : ℕ} {k : Counts} → Tallying ws n start ms j k → j ≤ 0 → k ≡ countsOf ws ms n
+unfolding countsOf
+tallying-end {ws} {n} {start} {ms} {j} {k} t h =
+    let e : j ≡ 0 = omega arith in
+    let m = marking-end (t .marks) h in
+    rw (m, sym (passed-end (t .all) e), sym (passed-end (t .own) e), sym (passed-end (t .shared) e)) refl
 
 -- ---- words: the first i are there
 
-pub record Sweeping (ws : List ℕ) (n : ℕ) (ms : List ℕ) (block : ℕ) (start vs : List ℕ) (seen i : ℕ) : Type 0 where
-  pub counts : Counting ws n ms seen i
+pub record Sweeping (ws : List ℕ) (n : ℕ) (ms : List ℕ) (least block : ℕ) (start vs : List ℕ) (seen i : ℕ) : Type 0 where
+  pub within : i ≤ n
+  pub is : seen ≡ rank ws ms least i
+  pub few : seen ≤ i
   pub same : length vs ≡ length start
-  pub first : take i vs ≡ words ws ms block i
+  pub first : take i vs ≡ words ws ms least block i
 
-pub sweeping : (ws : List ℕ) (n : ℕ) (ms : List ℕ) (block : ℕ) (start : List ℕ) → Sweeping ws n ms block start start 0 0
-sweeping ws n ms block start = record { counts = counting ws n ms; same = refl; first = sym (words-none ws ms block) }
+pub sweeping : (ws : List ℕ) (n : ℕ) (ms : List ℕ) (least block : ℕ) (start : List ℕ) → Sweeping ws n ms least block start start 0 0
+sweeping ws n ms least block start =
+    record { within = omega arith; is = sym (rank-none ws ms least); few = omega arith; same = refl; first = sym (words-none ws ms least block) }
 
-pub sweeping-on : {ws : List ℕ} {n : ℕ} {ms : List ℕ} {block : ℕ} {start vs : List ℕ} {seen i : ℕ} (r : Row) (w next : ℕ)
-    → Sweeping ws n ms block start vs seen i → n ≤ length start → i < n → r ≡ rowIn ws i
-    → w ≡ wordOf (take i vs) r (getD ms i 0) seen block → next ≡ seenAfter (r .op) (getD ms i 0) seen
-    → Sweeping ws n ms block start (set vs i w) next (i + 1)
-sweeping-on {ws} {n} {ms} {block} {start} {vs} {seen} {i} r w next k room h er ew en =
+pub sweeping-on : {ws : List ℕ} {n : ℕ} {ms : List ℕ} {least block : ℕ} {start vs : List ℕ} {seen i : ℕ} (out : List ℕ) (next : ℕ)
+    → Sweeping ws n ms least block start vs seen i → n ≤ length start → i < n
+    → Stepped ws ms least block vs i seen next out → Sweeping ws n ms least block start out next (i + 1)
+sweeping-on {ws} {n} {ms} {least} {block} {start} {vs} {seen} {i} out next k room h t =
     let l = k .same in
+    let f = k .few in
+    let m = seen-most (rowIn ws i .op) (getD ms i 0) least seen in
+    let e = t .counts in
     record {
-      counts = counting-on r next (k .counts) h er en;
-      same = length-set vs i w ∙ k .same;
-      first = rw (ew, er, k .counts .is) (words-on ws ms vs block i (omega arith) (k .first));
+      within = omega arith;
+      is = e ∙ ap (seenAfter (rowIn ws i .op) (getD ms i 0) least) (k .is) ∙ sym (rank-on ws ms least i);
+      few = omega arith;
+      same = ap length (t .word) ∙ length-set vs i _ ∙ k .same;
+      first = rw (t .word, k .is) (words-on ws ms least block vs i (omega arith) (k .first));
     }
 
-pub sweeping-end : {ws : List ℕ} {n : ℕ} {ms : List ℕ} {block : ℕ} {start vs : List ℕ} {seen i : ℕ}
-    → Sweeping ws n ms block start vs seen i → n ≤ i → take n vs ≡ words ws ms block n
-sweeping-end {ws} {n} {ms} {block} {start} {vs} {seen} {i} k h =
-    let w = k .counts .within in let e : i ≡ n = omega arith in rw e at (k .first)
+pub sweeping-end : {ws : List ℕ} {n : ℕ} {ms : List ℕ} {least block : ℕ} {start vs : List ℕ} {seen i : ℕ}
+    → Sweeping ws n ms least block start vs seen i → n ≤ i → take n vs ≡ words ws ms least block n
+sweeping-end {ws} {n} {ms} {least} {block} {start} {vs} {seen} {i} k h =
+    let w = k .within in let e : i ≡ n = omega arith in rw e at (k .first)
 
 -- ---- the blocks: what is found in the first ones
 
@@ -100,12 +173,9 @@ pub together-on : (f : ℕ → ℕ) (k : ℕ) → together f (k + 1) ≡ bitOr (
 unfolding together
 together-on f k = rw (add-one k)
 
-or-most : (a b : ℕ) → a ≤ bitOr a b
-or-most a b = let s = or-add-and a b in let l = and-le-r a b in omega arith
-
 together-more : (f : ℕ → ℕ) (k : ℕ) → together f k ≤ together f (suc k)
 unfolding together
-together-more f k = or-most (together f k) (f k)
+together-more f k = or-first-most (together f k) (f k)
 
 pub together-grows : (f : ℕ → ℕ) (k n : ℕ) → k ≤ n → together f k ≤ together f n
 together-grows f k n h = le-ind (λ (m : ℕ). together f k ≤ together f m) (omega arith) (λ m l e. let o = together-more f m in omega arith) n h
@@ -120,54 +190,64 @@ some-above a b h e = let n = eqb-false a 0 (not-true (eqb a 0) e) in rw (ne-eqb 
 pub found-later : (f : ℕ → ℕ) (k n : ℕ) → k ≤ n → nonZero (together f k) ≡ true → nonZero (together f n) ≡ true
 found-later f k n h e = some-above (together f k) (together f n) (together-grows f k n h) e
 
-pub record Searching (ws ms : List ℕ) (c g blocks yes no block : ℕ) : Type 0 where
+pub record Searching (ws ms : List ℕ) (least c g blocks yes no block : ℕ) : Type 0 where
   pub within : block ≤ blocks
-  pub true-found : yes ≡ together (trueWord ws ms c g) block
-  pub false-found : no ≡ together (falseWord ws ms c g) block
+  pub true-found : yes ≡ together (trueWord ws ms least c g) block
+  pub false-found : no ≡ together (falseWord ws ms least c g) block
 
-pub searching : (ws ms : List ℕ) (c g blocks : ℕ) → Searching ws ms c g blocks 0 0 0
-searching ws ms c g blocks =
-    record { within = omega arith; true-found = sym (together-none (trueWord ws ms c g)); false-found = sym (together-none (falseWord ws ms c g)) }
+pub searching : (ws ms : List ℕ) (least c g blocks : ℕ) → Searching ws ms least c g blocks 0 0 0
+searching ws ms least c g blocks =
+    record {
+      within = omega arith;
+      true-found = sym (together-none (trueWord ws ms least c g));
+      false-found = sym (together-none (falseWord ws ms least c g));
+    }
 
 -- a word of the first rows
 pub swept-at : (vs all : List ℕ) (n k : ℕ) → take n vs ≡ all → k < n → getD vs k 0 ≡ getD all k 0
 swept-at vs all n k e h = sym (getD-take n vs k 0 h) ∙ ap (λ (l : List ℕ). getD l k 0) e
 
-true-swept : (ws ms vs : List ℕ) (c g block : ℕ) → take (above c g) vs ≡ words ws ms block (above c g)
-    → bitAnd (getD vs c 0) (getD vs g 0) ≡ trueWord ws ms c g block
-unfolding trueWord
-true-swept ws ms vs c g block e = rw (swept-at vs _ (above c g) c e (above-first c g), swept-at vs _ (above c g) g e (above-second c g))
+module _ (ws ms vs : List ℕ) (least c g block : ℕ) (e : take (above c g) vs ≡ words ws ms least block (above c g)) where
+  condition-swept : conditionWord vs c least ≡ conditionWord (words ws ms least block (above c g)) c least
+  unfolding conditionWord
+  condition-swept = ap (λ (w : ℕ). pick (eqb least 2) ones w) (swept-at vs _ (above c g) c e (above-first c g))
 
-false-swept : (ws ms vs : List ℕ) (c g block : ℕ) → take (above c g) vs ≡ words ws ms block (above c g)
-    → bitAnd (getD vs c 0) (ones - getD vs g 0) ≡ falseWord ws ms c g block
-unfolding falseWord
-false-swept ws ms vs c g block e = rw (swept-at vs _ (above c g) c e (above-first c g), swept-at vs _ (above c g) g e (above-second c g))
+  true-swept : bitAnd (conditionWord vs c least) (getD vs g 0) ≡ trueWord ws ms least c g block
+  unfolding trueWord
+  true-swept = rw (condition-swept, swept-at vs _ (above c g) g e (above-second c g))
 
-pub searching-on : {ws ms : List ℕ} {c g blocks yes no block : ℕ} (n : ℕ) (vs : List ℕ) → Searching ws ms c g blocks yes no block → block < blocks
-    → n ≡ above c g → take n vs ≡ words ws ms block n
-    → Searching ws ms c g blocks (bitOr yes (bitAnd (getD vs c 0) (getD vs g 0))) (bitOr no (bitAnd (getD vs c 0) (ones - getD vs g 0))) (block + 1)
-searching-on {ws} {ms} {c} {g} {blocks} {yes} {no} {block} n vs k h en ev =
-    let e : take (above c g) vs ≡ words ws ms block (above c g) = rw en at ev in
-    record {
-      within = omega arith;
-      true-found = ap₂ bitOr (k .true-found) (true-swept ws ms vs c g block e) ∙ sym (together-on (trueWord ws ms c g) block);
-      false-found = ap₂ bitOr (k .false-found) (false-swept ws ms vs c g block e) ∙ sym (together-on (falseWord ws ms c g) block);
-    }
+  false-swept : bitAnd (conditionWord vs c least) (ones - getD vs g 0) ≡ falseWord ws ms least c g block
+  unfolding falseWord
+  false-swept = rw (condition-swept, swept-at vs _ (above c g) g e (above-second c g))
 
-pub searching-both : {ws ms : List ℕ} {c g blocks yes no block : ℕ} (b : Bool) → Searching ws ms c g blocks yes no block → b ≡ (nonZero yes && nonZero no)
-    → b ≡ true → Both ≡ searched ws ms c g blocks
-unfolding searched branchesOf
-searching-both {ws} {ms} {c} {g} {blocks} {yes} {no} {block} b k e t =
-    let p = both-true (nonZero yes) (nonZero no) (sym e ∙ t) in
-    let y = found-later (trueWord ws ms c g) block blocks (k .within) (rw (k .true-found) at (p .0)) in
-    let z = found-later (falseWord ws ms c g) block blocks (k .within) (rw (k .false-found) at (p .1)) in
-    rw (y, z)
+module _ {ws ms : List ℕ} {least c g blocks yes' no' block : ℕ} where
+  pub searching-on : (n w : ℕ) (vs : List ℕ) → Searching ws ms least c g blocks yes' no' block → block < blocks → n ≡ above c g
+      → take n vs ≡ words ws ms least block n → w ≡ conditionWord vs c least
+      → Searching ws ms least c g blocks (bitOr yes' (bitAnd w (getD vs g 0))) (bitOr no' (bitAnd w (ones - getD vs g 0))) (block + 1)
+  searching-on n w vs k h en ev ew =
+      let e : take (above c g) vs ≡ words ws ms least block (above c g) = rw en at ev in
+      rw ew
+      (record {
+        within = omega arith;
+        true-found = ap₂ bitOr (k .true-found) (true-swept ws ms vs least c g block e) ∙ sym (together-on (trueWord ws ms least c g) block);
+        false-found = ap₂ bitOr (k .false-found) (false-swept ws ms vs least c g block e) ∙ sym (together-on (falseWord ws ms least c g) block);
+      })
 
-pub searching-end : {ws ms : List ℕ} {c g blocks yes no block : ℕ} (d : Decision) → Searching ws ms c g blocks yes no block → blocks ≤ block
-    → d ≡ branchesOf (nonZero yes) (nonZero no) → d ≡ searched ws ms c g blocks
-unfolding searched
-searching-end {ws} {ms} {c} {g} {blocks} {yes} {no} {block} d k h e =
-    let q : block ≡ blocks = omega arith in
-    let y : yes ≡ together (trueWord ws ms c g) blocks = rw q at (k .true-found) in
-    let z : no ≡ together (falseWord ws ms c g) blocks = rw q at (k .false-found) in
-    e ∙ ap₂ (λ (a b : ℕ). branchesOf (nonZero a) (nonZero b)) y z
+  pub searching-both : (b : Bool) → Searching ws ms least c g blocks yes' no' block → b ≡ (nonZero yes' && nonZero no') → b ≡ true
+      → Both ≡ searched ws ms least c g blocks
+  unfolding searched branchesOf
+  searching-both b k e t =
+      let p = both-true (nonZero yes') (nonZero no') (sym e ∙ t) in
+      let y = found-later (trueWord ws ms least c g) block blocks (k .within) (rw (k .true-found) at (p .0)) in
+      let z = found-later (falseWord ws ms least c g) block blocks (k .within) (rw (k .false-found) at (p .1)) in
+      rw (y, z)
+
+  pub searching-end : (d : Decision) → Searching ws ms least c g blocks yes' no' block → blocks ≤ block
+      → d ≡ branchesOf (nonZero yes') (nonZero no') → d ≡ searched ws ms least c g blocks
+  unfolding searched
+  searching-end d k h e =
+      let l = k .within in
+      let q : block ≡ blocks = omega arith in
+      let y : yes' ≡ together (trueWord ws ms least c g) blocks = rw q at (k .true-found) in
+      let z : no' ≡ together (falseWord ws ms least c g) blocks = rw q at (k .false-found) in
+      e ∙ ap₂ (λ (a b : ℕ). branchesOf (nonZero a) (nonZero b)) y z

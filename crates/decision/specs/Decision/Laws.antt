@@ -1,35 +1,35 @@
 -- The decision on the rows is the decision of the symbolic rules on the formulas that the rows stand for. Assumes nothing.
-use mathlib.Core.Bool.{Bool, true, false, not}
+use mathlib.Core.Bool.{Bool, true, false, not, false≢true}
 use mathlib.Core.List.{List}
+use mathlib.Core.Logic.{_⊎_, inl, inr}
 use mathlib.Core.Path.{_≡_, refl, sym, ap, ap₂, _∙_}
 use Prim.Native.Nat.{ℕ, zero, suc, _+_, _*_, _/_, _%_, _^_, _≤_, _<_}
-use borrow.Author.Tests.{eqb-false, eqb-true, not-true, ne-eqb, leb-true, leb-false, lt-ltb, le-ltb}
+use borrow.Author.Tests.{eqb-false, eqb-true, not-true, ne-eqb, leb-true, leb-false, ltb-true, ltb-false, lt-ltb, le-ltb}
+use native.Mathlib.Decide.{decLt, ℕ-discrete}
 use native.Mathlib.Omega.{arith}
-use lib.Bits.{bitOr, or-add-and, and-le-l}
+use lib.Bits.{bitOr}
 use lib.Dec.{leb, ltb, eqb, lit≤}
 use lib.ListN.{length, getD}
 use Rattle.script.specs.Tests.{pick}
 use Rattle.script.specs.Tests.Laws.{both-ways, true-or-false}
 use Rattle.rules.specs.Satisfiable.{holds, atomsOf, among, differentAtoms, satisfiable}
-use Rattle.rules.specs.Satisfiable.Laws.{Respects, holds-agree, satisfiable-if, satisfiable-only-if, among-different, in-first, in-second}
-use Rattle.rules.specs.Symbolic.{Atom, Formula, negation, conjunction}
-use Rattle.terms.specs.Terms.{countIn, rowLimit, Space, TruthRow, Distinct}
+use Rattle.rules.specs.Satisfiable.Apart.{Apart, apart-negation, apart-alone}
+use Rattle.rules.specs.Satisfiable.Laws.{Respects, holds-agree, satisfiable-if, satisfiable-only-if, true-satisfiable, among-different, in-first, in-second}
+use Rattle.rules.specs.Symbolic.{Atom, Formula, constantly, negation, conjunction, sameAtom}
+use Rattle.rules.specs.Symbolic.Laws.{sameAtom-sym, sameAtom-trans}
+use Rattle.terms.specs.Terms.{rowIn, countIn, rowLimit, Space, TruthRow, Distinct}
 use Rattle.decision.specs.Atoms.{assign, assign-respects, numberOf, number-less, number-assigns, apart-length, different-apart}
-use Rattle.decision.specs.Bits.{bit, bit-zero, some-bit}
-use Rattle.decision.specs.Code.{above, rank, blocksOf, together, trueWord, falseWord, nonZero, searched, startMarks, marksFrom, atomsFrom, decided}
+use Rattle.decision.specs.Bits.{bit, bit-zero, some-bit, or-second-most}
+use Rattle.decision.specs.Code.{above, seenAfter, rank, words, spreadOf, blocksOf, together, conditionWord, trueWord, falseWord, nonZero, searched, startMarks, marksFrom, atomsFrom, decided}
 use Rattle.decision.specs.Code.Laws.{above-first, above-second, above-within}
 use Rattle.decision.specs.Code.Loops.{together-grows}
-use Rattle.decision.specs.Code.Whole.{start-length}
 use Rattle.decision.specs.Decision.{branchesOf, decisionOf}
 use Rattle.decision.specs.declared.Decision.the-variants.{TooMany}
-use Rattle.decision.specs.Listed.{Listed, SomeList, some-list, list-made, listed-length, listed-part, listed-apart}
-use Rattle.decision.specs.Marks.{Within, part, Parts, marked-keeps, closed-first, closed-second, parts-marked, start-parts, start-first, start-second}
-use Rattle.decision.specs.Words.{Right, right-negation, right-conjunction, Closed, Sweep, either, rows-listed, rows-right}
+use Rattle.decision.specs.Listed.{Listed, SomeList, some-list, list-made, rank-counted, listed-length, listed-part, listed-apart}
+use Rattle.decision.specs.Marks.{Within, part, Parts, Kept, AtLeast, Odd, kept-least, kept-odd, marked-keeps, closed-first, closed-second, parts-marked, start-length, start-parts, start-first, start-second}
+use Rattle.decision.specs.Words.{Right, right-negation, right-conjunction, right-constant, Closed, RowOf, row-of, rows-of, Sweep, either, atom-op, words-same, rank-grows, rows-listed, rows-right}
 
 -- ---- the blocks together
-
-or-second-most : (a b : ℕ) → b ≤ bitOr a b
-or-second-most a b = let s = or-add-and a b in let l = and-le-l a b in omega arith
 
 one-most : (f : ℕ → ℕ) (k : ℕ) → f k ≤ together f (suc k)
 unfolding together
@@ -116,7 +116,7 @@ module _ (xs : List Atom) (f : Formula) (w : ℕ → ℕ) (right : (block : ℕ)
   found-is all few =
       both-ways (nonZero (together w (blocksOf (length xs)))) (satisfiable f) (found-if (blocksOf (length xs))) (if-found all few)
 
--- ---- the decision
+-- ---- the atoms of the two
 
 within-left : (f g : Formula) → Within f (conjunction f g)
 unfolding atomsOf
@@ -126,8 +126,33 @@ within-right : (f g : Formula) → Within g (conjunction f g)
 unfolding atomsOf
 within-right f g = record { each = λ x h. in-second (atomsOf f) (atomsOf g) x h }
 
+-- ---- fewer rows have the greater mark
+
+seen-fewer : (op mark low high p q : ℕ) → low ≤ high → p ≤ q → seenAfter op mark high p ≤ seenAfter op mark low q
+unfolding seenAfter
+seen-fewer op mark low high p q l h = go (ltb mark high) refl (ltb mark low) refl (ltb op 8)
+  where
+    go : (s : Bool) → ltb mark high ≡ s → (t : Bool) → ltb mark low ≡ t → (u : Bool) → pick s p (pick u p (p + 1)) ≤ pick t q (pick u q (q + 1))
+    go true e true k u = h
+    go true e false k true = h
+    go true e false k false = omega arith
+    go false e true k u = let a = ltb-false mark high e in let b = ltb-true mark low k in absurd (omega arith)
+    go false e false k true = h
+    go false e false k false = omega arith
+
+rank-fewer : (ws ms : List ℕ) (low high n : ℕ) → low ≤ high → rank ws ms high n ≤ rank ws ms low n
+unfolding rank
+rank-fewer ws ms low high zero l = omega arith
+rank-fewer ws ms low high (suc i) l =
+    seen-fewer (rowIn ws i .op) (getD ms i 0) low high (rank ws ms high i) (rank ws ms low i) l (rank-fewer ws ms low high i l)
+
+-- ---- the decision
+
 module _ (ws : List ℕ) (c g : ℕ) (f h : Formula) (space : Space ws 0) (distinct : Distinct ws) (is-condition : TruthRow ws c f) (is-guard : TruthRow ws g h)
     (low : c < countIn ws) (high : g < countIn ws) where
+  abbrev marks : List ℕ
+  marks = marksFrom ws c g
+
   c-row : c < rowLimit
   c-row = let r = space .room in omega arith
 
@@ -135,101 +160,202 @@ module _ (ws : List ℕ) (c g : ℕ) (f h : Formula) (space : Space ws 0) (disti
   g-row = let r = space .room in omega arith
 
   all-rows : above c g ≤ length (startMarks c g)
-  all-rows = let l = start-length ws c g in let a = above-within c g rowLimit c-row g-row in omega arith
+  all-rows = let l = start-length c g in let a = above-within c g rowLimit c-row g-row in omega arith
 
-  marks-parts : Parts ws (conjunction f h) (marksFrom ws c g)
+  marks-parts : Parts ws (conjunction f h) marks
   unfolding marksFrom
   marks-parts =
       parts-marked ws (conjunction f h) (above c g) (startMarks c g)
       (start-parts ws (conjunction f h) c g (part is-condition (within-left f h)) (part is-guard (within-right f h)))
 
-  marks-closed : Closed ws (marksFrom ws c g) (above c g)
-  unfolding marksFrom
-  marks-closed =
-      record {
-        first = closed-first ws (above c g) (startMarks c g) all-rows;
-        second = closed-second ws (above c g) (startMarks c g) all-rows;
-      }
+  module _ {P : ℕ → Type 0} (kept : Kept P) where
+    marks-closed : Closed P ws marks (above c g)
+    unfolding marksFrom
+    marks-closed =
+        record {
+          some = λ i m. kept .some _ m;
+          first = closed-first ws kept (above c g) (startMarks c g) all-rows;
+          second = closed-second ws kept (above c g) (startMarks c g) all-rows;
+        }
 
-  marks-condition : 0 < getD (marksFrom ws c g) c 0
-  unfolding marksFrom
-  marks-condition =
-      let l = start-length ws c g in
-      let r = c-row in
-      marked-keeps ws (above c g) (startMarks c g) c (start-first c g c-row) (omega arith)
+    marks-condition : P 1 → P (getD marks c 0)
+    unfolding marksFrom
+    marks-condition p =
+        let l = start-length c g in
+        let r = c-row in
+        marked-keeps ws kept (above c g) (startMarks c g) c (start-first c g kept c-row p) (omega arith)
 
-  marks-guard : 0 < getD (marksFrom ws c g) g 0
-  unfolding marksFrom
-  marks-guard =
-      let l = start-length ws c g in
-      let r = g-row in
-      marked-keeps ws (above c g) (startMarks c g) g (start-second c g g-row) (omega arith)
+    marks-guard : P 2 → P (getD marks g 0)
+    unfolding marksFrom
+    marks-guard p =
+        let l = start-length c g in
+        let r = g-row in
+        marked-keeps ws kept (above c g) (startMarks c g) g (start-second c g kept g-row p) (omega arith)
 
-  module _ {xs : List Atom} (listed : Listed ws (marksFrom ws c g) (above c g) xs) where
-    sweep : Sweep ws (marksFrom ws c g) (above c g) xs
-    sweep = record { distinct = distinct; rows = above-within c g (countIn ws) low high; closed = marks-closed; listed = listed }
+  -- a list of the atoms that have at least a mark
+  module _ (least : ℕ) (pos : 0 < least) (two : least ≤ 2) {xs : List Atom} (listed : Listed ws marks least (above c g) xs) where
+    sweep : Sweep ws marks least (above c g) xs
+    sweep =
+        record {
+          distinct = distinct;
+          rows = above-within c g (countIn ws) low high;
+          closed = marks-closed (kept-least least pos);
+          listed = listed;
+        }
 
-    -- the atoms of both are listed
+    guard-listed : (z : Atom) → among (atomsOf h) z ≡ true → among xs z ≡ true
+    guard-listed = rows-listed sweep is-guard (above-second c g) (marks-guard (kept-least least pos) two)
+
+    -- the branches by the words of row k and of the guard, where those of row k are right for a formula with no other atoms
+    module _ (k : ℕ) (e : Formula) (few : length xs ≤ 10)
+        (is-right : (block : ℕ) → Right xs block (conditionWord (words ws marks least block (above k g)) k least) e)
+        (atoms : (z : Atom) → among (atomsOf e) z ≡ true → among xs z ≡ true) where
+      guard-right : (block : ℕ) → Right xs block (getD (words ws marks least block (above k g)) g 0) h
+      guard-right block =
+          let l = listed-length listed in
+          rw (words-same ws marks least block (above c g) (above k g) g (above-second k g) (above-second c g))
+          (rows-right sweep (omega arith) block is-guard (above-second c g) (marks-guard (kept-least least pos) two))
+
+      true-right : (block : ℕ) → Right xs block (trueWord ws marks least k g block) (conjunction e h)
+      unfolding trueWord
+      true-right block = right-conjunction (is-right block) (guard-right block)
+
+      false-right : (block : ℕ) → Right xs block (falseWord ws marks least k g block) (conjunction e (negation h))
+      unfolding falseWord
+      false-right block = right-conjunction (is-right block) (right-negation (guard-right block))
+
+      true-listed : (z : Atom) → among (atomsOf (conjunction e h)) z ≡ true → among xs z ≡ true
+      unfolding atomsOf
+      true-listed z m = go (either e h z m)
+        where
+          go : (among (atomsOf e) z ≡ true) ⊎ (among (atomsOf h) z ≡ true) → among xs z ≡ true
+          go (inl p) = atoms z p
+          go (inr q) = guard-listed z q
+
+      false-listed : (z : Atom) → among (atomsOf (conjunction e (negation h))) z ≡ true → among xs z ≡ true
+      unfolding atomsOf
+      false-listed z m = true-listed z m
+
+      searched-by : searched ws marks least k g (blocksOf (length xs)) ≡ branchesOf (satisfiable (conjunction e h)) (satisfiable (conjunction e (negation h)))
+      unfolding searched
+      searched-by =
+          ap₂ branchesOf
+          (found-is xs (conjunction e h) (trueWord ws marks least k g) true-right true-listed few)
+          (found-is xs (conjunction e (negation h)) (falseWord ws marks least k g) false-right false-listed few)
+
+  -- ---- the two together
+
+  module _ {xs : List Atom} (listed : Listed ws marks 1 (above c g) xs) where
+    condition-listed : (z : Atom) → among (atomsOf f) z ≡ true → among xs z ≡ true
+    condition-listed =
+        rows-listed (sweep 1 (omega arith) (omega arith) listed) is-condition (above-first c g) (marks-condition (kept-least 1 (omega arith)) (omega arith))
+
+    condition-right : length xs ≤ 10 → (block : ℕ) → Right xs block (conditionWord (words ws marks 1 block (above c g)) c 1) f
+    unfolding conditionWord
+    condition-right few block =
+        let l = listed-length listed in
+        rows-right (sweep 1 (omega arith) (omega arith) listed) (omega arith) block is-condition (above-first c g)
+        (marks-condition (kept-least 1 (omega arith)) (omega arith))
+
     both-listed : (z : Atom) → among (atomsOf (conjunction f h)) z ≡ true → among xs z ≡ true
     unfolding atomsOf
-    both-listed z m =
-        either f h z m
-        (rows-listed sweep is-condition (above-first c g) marks-condition z)
-        (rows-listed sweep is-guard (above-second c g) marks-guard z)
+    both-listed z m = go (either f h z m)
+      where
+        go : (among (atomsOf f) z ≡ true) ⊎ (among (atomsOf h) z ≡ true) → among xs z ≡ true
+        go (inl p) = condition-listed z p
+        go (inr q) = guard-listed 1 (omega arith) (omega arith) listed z q
 
     counted : length (differentAtoms (conjunction f h)) ≡ length xs
     counted =
         apart-length (different-apart (atomsOf (conjunction f h))) (listed-apart distinct listed (above-within c g (countIn ws) low high))
         (λ z. among-different (atomsOf (conjunction f h)) z
-        ∙ both-ways (among (atomsOf (conjunction f h)) z) (among xs z) (both-listed z) (listed-part marks-parts listed z))
+        ∙ both-ways (among (atomsOf (conjunction f h)) z) (among xs z) (both-listed z) (listed-part (omega arith) marks-parts listed z))
 
-    atoms-count : atomsFrom ws c g ≡ length xs
-    unfolding atomsFrom
-    atoms-count = sym (listed-length listed)
+    searched-both : length xs ≤ 10
+        → searched ws marks 1 c g (blocksOf (length xs)) ≡ branchesOf (satisfiable (conjunction f h)) (satisfiable (conjunction f (negation h)))
+    searched-both few = searched-by 1 (omega arith) (omega arith) listed c f few (condition-right few) condition-listed
 
-    few-rank : length xs ≤ 10 → rank ws (marksFrom ws c g) (above c g) ≤ 10
-    few-rank few = let l = listed-length listed in omega arith
+  -- ---- the guard alone
 
-    true-right : length xs ≤ 10 → (block : ℕ) → Right xs block (trueWord ws (marksFrom ws c g) c g block) (conjunction f h)
-    unfolding trueWord
-    true-right few block =
-        right-conjunction
-        (rows-right sweep (few-rank few) block is-condition (above-first c g) marks-condition)
-        (rows-right sweep (few-rank few) block is-guard (above-second c g) marks-guard)
+  no-shared : (i : ℕ) → i < above c g → 3 ≤ getD marks i 0 → 7 < rowIn ws i .op → rank ws marks 3 (above c g) ≡ 0 → ⊥
+  no-shared i l m o z =
+      let r = rank-counted {ws = ws} {ms = marks} {least = 3} i (record { marks = m; atoms = o }) in
+      let q = rank-grows ws marks 3 (suc i) (above c g) l in
+      omega arith
 
-    false-right : length xs ≤ 10 → (block : ℕ) → Right xs block (falseWord ws (marksFrom ws c g) c g block) (conjunction f (negation h))
-    unfolding falseWord
-    false-right few block =
-        right-conjunction
-        (rows-right sweep (few-rank few) block is-condition (above-first c g) marks-condition)
-        (right-negation (rows-right sweep (few-rank few) block is-guard (above-second c g) marks-guard))
+  -- an atom of both has one row, and that has both marks
+  same-row : (z : Atom) → rank ws marks 3 (above c g) ≡ 0 → RowOf Odd ws marks (above c g) z → RowOf (AtLeast 2) ws marks (above c g) z → ⊥
+  same-row z e (row-of i {x = x} li a ea p) (row-of j {x = y} lj b eb q) = go (ℕ-discrete i j) (decLt i j)
+    where
+      within : above c g ≤ countIn ws
+      within = above-within c g (countIn ws) low high
 
-    false-listed : (z : Atom) → among (atomsOf (conjunction f (negation h))) z ≡ true → among xs z ≡ true
-    unfolding atomsOf
-    false-listed z m = both-listed z m
+      same : sameAtom x y ≡ true
+      same = sameAtom-trans x z y ea (sameAtom-sym y z eb)
 
-    searched-is : length xs ≤ 10
-        → searched ws (marksFrom ws c g) c g (blocksOf (length xs))
-        ≡ branchesOf (satisfiable (conjunction f h)) (satisfiable (conjunction f (negation h)))
-    unfolding searched
-    searched-is few =
-        ap₂ branchesOf
-        (found-is xs (conjunction f h) (trueWord ws (marksFrom ws c g) c g) (true-right few) both-listed few)
-        (found-is xs (conjunction f (negation h)) (falseWord ws (marksFrom ws c g) c g) (false-right few) false-listed few)
+      go : Dec (i ≡ j) → Dec (i < j) → ⊥
+      go (yes r) d = let m : 2 ≤ getD marks i 0 = rw r q in no-shared i li (omega arith) (atom-op a) e
+      go (no r) (yes l) = let w = within in true-or-false (sameAtom x y) same (distinct .apart i j x y l (omega arith) a b)
+      go (no r) (no l) =
+          let w = within in true-or-false (sameAtom y x) (sameAtom-sym x y same) (distinct .apart j i y x (omega arith) (omega arith) b a)
+
+  no-atom : rank ws marks 3 (above c g) ≡ 0 → Apart f h
+  no-atom e =
+      record {
+        each = λ z p q.
+            same-row z e (rows-of (marks-closed kept-odd) is-condition (above-first c g) (marks-condition kept-odd refl) z p)
+            (rows-of (marks-closed (kept-least 2 (omega arith))) is-guard (above-second c g) (marks-guard (kept-least 2 (omega arith)) (omega arith)) z q);
+      }
+
+  truth-right : (xs : List Atom) (block : ℕ) → Right xs block (conditionWord (words ws marks 2 block (above g g)) g 2) (constantly true)
+  unfolding conditionWord spreadOf
+  truth-right xs block = right-constant true
+
+  no-atoms : (e : Formula) → Apart (constantly true) e
+  unfolding atomsOf among
+  no-atoms e = record { each = λ z p q. false≢true p }
+
+  alone-is : (e : Formula) → Apart f e → satisfiable f ≡ true → satisfiable (conjunction (constantly true) e) ≡ satisfiable (conjunction f e)
+  alone-is e d s = apart-alone (constantly true) e (no-atoms e) true-satisfiable ∙ sym (apart-alone f e d s)
+
+  module _ {xs : List Atom} (listed : Listed ws marks 2 (above c g) xs) where
+    searched-alone : length xs ≤ 10 → Apart f h → satisfiable f ≡ true
+        → searched ws marks 2 g g (blocksOf (length xs)) ≡ branchesOf (satisfiable (conjunction f h)) (satisfiable (conjunction f (negation h)))
+    unfolding atomsOf among
+    searched-alone few d s =
+        searched-by 2 (omega arith) (omega arith) listed g (constantly true) few (truth-right xs) (λ z p. absurd (false≢true p))
+        ∙ ap₂ branchesOf (alone-is h d s) (alone-is (negation h) (apart-negation d) s)
+
+  -- ---- the decision
+
+  module _ {xs ys : List Atom} (all : Listed ws marks 1 (above c g) xs) (own : Listed ws marks 2 (above c g) ys) (allowed : satisfiable f ≡ true) where
+    few-own : length xs ≤ 10 → length ys ≤ 10
+    few-own few =
+        let a = listed-length all in
+        let b = listed-length own in
+        let m = rank-fewer ws marks 1 2 (above c g) (omega arith) in
+        omega arith
 
     listed-decides : decided ws c g ≡ decisionOf f h
-    unfolding decided decisionOf
-    listed-decides = rw (atoms-count, counted) (go (leb (length xs) 10) refl)
+    unfolding decided decisionOf atomsFrom
+    listed-decides = rw (sym (listed-length all), sym (listed-length own), counted all) (go (leb (length xs) 10) refl)
       where
+        two : (t : Bool) → eqb (rank ws marks 3 (above c g)) 0 ≡ t → length xs ≤ 10
+            → pick t (searched ws marks 2 g g (blocksOf (length ys))) (searched ws marks 1 c g (blocksOf (length xs)))
+            ≡ branchesOf (satisfiable (conjunction f h)) (satisfiable (conjunction f (negation h)))
+        two true e l = searched-alone own (few-own l) (no-atom (eqb-true (rank ws marks 3 (above c g)) 0 e)) allowed
+        two false e l = searched-both all l
+
         go : (t : Bool) → leb (length xs) 10 ≡ t
-            → pick (ltb 10 (length xs)) TooMany (searched ws (marksFrom ws c g) c g (blocksOf (length xs)))
+            → pick (ltb 10 (length xs)) TooMany
+            (pick (eqb (rank ws marks 3 (above c g)) 0) (searched ws marks 2 g g (blocksOf (length ys))) (searched ws marks 1 c g (blocksOf (length xs))))
             ≡ pick t (branchesOf (satisfiable (conjunction f h)) (satisfiable (conjunction f (negation h)))) TooMany
-        go true e = let l = leb-true (length xs) 10 e in rw (le-ltb 10 (length xs) l) (searched-is l)
+        go true e = let l = leb-true (length xs) 10 e in rw (le-ltb 10 (length xs) l) (two (eqb (rank ws marks 3 (above c g)) 0) refl l)
         go false e = rw (lt-ltb 10 (length xs) (leb-false (length xs) 10 e))
 
-  decides-by : SomeList ws (marksFrom ws c g) (above c g) → decided ws c g ≡ decisionOf f h
-  decides-by (some-list listed) = listed-decides listed
+  decides-by : SomeList ws marks 1 (above c g) → SomeList ws marks 2 (above c g) → satisfiable f ≡ true → decided ws c g ≡ decisionOf f h
+  decides-by (some-list all) (some-list own) = listed-decides all own
 
-  -- of rows that stand for the condition and the guard the code's decision is that of the rules
-  pub decides : decided ws c g ≡ decisionOf f h
-  decides = decides-by (list-made marks-parts (above c g))
+  -- of rows that stand for the condition and the guard the code's decision is that of the rules, if the condition is satisfiable
+  pub decides : satisfiable f ≡ true → decided ws c g ≡ decisionOf f h
+  decides = decides-by (list-made (omega arith) marks-parts (above c g)) (list-made (omega arith) marks-parts (above c g))

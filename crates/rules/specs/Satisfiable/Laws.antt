@@ -136,6 +136,10 @@ pub satisfiable-only-if : (f : Formula) → satisfiable f ≡ true → (a : Atom
 unfolding satisfiable
 satisfiable-only-if f h = let c = choice-holds [] (differentAtoms f) f h in (among (c .0), among-respects (c .0), c .1)
 
+pub true-satisfiable : satisfiable (constantly true) ≡ true
+unfolding satisfiable different atomsOf someChoice holds
+true-satisfiable = refl
+
 -- where the branch of a true condition is not satisfiable, the other one is
 pub one-branch : (c g : Formula) → satisfiable c ≡ true → satisfiable (conjunction c g) ≡ false
     → satisfiable (conjunction c (negation g)) ≡ true

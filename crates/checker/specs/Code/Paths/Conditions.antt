@@ -1,4 +1,5 @@
 -- The condition joined by a guard, or without it: the path and what else it keeps. Assumes nothing.
+use mathlib.Core.Bool.{true}
 use mathlib.Core.List.{List}
 use mathlib.Core.Path.{_≡_, refl, _∙_}
 use Prim.Native.Nat.{ℕ, _+_, _≤_, _<_}
@@ -6,6 +7,7 @@ use native.Mathlib.Omega.{arith}
 use lib.ListN.{length, getD, set, length-set}
 use lib.Seq.{getD-set-same, getD-set-other}
 use Rattle.rules.specs.Paths.{Path, assume}
+use Rattle.rules.specs.Satisfiable.{satisfiable}
 use Rattle.rules.specs.Symbolic.{Formula, negation, conjunction}
 use Rattle.terms.specs.Terms.{countIn, Space, pushed, TruthRow, Grown, Made, rowLimit, symbolLimit}
 use Rattle.terms.specs.Terms.Laws.{still-distinct, grown-trans, truth-kept, pushed-length, pushed-count, pushed-added, made-conjunction, made-exclusion}
@@ -59,14 +61,15 @@ module _ (ws : List ℕ) (lent : spaceSize ≤ length ws) (rows : countIn ws ≤
       let e = set-other 288 λ z. omega arith in
       record { grows = omega arith; rows = λ k h l. set-other k λ z. omega arith }
 
-  set-path : {f : Formula} (p : Path) → r < countIn ws → TruthRow ws r f → PathIn ws p → PathIn (set ws 725 r) (assume f p)
-  set-path p l u h =
+  set-path : {f : Formula} (p : Path) → r < countIn ws → TruthRow ws r f → satisfiable f ≡ true → PathIn ws p → PathIn (set ws 725 r) (assume f p)
+  set-path p l u a h =
       let e = set-other 288 λ z. omega arith in
       let c : conditionIn (set ws 725 r) ≡ r = getD-set-same ws 725 r 0 (omega arith) in
       record {
         next = set-other 724 (λ z. omega arith) ∙ h .next;
         inside = omega (arith, e, c, l);
         condition = rw c (truth-kept set-grown u l);
+        allowed = a;
         log = rw (set-other 726 λ z. omega arith) (log-kept (λ j i _. set-other j λ z. omega arith) set-grown (h .log));
         distinct = still-distinct set-grown (omega (arith, e)) (h .distinct);
       }
@@ -100,12 +103,13 @@ module _ {ws : List ℕ} (s : Space ws 1) (lent : spaceSize ≤ length ws) (op g
         rows = omega (arith, assumed-count);
       }
 
-  assumed-by : {f : Formula} (p : Path) → Made ws added (countIn ws) f → PathIn ws p → PathIn (assumed ws op g) (assume f p)
-  assumed-by p m h = set-path added added-lent added-rows (countIn ws) p (m .inside) (m .is) (path-added (m .added) (m .distinct) h)
+  assumed-by : {f : Formula} (p : Path) → Made ws added (countIn ws) f → satisfiable f ≡ true → PathIn ws p → PathIn (assumed ws op g) (assume f p)
+  assumed-by p m a h = set-path added added-lent added-rows (countIn ws) p (m .inside) (m .is) a (path-added (m .added) (m .distinct) h)
 
 module _ {ws : List ℕ} (s : Space ws 1) (lent : spaceSize ≤ length ws) (g : ℕ) {f : Formula} (p : Path) (l : g < countIn ws) (u : TruthRow ws g f) where
-  pub assumed-path : PathIn ws p → PathIn (assumed ws 5 g) (assume (conjunction (p .condition) f) p)
-  assumed-path h = assumed-by s lent 5 g p (made-conjunction s (h .distinct) (h .condition) (h .inside) u l) h
+  pub assumed-path : satisfiable (conjunction (p .condition) f) ≡ true → PathIn ws p → PathIn (assumed ws 5 g) (assume (conjunction (p .condition) f) p)
+  assumed-path a h = assumed-by s lent 5 g p (made-conjunction s (h .distinct) (h .condition) (h .inside) u l) a h
 
-  pub denied-path : PathIn ws p → PathIn (assumed ws 7 g) (assume (conjunction (p .condition) (negation f)) p)
-  denied-path h = assumed-by s lent 7 g p (made-exclusion s (h .distinct) (h .condition) (h .inside) u l) h
+  pub denied-path : satisfiable (conjunction (p .condition) (negation f)) ≡ true → PathIn ws p
+      → PathIn (assumed ws 7 g) (assume (conjunction (p .condition) (negation f)) p)
+  denied-path a h = assumed-by s lent 7 g p (made-exclusion s (h .distinct) (h .condition) (h .inside) u l) a h

@@ -11,6 +11,7 @@ use Rattle.script.specs.declared.Refusal.the-variants.{WrongType, TooManyAtoms}
 use Rattle.rules.specs.Paths.{Path, Paths, stops, forks, assume}
 use Rattle.rules.specs.Paths.Next.{follow}
 use Rattle.rules.specs.Satisfiable.{satisfiable, differentAtoms}
+use Rattle.rules.specs.Satisfiable.Laws.{one-branch}
 use Rattle.rules.specs.Symbolic.{Formula, negation, conjunction, Symbolic, aTruth}
 use Rattle.rules.specs.SymbolicRules.{branches, decide, atomLimit}
 use Rattle.terms.specs.Terms.{countIn, Space, TruthRow, Grown, rowLimit, symbolLimit}
@@ -57,6 +58,45 @@ unfolding decide decisionOf
 decide-tree n g p e f D h =
     tree-by n (truePath g p) (falsePath g p) e f D (leb (length (differentAtoms (conjunction (p .condition) g))) atomLimit)
     (satisfiable (conjunction (p .condition) g)) (satisfiable (conjunction (p .condition) (negation g))) h
+
+-- ---- the branches that a decision allows
+
+both-by : (a b c : Bool) → pick a (branchesOf b c) TooMany ≡ Both → (b ≡ true) × (c ≡ true)
+unfolding branchesOf
+both-by true true true h = (refl, refl)
+both-by true true false h = (cc, cc)
+both-by true false c h = (cc, cc)
+both-by false b c h = (cc, cc)
+
+true-by : (a b c : Bool) → pick a (branchesOf b c) TooMany ≡ OnlyTrue → b ≡ true
+unfolding branchesOf
+true-by true true c h = refl
+true-by true false c h = cc
+true-by false b c h = cc
+
+false-by : (a b c : Bool) → pick a (branchesOf b c) TooMany ≡ OnlyFalse → b ≡ false
+unfolding branchesOf
+false-by true true true h = cc
+false-by true true false h = cc
+false-by true false c h = refl
+false-by false b c h = cc
+
+module _ (f g : Formula) where
+  abbrev few : Bool
+  few = leb (length (differentAtoms (conjunction f g))) atomLimit
+
+  both-allowed : decisionOf f g ≡ Both → (satisfiable (conjunction f g) ≡ true) × (satisfiable (conjunction f (negation g)) ≡ true)
+  unfolding decisionOf
+  both-allowed h = both-by few (satisfiable (conjunction f g)) (satisfiable (conjunction f (negation g))) h
+
+  true-allowed : decisionOf f g ≡ OnlyTrue → satisfiable (conjunction f g) ≡ true
+  unfolding decisionOf
+  true-allowed h = true-by few (satisfiable (conjunction f g)) (satisfiable (conjunction f (negation g))) h
+
+  -- the true branch is not allowed, so the false one is
+  false-allowed : satisfiable f ≡ true → decisionOf f g ≡ OnlyFalse → satisfiable (conjunction f (negation g)) ≡ true
+  unfolding decisionOf
+  false-allowed a h = one-branch f g a (false-by few (satisfiable (conjunction f g)) (satisfiable (conjunction f (negation g))) h)
 
 -- ---- a fork
 
@@ -131,14 +171,18 @@ below-row (truthRow l r) = l
 row-on : {ws xs : List ℕ} {r : Bool} (q : ℕ) → TakesChoice ws r xs → q < countIn ws → q < countIn xs
 row-on q k l = let e = k .before 288 (omega arith) in omega arith
 
+-- the decision of the rules is that of the code
+decision-is : (q : ℕ) (ws : List ℕ) → Room ws 1 → (D : Decision) → D ≡ decided ws (conditionIn ws) q → (g : Formula) (p : Path) → TruthRow ws q g
+    → q < countIn ws → PathIn ws p → decisionOf (p .condition) g ≡ D
+decision-is q ws room D is g p u l h =
+    sym (is
+    ∙ decides ws (conditionIn ws) q (p .condition) g (record { lent = omega (arith, room .lent); room = omega (arith, room .rows) }) (h .distinct)
+    (h .condition) u (h .inside) l (h .allowed))
+
 -- the tree of the rules by the decision of the code
 tree-is : (n q : ℕ) (ws : List ℕ) → Room ws 1 → (D : Decision) → D ≡ decided ws (conditionIn ws) q → (g : Formula) (p : Path) → TruthRow ws q g
     → q < countIn ws → PathIn ws p → (e f : Path → Paths) → decide n (aTruth g) p e f ≡ treeOf D n (e (truePath g p)) (f (falsePath g p))
-tree-is n q ws room D is g p u l h e f =
-    decide-tree n g p e f D
-    (sym (is
-    ∙ decides ws (conditionIn ws) q (p .condition) g (record { lent = omega (arith, room .lent); room = omega (arith, room .rows) }) (h .distinct)
-    (h .condition) u (h .inside) l))
+tree-is n q ws room D is g p u l h e f = decide-tree n g p e f D (decision-is q ws room D is g p u l h)
 
 module _ {n q : ℕ} {ws : List ℕ} where
   module _ (room : Room ws 1) where
@@ -153,7 +197,8 @@ module _ {n q : ℕ} {ws : List ℕ} where
     only-true : OnlyTrue ≡ decided ws (conditionIn ws) q → (v : Symbolic) (p : Path) → Means ws 1 q v → PathIn ws p → Chosen ws (assumed ws 5 q) n v p First
     only-true is v p (truthRow {f = g} l u) h =
         let j = joined-unchosen (assumed-joined (one-free room) (room .lent) 5 q) in
-        first (assumed-path (one-free room) (room .lent) q p l u h) λ e f.
+        let a = true-allowed (p .condition) g (decision-is q ws room OnlyTrue is g p u l h) in
+        first (assumed-path (one-free room) (room .lent) q p l u a h) λ e f.
         rw (unchosen-met j, unchosen-left j)
         (ap (λ (t : Paths). follow t (metOn ws) (leftOn ws)) (tree-is n q ws room OnlyTrue is g p u l h e f))
 
@@ -169,7 +214,8 @@ module _ {n q : ℕ} {ws : List ℕ} where
         → Chosen ws (assumed ws 7 q) n v p Second
     only-false is v p (truthRow {f = g} l u) h =
         let j = joined-unchosen (assumed-joined (one-free room) (room .lent) 7 q) in
-        second (denied-path (one-free room) (room .lent) q p l u h) λ e f.
+        let a = false-allowed (p .condition) g (h .allowed) (decision-is q ws room OnlyFalse is g p u l h) in
+        second (denied-path (one-free room) (room .lent) q p l u a h) λ e f.
         rw (unchosen-met j, unchosen-left j)
         (ap (λ (t : Paths). follow t (metOn ws) (leftOn ws)) (tree-is n q ws room OnlyFalse is g p u l h e f))
 
@@ -186,7 +232,8 @@ module _ {n q : ℕ} {ws : List ℕ} where
       both-true k v p (truthRow {f = g} l u) h =
           let s = takes-space room k in
           let j = joined-unchosen (assumed-joined s (takes-lent room k) 5 q) in
-          first (assumed-path s (takes-lent room k) q p (row-on q k l) (truth-kept (takes-grown room k) u l) (takes-path room k p h)) λ e f.
+          let a = both-allowed (p .condition) g (decision-is q ws room Both is g p u l h) in
+          first (assumed-path s (takes-lent room k) q p (row-on q k l) (truth-kept (takes-grown room k) u l) (a .0) (takes-path room k p h)) λ e f.
           rw (unchosen-met j, unchosen-left j)
           (ap (λ (t : Paths). follow t (metOn ws) (leftOn ws)) (tree-is n q ws room Both is g p u l h e f)
           ∙ fork-first (e (truePath g p)) (f (falsePath g p)) (k .choice))
@@ -204,7 +251,8 @@ module _ {n q : ℕ} {ws : List ℕ} where
       both-false k v p (truthRow {f = g} l u) h =
           let s = takes-space room k in
           let j = joined-unchosen (assumed-joined s (takes-lent room k) 7 q) in
-          second (denied-path s (takes-lent room k) q p (row-on q k l) (truth-kept (takes-grown room k) u l) (takes-path room k p h)) λ e f.
+          let a = both-allowed (p .condition) g (decision-is q ws room Both is g p u l h) in
+          second (denied-path s (takes-lent room k) q p (row-on q k l) (truth-kept (takes-grown room k) u l) (a .1) (takes-path room k p h)) λ e f.
           rw (unchosen-met j, unchosen-left j)
           (ap (λ (t : Paths). follow t (metOn ws) (leftOn ws)) (tree-is n q ws room Both is g p u l h e f)
           ∙ fork-second (e (truePath g p)) (f (falsePath g p)) (k .choice))

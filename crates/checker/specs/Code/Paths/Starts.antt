@@ -8,6 +8,7 @@ use native.Mathlib.Omega.{arith}
 use lib.ListN.{length, getD, set, length-set}
 use lib.Seq.{getD-set-same, getD-set-other, set-getD}
 use Rattle.rules.specs.Paths.{start}
+use Rattle.rules.specs.Satisfiable.Laws.{true-satisfiable}
 use Rattle.rules.specs.Symbolic.{Symbolic, symbol, symbols}
 use Rattle.terms.specs.Terms.{countIn, Space, pushed, Distinct, Grown, symbolLimit}
 use Rattle.terms.specs.Terms.Laws.{pushed-length, pushed-count, pushed-above, made-constant}
@@ -81,6 +82,7 @@ module _ {ws : List ℕ} (b : Blank ws) where
           next = first-beyond 724 (omega arith);
           inside = omega arith;
           condition = rw (d ∙ sym z) (m .is);
+          allowed = true-satisfiable;
           log = rw (first-beyond 726 (omega arith)) noWrite;
           distinct = m .distinct;
         };

@@ -139,6 +139,7 @@ started-kept {ws} {left} {depth} {rows} {types} small few same before each s =
           next = restarted-next left rows depth lent;
           inside = omega (arith, p .inside, c, d, e, f);
           condition = rw d (truth-kept grown (rw c at (p .condition)) (omega (arith, p .inside, c)));
+          allowed = p .allowed;
           log = rw (restarted-writes left rows depth lent) noWrite;
           distinct = still-distinct grown (omega arith) (p .distinct);
         }

@@ -135,6 +135,7 @@ path-moved g d c n l h =
       next = n;
       inside = omega (arith, c, h .inside, g .grows);
       condition = rw c (truth-kept g (h .condition) (h .inside));
+      allowed = h .allowed;
       log = l;
       distinct = d;
     }
