@@ -314,7 +314,7 @@ fn condition_word(words: &[u64], condition: usize, least: u8) -> u64
     words[condition]
 }
 
-// The branches that some assignment of the blocks allows, by the rows that have at least a mark.
+// The branches that some assignment of the blocks allows, by the rows that have at least a mark. The words are lent to compute in.
 fn search(
     space: &[u32],
     condition: usize,
@@ -322,19 +322,20 @@ fn search(
     marks: &[u8],
     least: u8,
     blocks: u32,
+    words: &mut [u64],
 ) -> Decision
     requires { ⌜ (condition < rowLimit) × (guard < rowLimit) ⌝ }
     requires { ⌜ Room (now space) (after condition guard) (now marks) ⌝ }
+    requires { ⌜ rowLimit ≤ length (now words) ⌝ }
     ensures { λ r. ⌜ r ≡ searched (now (space .entry)) (now (marks .entry)) least condition guard blocks ⌝ }
 {
     let n = above(condition, guard);
-    let mut words = [0u64; ROWS];
     let mut yes: u64 = 0;
     let mut no: u64 = 0;
     let mut block = 0;
     while block < blocks {
-        sweep(space, n, marks, least, block, &mut words);
-        let c = condition_word(&words, condition, least);
+        sweep(space, n, marks, least, block, words);
+        let c = condition_word(words, condition, least);
         let g = words[guard];
         yes = yes | (c & g);
         no = no | (c & !g);
@@ -355,6 +356,7 @@ pub fn decide(space: &[u32], condition: u32, guard: u32) -> Decision
     let c = condition as usize;
     let g = guard as usize;
     let mut marks = [0u8; ROWS];
+    let mut words = [0u64; ROWS];
     marks[c] = CONDITION;
     marks[g] = marks[g] | GUARD;
     let counts = mark_all(space, above(c, g), &mut marks);
@@ -362,7 +364,23 @@ pub fn decide(space: &[u32], condition: u32, guard: u32) -> Decision
         return Decision::TooMany;
     }
     if counts.shared == 0 {
-        return search(space, g, g, &marks, GUARD, blocks_of(counts.own));
+        return search(
+            space,
+            g,
+            g,
+            &marks,
+            GUARD,
+            blocks_of(counts.own),
+            &mut words,
+        );
     }
-    search(space, c, g, &marks, CONDITION, blocks_of(counts.all))
+    search(
+        space,
+        c,
+        g,
+        &marks,
+        CONDITION,
+        blocks_of(counts.all),
+        &mut words,
+    )
 }

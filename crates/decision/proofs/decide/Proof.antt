@@ -1,5 +1,6 @@
 -- `decision::decide` meets its contract: the parts, one after the other. Assumes nothing.
 use borrow.Author.Needs.{needs}
+use native.Mathlib.Omega.{arith}
 use Rattle.decision.specs.Code.{Room, startMarks}
 use Rattle.decision.specs.Code.Whole.{Prepared, room-start, room-marked, room-guard, decided-many, decided-alone, decided-both}
 use Rattle.decision.specs.Promise.{promised}
@@ -27,24 +28,24 @@ returns c =
 
 search-requires : tie.Need-search-requires
 search-requires c κs =
-    let a = c .before .before .before .before .before .before .before .before .before .before .before .args in
-    let p = c .before .before .before .before .before .before .before .before .before .before .before .pre .1 in
-    ((p .1, p .1), room-guard (a .condition) (a .guard) (room (c .before .before .before .before .before .before .before)) (c .before .before .before .before .before .before .before .before .before .above .ensures))
+    let a = c .before .before .before .before .before .before .before .before .before .before .before .before .args in
+    let p = c .before .before .before .before .before .before .before .before .before .before .before .before .pre .1 in
+    ((p .1, p .1), (room-guard (a .condition) (a .guard) (room (c .before .before .before .before .before .before .before .before)) (c .before .before .before .before .before .before .before .before .before .before .above .ensures), omega arith))
 
 returns-2 : tie.Need-returns-2
 returns-2 c =
-    let a = c .before .before .before .before .before .before .before .before .before .before .before .before .args in
-    promised (decided-alone (a .space .now) (a .condition) (a .guard) (parts (c .before .before .before .before .before .before .before .before)) (c .before .blocks-of .result) (c .search .result) (c .before .before .before .before .before .if1 .left) (c .before .before .before .if2 .taken) (c .before .blocks-of .ensures) (c .search .ensures))
+    let a = c .before .before .before .before .before .before .before .before .before .before .before .before .before .before .args in
+    promised (decided-alone (a .space .now) (a .condition) (a .guard) (parts (c .before .before .before .before .before .before .before .before .before .before)) (c .before .before .before .blocks-of .result) (c .before .search .result) (c .before .before .before .before .before .before .before .if1 .left) (c .before .before .before .before .before .if2 .taken) (c .before .before .before .blocks-of .ensures) (c .before .search .ensures))
 
 search-requires-2 : tie.Need-search-requires-2
 search-requires-2 c κs =
-    let e = c .before .before .before .before .before .before .before .before .before .above .ensures in
-    (c .before .before .before .before .before .before .before .before .before .before .before .pre .1, rw e at (room (c .before .before .before .before .before .before .before)))
+    let e = c .before .before .before .before .before .before .before .before .before .before .above .ensures in
+    (c .before .before .before .before .before .before .before .before .before .before .before .before .pre .1, (rw e at (room (c .before .before .before .before .before .before .before .before)), omega arith))
 
 returns-3 : tie.Need-returns-3
 returns-3 c =
-    let a = c .before .before .before .before .before .before .before .before .before .before .before .before .args in
-    promised (decided-both (a .space .now) (a .condition) (a .guard) (parts (c .before .before .before .before .before .before .before .before)) (c .before .blocks-of2 .result) (c .search2 .result) (c .before .before .before .before .before .if1 .left) (c .before .before .before .if2 .left) (c .before .blocks-of2 .ensures) (c .search2 .ensures))
+    let a = c .before .before .before .before .before .before .before .before .before .before .before .before .before .before .args in
+    promised (decided-both (a .space .now) (a .condition) (a .guard) (parts (c .before .before .before .before .before .before .before .before .before .before)) (c .before .before .before .blocks-of2 .result) (c .before .search2 .result) (c .before .before .before .before .before .before .before .if1 .left) (c .before .before .before .before .before .if2 .left) (c .before .before .before .blocks-of2 .ensures) (c .before .search2 .ensures))
 
 pub decide-spec : {M : Type 1} → statement M
 decide-spec =
@@ -59,9 +60,11 @@ decide-spec =
     returns
     (λ c. search needs)
     (λ c κs. search needs)
+    (λ c. search needs)
     search-requires
     returns-2
     (λ c. search needs)
     (λ c κs. search needs)
+    (λ c. search needs)
     search-requires-2
     returns-3)
