@@ -1,32 +1,32 @@
 //! The sets of inputs that are timed.
 
+use crate::nests::{Nest, Types};
+use crate::programs::{Call, Host, Input};
 use crate::scripts::TYPICAL;
+use crate::texts::{self, Lent};
+use crate::worst::worst;
 use conformance::fixed::{location, truth, word};
 use conformance::spelling::spelled;
 use conformance::stations::{lend, LENT};
 
-/// One call: a text to check, or to run on values and cells.
-pub struct Input {
-    pub text: Vec<u8>,
-    pub paths: usize,
-    pub run: Option<Host>,
-}
-
-/// What a host lends for a run: `cells` is handed over, `saved` is what it is restored from.
-pub struct Host {
-    pub values: Vec<u8>,
-    pub saved: Vec<u8>,
-    pub cells: Vec<u8>,
-    pub used: u32,
+/// Which program takes 10 s or so for a call; it is left out unless all is wanted.
+#[derive(Clone, Copy, PartialEq, Eq)]
+pub enum Slow {
+    Neither,
+    Reference,
+    Both,
 }
 
 pub struct Set {
-    pub name: &'static str,
+    pub name: String,
     pub inputs: Vec<Input>,
+    /// The refusal that every call ends with; 0 for none.
+    pub refusal: u8,
+    pub slow: Slow,
 }
 
 pub fn sets() -> Vec<Set> {
-    vec![
+    let mut sets = vec![
         set("checks: typical scripts", typical()),
         set("checks: 64 paths, 10 atoms each", many_paths()),
         set(
@@ -38,21 +38,74 @@ pub fn sets() -> Vec<Set> {
             vec![nested([3, 3, 3, 3])],
         ),
         set("checks: 64 paths in each of 64", vec![nested_two([6, 6])]),
+    ];
+    sets.extend([3, 4].into_iter().flat_map(deep));
+    sets.extend(worst());
+    sets.extend([
         set("checks: 128 nodes, typed", plain_checks()),
+        Set {
+            refusal: 13,
+            ..set("reading: 128 nodes, refused with 13", largest(5))
+        },
         set("runs: short", short_runs()),
         set("runs: long, with cells", long_runs()),
-    ]
+    ]);
+    if texts::LINKED {
+        sets.push(set("reading alone: 128 nodes", lent(Call::Read)));
+        sets.push(set("writing alone: 128 nodes", lent(Call::Write)));
+    }
+    sets
 }
 
-fn set(name: &'static str, inputs: Vec<Input>) -> Set {
-    Set { name, inputs }
+fn set(name: &str, inputs: Vec<Input>) -> Set {
+    Set {
+        name: name.to_string(),
+        inputs,
+        refusal: 0,
+        slow: Slow::Neither,
+    }
+}
+
+/// So many blocks with six forks each, without and with variables whose type differs by path.
+fn deep(depth: usize) -> Vec<Set> {
+    let kinds = [
+        (Types::Same, ""),
+        (Types::Differ, ", types differ"),
+        (Types::Mentioned(2), ", types differ, 2 mentioned"),
+        (Types::Mentioned(6), ", types differ, 6 mentioned"),
+    ];
+    kinds
+        .map(|(types, what)| {
+            let forks = 6;
+            let nest = Nest {
+                depth,
+                forks,
+                types,
+            };
+            let input = Input {
+                text: nest.text(),
+                paths: nest.paths(),
+                call: Call::Check,
+            };
+            let slow = match (depth, types) {
+                (4, Types::Mentioned(6)) => Slow::Both,
+                (4, _) => Slow::Reference,
+                _ => Slow::Neither,
+            };
+            let name = format!("checks: {depth} `sym` deep, 6 forks each{what}");
+            Set {
+                slow,
+                ..set(&name, vec![input])
+            }
+        })
+        .into()
 }
 
 fn check(entries: &str, expression: &str, paths: usize) -> Input {
     Input {
         text: spelled(entries, expression).text,
         paths,
-        run: None,
+        call: Call::Check,
     }
 }
 
@@ -155,10 +208,40 @@ fn plain_checks() -> Vec<Input> {
     ]
 }
 
+/// Scripts of 128 nodes for the reader or the writer by itself.
+fn lent(call: fn(Box<Lent>) -> Call) -> Vec<Input> {
+    let mut inputs = largest(4);
+    for input in &mut inputs {
+        input.call = call(Box::new(Lent::new(&input.text)));
+    }
+    inputs
+}
+
+/// Scripts of 128 nodes with so many nested `sym`: four are allowed. A fifth is the last that
+/// reading looks for, so with five a check ends with 13 after all of reading.
+fn largest(syms: usize) -> Vec<Input> {
+    let deep = |script: String| {
+        let not = 5 - syms;
+        "(not ".repeat(not) + &"(sym ".repeat(syms) + &script + &")".repeat(5)
+    };
+    let deepest = vec!["r".repeat(15) + "b"; 16].join(" ");
+    let words = "(add 4294967295 ".repeat(61) + "4294967295" + &")".repeat(61);
+    vec![
+        check("i", &deep(format!("(not (not {}))", sums(61))), 0),
+        check("", &deep(nots(122)), 0),
+        check(
+            "b b b b b b",
+            &deep(format!("(ref (ref {}))", forks(24, "3"))),
+            0,
+        ),
+        check(&deepest, &deep(words), 0),
+    ]
+}
+
 fn run(entries: &str, expression: &str, values: &[[u8; 5]], used: &[[u8; 5]]) -> Input {
     let saved = lend(&used.concat(), LENT);
     Input {
-        run: Some(Host {
+        call: Call::Run(Host {
             values: values.concat(),
             cells: saved.clone(),
             saved,
