@@ -18,9 +18,10 @@
  * to as many bytes as its length says. The text and the values may not overlap the cells. There is
  * no alignment to keep.
  *
- * Stack: lend a check 64 KiB and a run 32 KiB. The deepest check that was found took 64,344 bytes,
- * the deepest run 31,616. These are measured, not proved. A check's time grows with its paths:
- * docs/PERFORMANCE.md has both.
+ * Stack: lend a check 64 KiB and a run 32 KiB, beside what a thread takes for itself. The deepest
+ * check that was found took 58,023 bytes, the deepest run 31,631. These are measured, by
+ * examples/stack_test.c, and not proved. A check's time grows with its paths: docs/PERFORMANCE.md
+ * has both.
  */
 #ifndef TEQHARIS_H
 #define TEQHARIS_H
