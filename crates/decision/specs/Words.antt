@@ -9,10 +9,9 @@ use borrow.Author.Tests.{le-ltb, le-leb}
 use native.Mathlib.Decide.{ℕ-discrete, le-ind}
 use native.Mathlib.Omega.{arith}
 use lib.Bits.{bitAnd, bitXor, and-lt, xor-lt}
-use lib.Dec.{ltb, lit<}
+use lib.Dec.{lit<}
 use lib.ListN.{getD, List·getD-append}
 use lib.Seq.{getD-at}
-use Rattle.script.specs.Tests.{pick}
 use Rattle.script.specs.Tests.Laws.{or-cases}
 use Rattle.rules.specs.Satisfiable.{holds, atomsOf, among}
 use Rattle.rules.specs.Satisfiable.Laws.{among-same, among-append}

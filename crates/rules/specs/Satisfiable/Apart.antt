@@ -5,7 +5,7 @@ use Rattle.script.specs.Tests.{pick}
 use Rattle.script.specs.Tests.Laws.{both-true, true-both, both-ways}
 use Rattle.rules.specs.Satisfiable.{holds, atomsOf, among, satisfiable}
 use Rattle.rules.specs.Satisfiable.Laws.{Respects, among-same, holds-agree, satisfiable-if, satisfiable-only-if}
-use Rattle.rules.specs.Symbolic.{Atom, Formula, negation, conjunction, sameAtom}
+use Rattle.rules.specs.Symbolic.{Atom, Formula, negation, conjunction}
 
 -- no atom of the one is the same as one of the other
 pub record Apart (f g : Formula) : Type 0 where

@@ -1,54 +1,50 @@
 -- What keeps notes right: where they and the first variables stay as they are. Assumes nothing.
 use mathlib.Core.List.{List}
 use mathlib.Core.Option.{some}
-use mathlib.Core.Path.{_≡_, refl, sym, ap, _∙_}
-use Prim.Native.Nat.{ℕ, suc, _+_, _*_, _≤_, _<_}
+use mathlib.Core.Path.{_≡_, sym, ap, _∙_}
+use Prim.Native.Nat.{ℕ, _+_, _*_, _≤_, _<_}
 use native.Mathlib.Omega.{arith}
 use lib.ListN.{length, getD, getElem?}
-use Rattle.script.specs.Code.Forms.{treeIn}
-use Rattle.script.specs.declared.Checked.{Checked}
-use Rattle.script.specs.declared.Checked.the-variants.{Accepted}
-use Rattle.rules.specs.Checking.{check}
-use Rattle.checker.specs.Code.Notes.{baseIn, noteAt, operandIn, depthIn, typeIn, namesIn, nameIn, namedType, Agrees, NoteOf, Kept, Noting, Holding, Bare}
+use Rattle.checker.specs.Code.Notes.{baseIn, noteAt, namesIn, nameIn, Agrees, NoteOf, Kept, Noting, Holding, Bare}
 use Rattle.checker.specs.Code.State.{Unnoted}
 
-module _ {ws left : List ℕ} (first : (k : ℕ) → k < 2 * baseIn ws → getD left k 0 ≡ getD ws k 0) (u : Unnoted ws left) where
-  base-same : baseIn left ≡ baseIn ws
-  base-same = u .each 1241 (omega arith) (omega arith)
+-- a note whose places are as they were, where the first variables have the types that they had
+module _ (ws left : List ℕ) (base : baseIn left ≡ baseIn ws) (first : (k : ℕ) → k < baseIn ws → getD left (2 * k) 0 ≡ getD ws (2 * k) 0) (i : ℕ)
+    (place : (k : ℕ) → noteAt i ≤ k → k < noteAt i + 16 → getD left k 0 ≡ getD ws k 0) where
+  names-same : namesIn left (noteAt i) ≡ namesIn ws (noteAt i)
+  names-same = place (noteAt i + 3) (omega arith) (omega arith)
 
-  module _ (i : ℕ) (h : i < 8) where
-    names-same : namesIn left (noteAt i) ≡ namesIn ws (noteAt i)
-    names-same = u .each (noteAt i + 3) (omega arith) (omega arith)
+  name-same : (j : ℕ) → j < 6 → nameIn left (noteAt i) j ≡ nameIn ws (noteAt i) j
+  name-same j l = place (noteAt i + 4 + 2 * j) (omega arith) (omega arith)
 
-    name-same : (j : ℕ) → j < 6 → nameIn left (noteAt i) j ≡ nameIn ws (noteAt i) j
-    name-same j l = u .each (noteAt i + 4 + 2 * j) (omega arith) (omega arith)
+  agrees-same : {types : List ℕ} → namesIn ws (noteAt i) ≤ 6 → Agrees left (noteAt i) types → Agrees ws (noteAt i) types
+  agrees-same {types} few a =
+      record {
+        first = λ k l. a .first k (omega (arith, l, base)) ∙ ap some (first k l);
+        others = λ j l.
+            ap (getElem? types) (sym (name-same j (omega arith))) ∙ a .others j (omega (arith, l, names-same))
+            ∙ ap some (place (noteAt i + 5 + 2 * j) (omega arith) (omega arith));
+      }
 
-    agrees-same : (types : List ℕ) → namesIn ws (noteAt i) ≤ 6 → Agrees left (noteAt i) types → Agrees ws (noteAt i) types
-    agrees-same types few a =
-        let b = base-same in
-        let n = names-same in
-        record {
-          first = λ k l. a .first k (omega arith) ∙ ap some (first (2 * k) (omega arith));
-          others = λ j l.
-              ap (λ (v : ℕ). getElem? types v) (sym (name-same j (omega arith))) ∙ a .others j (omega arith)
-              ∙ ap some (u .each (noteAt i + 5 + 2 * j) (omega arith) (omega arith));
-        }
+  pub note-same : {limit depth : ℕ} {table : List ℕ} → NoteOf limit table ws (noteAt i) depth → NoteOf limit table left (noteAt i) depth
+  note-same o =
+      record {
+        few = omega (arith, names-same, o .few);
+        inside = λ j l. let h : j < namesIn ws (noteAt i) = omega (arith, l, names-same) in
+            omega (arith, name-same j (omega (arith, h, o .few)), o .inside j h);
+        right = λ types l a.
+            rw (place (noteAt i) (omega arith) (omega arith), place (noteAt i + 2) (omega arith) (omega arith))
+            (o .right types l (agrees-same (o .few) a));
+      }
 
-    note-same : {limit : ℕ} {table : List ℕ} (depth : ℕ) → NoteOf limit table ws (noteAt i) depth → NoteOf limit table left (noteAt i) depth
-    note-same depth o =
-        let n = names-same in
-        let f = o .few in
-        record {
-          few = omega arith;
-          inside = λ j l. let e = name-same j (omega arith) in let d = o .inside j (omega arith) in omega arith;
-          right = λ types l a.
-              rw (u .each (noteAt i) (omega arith) (omega arith), u .each (noteAt i + 2) (omega arith) (omega arith))
-              (o .right types l (agrees-same types f a));
-        }
-
-  pub kept-same : {limit : ℕ} {table : List ℕ} → Kept limit table ws → Kept limit table left
-  kept-same k =
-      record { notes = λ i h depth e. note-same i h depth (k .notes i h depth (sym (u .each (noteAt i + 1) (omega arith) (omega arith)) ∙ e)) }
+kept-same : {limit : ℕ} {table ws left : List ℕ} → ((k : ℕ) → k < 2 * baseIn ws → getD left k 0 ≡ getD ws k 0) → Unnoted ws left
+    → Kept limit table ws → Kept limit table left
+kept-same {ws = ws} {left = left} first u k =
+    record {
+      notes = λ i h depth e.
+          note-same ws left (u .each 1241 (omega arith) (omega arith)) (λ j l. first (2 * j) (omega arith)) i (λ j l m. u .each j (omega arith) (omega arith))
+          (k .notes i h depth (sym (u .each (noteAt i + 1) (omega arith) (omega arith)) ∙ e));
+    }
 
 -- ---- along the steps
 

@@ -19,6 +19,7 @@ use Rattle.rules.specs.Checking.{check}
 use Rattle.rules.specs.Checking.Mentions.{mentions, check-same}
 use Rattle.terms.specs.Terms.{symbolLimit}
 use Rattle.checker.specs.Code.Notes.{baseIn, noteAt, operandIn, depthIn, typeIn, namesIn, nameIn, namedType, Named, named, Nameable, Naming, Names, Agrees, NoteOf, Kept, Noted}
+use Rattle.checker.specs.Code.Notes.Keeping.{note-same}
 use Rattle.checker.specs.Code.State.{spaceSize, typesOn}
 use Rattle.checker.specs.Code.State.Laws.{types-at, types-length, types-kept, none-at}
 
@@ -181,35 +182,8 @@ module _ {ws left : List ℕ} (turn : ℕ) (s : Elsewhere (noteAt turn) ws left)
     place-same : (k : ℕ) → noteAt i ≤ k → k < noteAt i + 16 → getD left k 0 ≡ getD ws k 0
     place-same k h l = s .each k (λ e. omega arith) (λ a b. omega arith)
 
-    names-same : namesIn left (noteAt i) ≡ namesIn ws (noteAt i)
-    names-same = place-same (noteAt i + 3) (omega arith) (omega arith)
-
-    name-same : (j : ℕ) → j < 6 → nameIn left (noteAt i) j ≡ nameIn ws (noteAt i) j
-    name-same j l = place-same (noteAt i + 4 + 2 * j) (omega arith) (omega arith)
-
-    named-same : (j : ℕ) → j < 6 → namedType left (noteAt i) j ≡ namedType ws (noteAt i) j
-    named-same j l = place-same (noteAt i + 5 + 2 * j) (omega arith) (omega arith)
-
-    agrees-before : {types : List ℕ} → namesIn ws (noteAt i) ≤ 6 → Agrees left (noteAt i) types → Agrees ws (noteAt i) types
-    agrees-before {types} few a =
-        record {
-          first = λ k l. a .first k (omega (arith, l, base-same)) ∙ ap some (variable-same k (omega arith));
-          others = λ j l.
-              ap (getElem? types) (sym (name-same j (omega arith)))
-              ∙ a .others j (omega (arith, l, names-same))
-              ∙ ap some (named-same j (omega arith));
-        }
-
     note-still : {limit depth : ℕ} {table : List ℕ} → NoteOf limit table ws (noteAt i) depth → NoteOf limit table left (noteAt i) depth
-    note-still n =
-        record {
-          few = omega (arith, names-same, n .few);
-          inside = λ j l. let h : j < namesIn ws (noteAt i) = omega (arith, l, names-same) in
-              omega (arith, name-same j (omega (arith, h, n .few)), n .inside j h);
-          right = λ types l a.
-              rw (place-same (noteAt i) (omega arith) (omega arith), place-same (noteAt i + 2) (omega arith) (omega arith))
-              (n .right types l (agrees-before (n .few) a));
-        }
+    note-still = note-same ws left base-same (λ k l. variable-same k (omega arith)) i place-same
 
   -- and so all are right if the new one is
   kept-still : {limit : ℕ} {table : List ℕ} → baseIn ws ≤ symbolLimit → Kept limit table ws

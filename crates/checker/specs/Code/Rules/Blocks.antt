@@ -1,15 +1,15 @@
 -- A typed block on a path, as the notes answer it, or else the typed rules, whose answer is then noted. Assumes nothing.
 use mathlib.Core.List.{List}
 use mathlib.Core.Path.{_≡_, refl, sym, _∙_}
-use Prim.Native.Nat.{ℕ, _*_, _≤_, _<_}
+use Prim.Native.Nat.{ℕ, _≤_}
 use native.Mathlib.Omega.{arith}
-use lib.ListN.{length, getD}
+use lib.ListN.{length}
 use Rattle.script.specs.Code.Forms.{treeIn}
 use Rattle.script.specs.declared.Checked.{Checked}
 use Rattle.script.specs.declared.Checked.the-variants.{Accepted}
 use Rattle.rules.specs.Checking.{check}
 use Rattle.terms.specs.Terms.{symbolLimit}
-use Rattle.checker.specs.Code.Notes.{baseIn, Recallables, recalledOn, Kept, Noted, Noting, Blocked}
+use Rattle.checker.specs.Code.Notes.{Recallables, recalledOn, Kept, Noted, Noting, Blocked}
 use Rattle.checker.specs.Code.Notes.Keeping.{still-holding}
 use Rattle.checker.specs.Code.Notes.Recalling.{kept-recallables, recalled-right}
 use Rattle.checker.specs.Code.Rules.{Checkable, Judged}

@@ -18,7 +18,7 @@ use Rattle.rules.specs.Checking.{check, exec}
 use Rattle.rules.specs.Paths.{Path, Paths, bind}
 use Rattle.rules.specs.Paths.Next.{Trace, halts, follow, onward, follow-bind}
 use Rattle.rules.specs.Symbolic.{Symbolic}
-use Rattle.rules.specs.SymbolicRules.{typedResult, decide}
+use Rattle.rules.specs.SymbolicRules.{typedResult}
 use Rattle.terms.specs.Terms.{Grown}
 use Rattle.terms.specs.Terms.Laws.{still-distinct}
 use Rattle.checker.specs.Code.Notes.{Holding, Blocked}
