@@ -139,7 +139,8 @@ module _ {ws ms : List ℕ} {least : ℕ} where
 
   -- ---- each once
 
-  listed-below : Distinct ws → {n : ℕ} {xs : List Atom} → Listed ws ms least n xs → (j : ℕ) (y : Atom) → n ≤ j → j < countIn ws → AtomRow ws j y → among xs y ≡ false
+  listed-below : Distinct ws → {n : ℕ} {xs : List Atom} → Listed ws ms least n xs → (j : ℕ) (y : Atom) → n ≤ j → j < countIn ws → AtomRow ws j y
+      → among xs y ≡ false
   unfolding among
   listed-below d listed-none j y h k r = refl
   listed-below d (listed-skip e l) j y h k r = listed-below d l j y (omega arith) k r
@@ -166,7 +167,8 @@ module _ {ws ms : List ℕ} {least : ℕ} where
   listed-assigns d (listed-more {i = j} {x = x} {xs = xs} f a l) b m i y h c r =
       go (ℕ-discrete i j) (λ k. listed-assigns d l (omega arith) m i y k c r)
     where
-      go : Dec (i ≡ j) → (i < j → assign xs m y ≡ bit m (rank ws ms least i)) → pick (sameAtom x y) (bit m (length xs)) (assign xs m y) ≡ bit m (rank ws ms least i)
+      go : Dec (i ≡ j) → (i < j → assign xs m y ≡ bit m (rank ws ms least i))
+          → pick (sameAtom x y) (bit m (length xs)) (assign xs m y) ≡ bit m (rank ws ms least i)
       go (yes q) ih =
           let e : x ≡ y = atom-one a (rw q at r) in
           let n : length xs ≡ rank ws ms least i = rw q (listed-length l) in

@@ -147,7 +147,8 @@ module _ (ms : List ℕ) (r : Row) (i : ℕ) where
         let e = reached-length ms (r .a) f m in
         let p = operand-below 4 (r .op) m i (r .a) o in
         let b = o .below in
-        reached-keeps (reached ms (r .a) f m) (r .b) (operandBelow 5 (r .op) m i) m kept (r .a) (reached-there ms (r .a) f m kept h (omega arith) (omega arith)) (omega arith)
+        reached-keeps (reached ms (r .a) f m) (r .b) (operandBelow 5 (r .op) m i) m kept (r .a)
+        (reached-there ms (r .a) f m kept h (omega arith) (omega arith)) (omega arith)
 
     pub row-second : Operand 5 (r .op) (getD ms i 0) i (r .b) → P (getD ms i 0) → i ≤ length ms → P (getD (markRow ms r i) (r .b) 0)
     unfolding markRow

@@ -66,7 +66,8 @@ module _ (ws ms : List ℕ) (least block : ℕ) where
       w : ℕ
       w = wordOf (words ws ms least block n) (rowIn ws n) (getD ms n 0) least (rank ws ms least n) block
 
-      go : Dec (n ≡ i) → (i < n → getD (words ws ms least block n) i 0 ≡ wordOf (words ws ms least block i) (rowIn ws i) (getD ms i 0) least (rank ws ms least i) block)
+      go : Dec (n ≡ i)
+          → (i < n → getD (words ws ms least block n) i 0 ≡ wordOf (words ws ms least block i) (rowIn ws i) (getD ms i 0) least (rank ws ms least i) block)
           → getD (words ws ms least block n ++ (wordOf (words ws ms least block n) (rowIn ws n) (getD ms n 0) least (rank ws ms least n) block ∷ [])) i 0
           ≡ wordOf (words ws ms least block i) (rowIn ws i) (getD ms i 0) least (rank ws ms least i) block
       go (yes q) ih = rw q (getD-at (words ws ms least block i) _ [] 0 i (words-length ws ms least block i))
@@ -79,7 +80,8 @@ module _ (ws ms : List ℕ) (least block : ℕ) where
 
   word-row : (n i : ℕ) → i < n → least ≤ getD ms i 0
       → getD (words ws ms least block n) i 0
-      ≡ rowWord (rowIn ws i) (getD (words ws ms least block i) (rowIn ws i .a) 0) (getD (words ws ms least block i) (rowIn ws i .b) 0) (rank ws ms least i) block
+      ≡ rowWord (rowIn ws i) (getD (words ws ms least block i) (rowIn ws i .a) 0) (getD (words ws ms least block i) (rowIn ws i .b) 0)
+      (rank ws ms least i) block
   unfolding wordOf
   word-row n i h k = words-at n i h ∙ rw (le-ltb (getD ms i 0) least k)
 
@@ -233,17 +235,23 @@ module _ {ws ms : List ℕ} {least n : ℕ} {xs : List Atom} (s : Sweep ws ms le
         rw (word-row ws ms least block n i h k, word-negation (rowIn ws i) _ _ _ block eo, operand-word i (rowIn ws i .a) j h ea ja)
         (right-negation (rows-right t (omega arith) (first-marked (s .closed) i j h k (omega arith) (omega arith) ea ja)))
     rows-right (conjunctionRow {i = i} {j = j} {k = m} eo ea eb ja jb t u) h k =
-        rw (word-row ws ms least block n i h k, word-conjunction (rowIn ws i) _ _ _ block eo, operand-word i (rowIn ws i .a) j h ea ja, operand-word i (rowIn ws i .b) m h eb jb)
+        let p = operand-word i (rowIn ws i .a) j h ea ja in
+        let q = operand-word i (rowIn ws i .b) m h eb jb in
+        rw (word-row ws ms least block n i h k, word-conjunction (rowIn ws i) _ _ _ block eo, p, q)
         (right-conjunction
         (rows-right t (omega arith) (first-marked (s .closed) i j h k (omega arith) (omega arith) ea ja))
         (rows-right u (omega arith) (second-marked (s .closed) i m h k (omega arith) (omega arith) eb jb)))
     rows-right (equalityRow {i = i} {j = j} {k = m} eo ea eb ja jb t u) h k =
-        rw (word-row ws ms least block n i h k, word-equality (rowIn ws i) _ _ _ block eo, operand-word i (rowIn ws i .a) j h ea ja, operand-word i (rowIn ws i .b) m h eb jb)
+        let p = operand-word i (rowIn ws i .a) j h ea ja in
+        let q = operand-word i (rowIn ws i .b) m h eb jb in
+        rw (word-row ws ms least block n i h k, word-equality (rowIn ws i) _ _ _ block eo, p, q)
         (right-equality
         (rows-right t (omega arith) (first-marked (s .closed) i j h k (omega arith) (omega arith) ea ja))
         (rows-right u (omega arith) (second-marked (s .closed) i m h k (omega arith) (omega arith) eb jb)))
     rows-right (exclusionRow {i = i} {j = j} {k = m} eo ea eb ja jb t u) h k =
-        rw (word-row ws ms least block n i h k, word-exclusion (rowIn ws i) _ _ _ block eo, operand-word i (rowIn ws i .a) j h ea ja, operand-word i (rowIn ws i .b) m h eb jb)
+        let p = operand-word i (rowIn ws i .a) j h ea ja in
+        let q = operand-word i (rowIn ws i .b) m h eb jb in
+        rw (word-row ws ms least block n i h k, word-exclusion (rowIn ws i) _ _ _ block eo, p, q)
         (right-conjunction
         (rows-right t (omega arith) (first-marked (s .closed) i j h k (omega arith) (omega arith) ea ja))
         (right-negation (rows-right u (omega arith) (second-marked (s .closed) i m h k (omega arith) (omega arith) eb jb))))

@@ -314,7 +314,8 @@ fn condition_word(words: &[u64], condition: usize, least: u8) -> u64
     words[condition]
 }
 
-// The branches that some assignment of the blocks allows, by the rows that have at least a mark. The words are lent to compute in.
+// The branches that some assignment of the blocks allows, by the rows that have at least a mark. With the guard's mark the row of the condition is not
+// looked at, and any row may stand in its place. The words are lent to compute in.
 fn search(
     space: &[u32],
     condition: usize,
@@ -347,7 +348,7 @@ fn search(
     branches_of(yes, no)
 }
 
-// Which of 'condition and guard' and 'condition and not guard' is satisfiable, where the condition is.
+// Which of 'condition and guard' and 'condition and not guard' is satisfiable, where the condition is: by the guard alone, if they share no atom.
 pub fn decide(space: &[u32], condition: u32, guard: u32) -> Decision
     requires { ⌜ rowsEnd ≤ length (now space) ⌝ }
     requires { ⌜ (condition < rowLimit) × (guard < rowLimit) ⌝ }

@@ -62,7 +62,7 @@ reached-length ms a below mark = go (leb below a)
     go false = length-set ms a (bitOr (getD ms a 0) mark)
 
 -- no row is below row 0
-pub reached-none : (ms : List ℕ) (a mark : ℕ) → reached ms a 0 mark ≡ ms
+reached-none : (ms : List ℕ) (a mark : ℕ) → reached ms a 0 mark ≡ ms
 unfolding reached
 reached-none ms a mark = rw (le-leb 0 a (omega arith))
 
@@ -98,7 +98,8 @@ mark-unmarked ms r i e =
 mark-atom : (ms : List ℕ) (r : Row) (i : ℕ) → 8 ≤ r .op → ms ≡ markRow ms r i
 unfolding markRow
 mark-atom ms r i h =
-    rw (below-atom 4 (r .op) (getD ms i 0) i h, below-atom 5 (r .op) (getD ms i 0) i h, reached-none ms (r .a) (getD ms i 0), reached-none ms (r .b) (getD ms i 0))
+    let m = getD ms i 0 in
+    rw (below-atom 4 (r .op) m i h, below-atom 5 (r .op) m i h, reached-none ms (r .a) m, reached-none ms (r .b) m)
 
 pub marked-length : (ws : List ℕ) (n : ℕ) (ms : List ℕ) → length (marked ws n ms) ≡ length ms
 unfolding marked
@@ -243,7 +244,8 @@ module _ {ws ms : List ℕ} (least block : ℕ) (vs : List ℕ) (i seen : ℕ) w
         counts = en ∙ ap (λ (q : Row). seenAfter (q .op) (getD ms i 0) least seen) e;
         word =
             ap (λ (v : ℕ). set vs i v)
-            (word-marked (take i vs) r (getD ms i 0) least seen block x y w l ex ey ew ∙ ap (λ (q : Row). wordOf (take i vs) q (getD ms i 0) least seen block) e);
+            (word-marked (take i vs) r (getD ms i 0) least seen block x y w l ex ey ew
+            ∙ ap (λ (q : Row). wordOf (take i vs) q (getD ms i 0) least seen block) e);
       }
 
 module _ (ws ms : List ℕ) (least block : ℕ) where

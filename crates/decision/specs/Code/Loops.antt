@@ -31,10 +31,10 @@ pub record Marking (ws : List ℕ) (n : ℕ) (start ms : List ℕ) (j : ℕ) : T
   pub same : length ms ≡ length start
   pub rest : marked ws j ms ≡ marked ws n start
 
-pub marking : (ws : List ℕ) (n : ℕ) (start : List ℕ) → Marking ws n start start n
+marking : (ws : List ℕ) (n : ℕ) (start : List ℕ) → Marking ws n start start n
 marking ws n start = record { within = omega arith; same = refl; rest = refl }
 
-pub marking-on : {ws : List ℕ} {n : ℕ} {start ms : List ℕ} {j : ℕ} (out : List ℕ) → Marking ws n start ms j → 0 < j
+marking-on : {ws : List ℕ} {n : ℕ} {start ms : List ℕ} {j : ℕ} (out : List ℕ) → Marking ws n start ms j → 0 < j
     → out ≡ markRow ms (rowIn ws (j - 1)) (j - 1) → Marking ws n start out (j - 1)
 marking-on {ws} {n} {start} {ms} {j} out k h eo =
     record {
@@ -47,7 +47,7 @@ pub marking-end : {ws : List ℕ} {n : ℕ} {start ms : List ℕ} {j : ℕ} → 
 marking-end {ws} {n} {start} {ms} {j} k h = let e : j ≡ 0 = omega arith in sym (marked-none ws ms) ∙ rw e at (k .rest)
 
 -- a row is marked as it will stay when its turn comes
-pub marking-last : {ws : List ℕ} {n : ℕ} {start ms : List ℕ} {j : ℕ} → Marking ws n start ms j → 0 < j
+marking-last : {ws : List ℕ} {n : ℕ} {start ms : List ℕ} {j : ℕ} → Marking ws n start ms j → 0 < j
     → getD ms (j - 1) 0 ≡ getD (marked ws n start) (j - 1) 0
 marking-last {ws} {n} {start} {ms} {j} k h =
     let r = rowIn ws (j - 1) in

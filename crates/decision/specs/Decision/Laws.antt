@@ -1,4 +1,5 @@
--- The decision on the rows is the decision of the symbolic rules on the formulas that the rows stand for. Assumes nothing.
+-- The decision on the rows is the decision of the symbolic rules on the formulas that the rows stand for, where the condition is satisfiable: a guard
+-- that shares no atom with it is decided alone. Assumes nothing.
 use mathlib.Core.Bool.{Bool, true, false, not, false≢true}
 use mathlib.Core.List.{List}
 use mathlib.Core.Logic.{_⊎_, inl, inr}
@@ -192,7 +193,7 @@ module _ (ws : List ℕ) (c g : ℕ) (f h : Formula) (space : Space ws 0) (disti
         let r = g-row in
         marked-keeps ws kept (above c g) (startMarks c g) g (start-second c g kept g-row p) (omega arith)
 
-  -- a list of the atoms that have at least a mark
+  -- a list of the atoms that have at least a mark, where the guard has it
   module _ (least : ℕ) (pos : 0 < least) (two : least ≤ 2) {xs : List Atom} (listed : Listed ws marks least (above c g) xs) where
     sweep : Sweep ws marks least (above c g) xs
     sweep =
@@ -299,8 +300,8 @@ module _ (ws : List ℕ) (c g : ℕ) (f h : Formula) (space : Space ws 0) (disti
       go (no r) (no l) =
           let w = within in true-or-false (sameAtom y x) (sameAtom-sym x y same) (distinct .apart j i y x (omega arith) (omega arith) b a)
 
-  no-atom : rank ws marks 3 (above c g) ≡ 0 → Apart f h
-  no-atom e =
+  guard-apart : rank ws marks 3 (above c g) ≡ 0 → Apart f h
+  guard-apart e =
       record {
         each = λ z p q.
             same-row z e (rows-of (marks-closed kept-odd) is-condition (above-first c g) (marks-condition kept-odd refl) z p)
@@ -311,12 +312,12 @@ module _ (ws : List ℕ) (c g : ℕ) (f h : Formula) (space : Space ws 0) (disti
   unfolding conditionWord spreadOf
   truth-right xs block = right-constant true
 
-  no-atoms : (e : Formula) → Apart (constantly true) e
+  truth-apart : (e : Formula) → Apart (constantly true) e
   unfolding atomsOf among
-  no-atoms e = record { each = λ z p q. false≢true p }
+  truth-apart e = record { each = λ z p q. false≢true p }
 
   alone-is : (e : Formula) → Apart f e → satisfiable f ≡ true → satisfiable (conjunction (constantly true) e) ≡ satisfiable (conjunction f e)
-  alone-is e d s = apart-alone (constantly true) e (no-atoms e) true-satisfiable ∙ sym (apart-alone f e d s)
+  alone-is e d s = apart-alone (constantly true) e (truth-apart e) true-satisfiable ∙ sym (apart-alone f e d s)
 
   module _ {xs : List Atom} (listed : Listed ws marks 2 (above c g) xs) where
     searched-alone : length xs ≤ 10 → Apart f h → satisfiable f ≡ true
@@ -343,7 +344,7 @@ module _ (ws : List ℕ) (c g : ℕ) (f h : Formula) (space : Space ws 0) (disti
         two : (t : Bool) → eqb (rank ws marks 3 (above c g)) 0 ≡ t → length xs ≤ 10
             → pick t (searched ws marks 2 g g (blocksOf (length ys))) (searched ws marks 1 c g (blocksOf (length xs)))
             ≡ branchesOf (satisfiable (conjunction f h)) (satisfiable (conjunction f (negation h)))
-        two true e l = searched-alone own (few-own l) (no-atom (eqb-true (rank ws marks 3 (above c g)) 0 e)) allowed
+        two true e l = searched-alone own (few-own l) (guard-apart (eqb-true (rank ws marks 3 (above c g)) 0 e)) allowed
         two false e l = searched-both all l
 
         go : (t : Bool) → leb (length xs) 10 ≡ t
