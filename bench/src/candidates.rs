@@ -81,10 +81,10 @@ fn blocks(tree: &Tree, symbolic: bool) -> usize {
 }
 
 #[cfg(test)]
-mod tests {
+pub(crate) mod tests {
     use super::*;
 
-    fn candidate(expression: &str) -> Candidate {
+    pub(crate) fn candidate(expression: &str) -> Candidate {
         Candidate::spelled(String::new(), "b i", expression).expect("a script")
     }
 

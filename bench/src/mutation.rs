@@ -117,10 +117,7 @@ fn scope_at(tree: &Tree, n: usize, outside: usize) -> usize {
 #[cfg(test)]
 mod tests {
     use super::*;
-
-    fn candidate(expression: &str) -> Candidate {
-        Candidate::spelled(String::new(), "b i", expression).expect("a script")
-    }
+    use crate::candidates::tests::candidate;
 
     #[test]
     fn a_let_binds_in_its_second_operand() {
