@@ -9,11 +9,15 @@ ghost use Rattle.script.specs.Table.{tableTest};
 ghost use Rattle.rules.specs.Checking.{pathLimit, CheckedBy};
 ghost use Rattle.checker.specs.Code.Whole.{Placed};
 
+mod forks;
+mod frames;
 mod log;
 mod nodes;
 mod notes;
 mod operators;
 mod path;
+mod rise;
+mod steps;
 mod types;
 
 use nodes::check_node;

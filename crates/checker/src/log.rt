@@ -3,8 +3,9 @@ ghost use mathlib.Core.Path.{_≡_};
 ghost use Prim.Native.Nat.{suc, _-_, _<_, _≤_};
 ghost use lib.ListN.{length};
 ghost use Rattle.checker.specs.Code.Log.{rightOn, mendsOn, mendedOn, settledOn, consistentOn, apartOn, lookupOn, written};
-ghost use Rattle.checker.specs.Code.State.{nodeLimit, spaceSize, writesIn};
+ghost use Rattle.checker.specs.Code.State.{nodeLimit, spaceSize, writesIn, startIn};
 use crate::path::LOG;
+use crate::path::START;
 use crate::path::WRITES;
 
 // What `get` finds: a value's type and place, or nothing.
@@ -67,14 +68,15 @@ fn settled(space: &[u32], i: usize) -> bool
     mended(space, i, space[LOG + 4 * i + 1] / 2)
 }
 
-// Each write of a wrong type is followed by one of the right type through the same symbol.
+// Each write of a wrong type, from the first that counts on, is followed by one of the right type through the same symbol.
 pub fn consistent(space: &[u32]) -> bool
     requires { ⌜ writesIn (now space) ≤ nodeLimit ⌝ }
     requires { ⌜ spaceSize ≤ length (now space) ⌝ }
-    ensures { λ r. ⌜ r ≡ consistentOn (now (space .entry)) 0 (writesIn (now (space .entry))) ⌝ }
+    ensures { λ r. ⌜ r ≡ consistentOn (now (space .entry)) (startIn (now (space .entry))) 0 (writesIn (now (space .entry)) - startIn (now (space .entry))) ⌝ }
 {
+    let first = space[START] as usize;
     let mut i = space[WRITES] as usize;
-    while 0 < i {
+    while first < i {
         if !settled(space, i - 1) {
             return false;
         }
@@ -96,14 +98,15 @@ fn apart(p: u32, q: u32) -> bool
     p / 2 != q / 2
 }
 
-// What `get` finds through the reference at this place, seen from the newest write.
+// What `get` finds through the reference at this place, seen from the newest write, among those that count.
 pub fn lookup(space: &[u32], place: u32) -> Found
     requires { ⌜ writesIn (now space) ≤ nodeLimit ⌝ }
     requires { ⌜ spaceSize ≤ length (now space) ⌝ }
-    ensures { λ r. ⌜ r ≡ lookupOn (now (space .entry)) place (writesIn (now (space .entry))) ⌝ }
+    ensures { λ r. ⌜ r ≡ lookupOn (now (space .entry)) (startIn (now (space .entry))) place (writesIn (now (space .entry)) - startIn (now (space .entry))) ⌝ }
 {
+    let first = space[START] as usize;
     let mut i = space[WRITES] as usize;
-    while 0 < i {
+    while first < i {
         let through = space[LOG + 4 * (i - 1) + 1];
         if !apart(through, place) {
             if through / 2 == place / 2 {

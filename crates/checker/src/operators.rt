@@ -11,6 +11,7 @@ use crate::log::consistent;
 use crate::log::lookup;
 use crate::log::write;
 use crate::path::NEXT;
+use crate::path::START;
 use crate::path::WRITES;
 use crate::path::fresh;
 use crate::types::DEEPEST;
@@ -191,7 +192,7 @@ pub fn two(kind: u32, t: u32, p: u32, u: u32, q: u32, space: &mut [u32], n: u32)
     }
 }
 
-// After a typed block whose operand has type t: a consistent log, which is then empty, and a fresh symbol.
+// After a typed block whose operand has type t: a consistent log, of which no write counts then, and a fresh symbol.
 pub fn typed_result(t: u32, space: &mut [u32], n: u32) -> Step
     requires { ⌜ Room (now space) 1 ⌝ }
     ensures { λ r. ⌜ After n t (now (space .entry)) r (now (space .exit)) ⌝ }
@@ -199,6 +200,6 @@ pub fn typed_result(t: u32, space: &mut [u32], n: u32) -> Step
     if !consistent(space) {
         return Step::Stopped(Refusal::InconsistentLog(n));
     }
-    space[WRITES] = 0;
+    space[START] = space[WRITES];
     Step::Gave(t, fresh(space, t))
 }

@@ -1,6 +1,5 @@
 -- Paths of symbolic execution (document 01, 'Symbolic mode'): the state of a path with its write log, and the decision tree whose leaves are the
 -- paths in their order. Assumes nothing.
-pub mod Next
 use mathlib.Core.Bool.{Bool, true, false, _&&_, _||_}
 use mathlib.Core.List.{List, [], _∷_, _++_}
 use mathlib.Core.Option.{Option, none, some}

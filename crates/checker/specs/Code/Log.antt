@@ -33,22 +33,25 @@ mendedOn ws s i (suc more) = mendsOn ws s i || mendedOn ws s (suc i) more
 abbrev pub settledOn : List ℕ → ℕ → ℕ → Bool
 settledOn ws i more = rightOn ws i || mendedOn ws (symbolOn ws i) (suc i) more
 
--- each of the first i writes is settled, where `more` follow them
-unfoldable pub consistentOn : List ℕ → ℕ → ℕ → Bool
-consistentOn ws more zero = true
-consistentOn ws more (suc i) = settledOn ws i more && consistentOn ws (suc more) i
+-- each of so many writes from the first that counts is settled, where `more` follow them
+unfoldable pub consistentOn : List ℕ → ℕ → ℕ → ℕ → Bool
+consistentOn ws begin more zero = true
+consistentOn ws begin more (suc i) = settledOn ws (begin + i) more && consistentOn ws begin (suc more) i
 
 -- two places of different symbols that `ref` made
 abbrev pub apartOn : ℕ → ℕ → Bool
 apartOn p q = eqb (p % 2) 1 && eqb (q % 2) 1 && not (eqb (p / 2) (q / 2))
 
--- what `get` finds among the first i writes
-unfoldable pub lookupOn : List ℕ → ℕ → ℕ → Found
-lookupOn ws q zero = Nothing
-lookupOn ws q (suc i) =
+-- what `get` finds through the reference at place q, seen from write i: what it found before, if the two are apart
+abbrev pub lookupAt : List ℕ → ℕ → ℕ → Found → Found
+lookupAt ws q i before =
     let p = getD ws (729 + 4 * i + 1) 0 in
-    pick (apartOn p q) (lookupOn ws q i)
-    (pick (eqb (p / 2) (q / 2)) (Value (getD ws (729 + 4 * i + 2) 0) (getD ws (729 + 4 * i + 3) 0)) Nothing)
+    pick (apartOn p q) before (pick (eqb (p / 2) (q / 2)) (Value (getD ws (729 + 4 * i + 2) 0) (getD ws (729 + 4 * i + 3) 0)) Nothing)
+
+-- what it finds among so many writes from the first that counts
+unfoldable pub lookupOn : List ℕ → ℕ → ℕ → ℕ → Found
+lookupOn ws begin q zero = Nothing
+lookupOn ws begin q (suc i) = lookupAt ws q (begin + i) (lookupOn ws begin q i)
 
 -- what that means
 pub data FoundAs (ws : List ℕ) : Found → Option Symbolic → Type 0 where

@@ -151,7 +151,6 @@ pub record Kept (limit : ℕ) (table ws : List ℕ) : Type 0 where
 pub record Noted (table : List ℕ) (depth a t : ℕ) (ws left : List ℕ) : Type 0 where
   pub same : length left ≡ length ws
   pub before : (k : ℕ) → k < 1242 → getD left k 0 ≡ getD ws k 0
-  pub beyond : (k : ℕ) → 1371 ≤ k → getD left k 0 ≡ getD ws k 0
   pub kept : (limit : ℕ) → baseIn ws ≤ depth → check limit (treeIn table a) (typesOn ws depth) ≡ Accepted t → Kept limit table ws → Kept limit table left
 
 -- ---- what the executor asks and promises of the notes
@@ -178,5 +177,4 @@ pub record Blocked (limit : ℕ) (table : List ℕ) (c : Checked) (depth : ℕ) 
   pub same : length left ≡ length ws
   pub before : (k : ℕ) → k < 2 * depth → getD left k 0 ≡ getD ws k 0
   pub between : (k : ℕ) → variablesEnd ≤ k → k < 1242 → getD left k 0 ≡ getD ws k 0
-  pub beyond : (k : ℕ) → 1371 ≤ k → getD left k 0 ≡ getD ws k 0
   pub kept : Kept limit table left

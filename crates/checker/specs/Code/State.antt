@@ -1,15 +1,13 @@
--- What a workspace holds: the values of the variables, the terms, and a path with its notes and choices; what a step keeps of it, and how a step answers.
+-- What a workspace holds: the values of the variables, the terms, and a path with its notes; what a step keeps of it, and how a step answers.
 -- Assumes nothing.
 pub mod Laws
-use mathlib.Core.Bool.{Bool, true}
+use mathlib.Core.Bool.{true}
 use mathlib.Core.List.{List, [], _∷_, _++_}
 use mathlib.Core.Path.{_≡_}
-use Prim.Native.Nat.{ℕ, zero, suc, _+_, _*_, _-_, _≤_, _<_}
-use lib.Dec.{eqb}
+use Prim.Native.Nat.{ℕ, zero, suc, _+_, _*_, _≤_, _<_}
 use lib.ListN.{length, getD}
 use Rattle.script.specs.declared.Refusal.{Refusal}
 use Rattle.rules.specs.Paths.{Path, Paths, ends, stops, Write, writeOf}
-use Rattle.rules.specs.Paths.Next.{Trace, arrives, halts}
 use Rattle.rules.specs.Satisfiable.{satisfiable}
 use Rattle.rules.specs.Symbolic.{Sum, Formula, Origin, made, other, Symbolic, aWord, aTruth, aReference}
 use Rattle.terms.specs.Terms.{countIn, SumRow, TruthRow, Distinct, Grown, rowLimit, symbolLimit}
@@ -27,17 +25,17 @@ conditionIn ws = getD ws 725 0
 abbrev pub writesIn : List ℕ → ℕ
 writesIn ws = getD ws 726 0
 
-abbrev pub metIn : List ℕ → ℕ
-metIn ws = getD ws 727 0
+abbrev pub startIn : List ℕ → ℕ
+startIn ws = getD ws 727 0
 
-abbrev pub choicesIn : List ℕ → ℕ
-choicesIn ws = getD ws 728 0
+abbrev pub depthIn : List ℕ → ℕ
+depthIn ws = getD ws 728 0
 
 abbrev pub variablesEnd : ℕ
 variablesEnd = 288
 
 abbrev pub spaceSize : ℕ
-spaceSize = 1499
+spaceSize = 1371
 
 abbrev pub nodeLimit : ℕ
 nodeLimit = 128
@@ -64,12 +62,12 @@ pub data Variables (ws : List ℕ) : ℕ → List Symbolic → Type 0 where
 
 -- ---- the path
 
--- the first writes, the newest in front
-pub data Log (ws : List ℕ) : ℕ → List Write → Type 0 where
-  noWrite : Log ws 0 []
-  aWrite : {k : ℕ} {o : Origin} {t s : ℕ} {v : Symbolic} {l : List Write} → Log ws k l
+-- the writes from the first that counts up to one, the newest in front
+pub data Log (ws : List ℕ) (begin : ℕ) : ℕ → List Write → Type 0 where
+  noWrite : Log ws begin begin []
+  aWrite : {k : ℕ} {o : Origin} {t s : ℕ} {v : Symbolic} {l : List Write} → Log ws begin k l
       → Means ws (getD ws (729 + 4 * k) 0) (getD ws (729 + 4 * k + 1) 0) (aReference o t s)
-      → Means ws (getD ws (729 + 4 * k + 2) 0) (getD ws (729 + 4 * k + 3) 0) v → Log ws (suc k) (writeOf o t s v ∷ l)
+      → Means ws (getD ws (729 + 4 * k + 2) 0) (getD ws (729 + 4 * k + 3) 0) v → Log ws begin (suc k) (writeOf o t s v ∷ l)
 
 -- the condition is satisfiable: a branch is taken only where it is
 pub record PathIn (ws : List ℕ) (p : Path) : Type 0 where
@@ -77,7 +75,7 @@ pub record PathIn (ws : List ℕ) (p : Path) : Type 0 where
   pub inside : conditionIn ws < countIn ws
   pub condition : TruthRow ws (conditionIn ws) (p .condition)
   pub allowed : satisfiable (p .condition) ≡ true
-  pub log : Log ws (writesIn ws) (p .log)
+  pub log : Log ws (startIn ws) (writesIn ws) (p .log)
   pub distinct : Distinct ws
 
 pub record State (ws : List ℕ) (depth : ℕ) (env : List Symbolic) (p : Path) : Type 0 where
@@ -95,20 +93,6 @@ pub record Standing (ws : List ℕ) (depth : ℕ) : Type 0 where
   pub path : Path
   pub state : State ws depth environment path
 
--- ---- the choices
-
--- k choices from place i on
-unfoldable pub choicesAt : List ℕ → ℕ → ℕ → List Bool
-choicesAt ws i zero = []
-choicesAt ws i (suc k) = eqb (getD ws (1371 + i) 0) 1 ∷ choicesAt ws (suc i) k
-
--- those met, and those left
-abbrev pub metOn : List ℕ → List Bool
-metOn ws = choicesAt ws 0 (metIn ws)
-
-abbrev pub leftOn : List ℕ → List Bool
-leftOn ws = choicesAt ws (metIn ws) (choicesIn ws - metIn ws)
-
 -- ---- room
 
 -- a whole workspace, with room for so many more nodes
@@ -117,9 +101,8 @@ pub record Room (ws : List ℕ) (more : ℕ) : Type 0 where
   pub rows : countIn ws + more ≤ rowLimit
   pub symbols : nextIn ws + more ≤ symbolLimit
   pub writes : writesIn ws + more ≤ nodeLimit
-  pub choices : metIn ws + more ≤ nodeLimit
 
--- a step of so many nodes keeps the first variables and the rows
+-- a step of so many nodes keeps the first variables, the rows and the log
 pub record Went (ws left : List ℕ) (depth nodes : ℕ) : Type 0 where
   pub same : length left ≡ length ws
   pub before : (k : ℕ) → k < 2 * depth → getD left k 0 ≡ getD ws k 0
@@ -127,17 +110,12 @@ pub record Went (ws left : List ℕ) (depth nodes : ℕ) : Type 0 where
   pub rows : countIn left ≤ countIn ws + nodes
   pub symbols : nextIn left ≤ nextIn ws + nodes
   pub writes : writesIn left ≤ writesIn ws + nodes
-  pub choices : metIn left ≤ metIn ws + nodes
+  pub logged : writesIn ws ≤ writesIn left
+  pub log : (k : ℕ) → 729 ≤ k → k < 729 + 4 * writesIn ws → getD left k 0 ≡ getD ws k 0
 
 -- ---- answers
 
--- a value on a path with its choices, or a refusal
-pub data Took (left : List ℕ) : Step → Trace → Type 0 where
-  arrived : {t q : ℕ} {v : Symbolic} {p : Path} {met rest : List Bool} → Means left t q v → PathIn left p → met ≡ metOn left → rest ≡ leftOn left
-      → Took left (Gave t q) (arrives v p met rest)
-  halted : {x : Refusal} {met : List Bool} → Took left (Stopped x) (halts x met)
-
--- without a fork
+-- a value on a path, or a refusal
 pub data Yields (left : List ℕ) : Step → Paths → Type 0 where
   ending : {t q : ℕ} {v : Symbolic} {p : Path} → Means left t q v → PathIn left p → Yields left (Gave t q) (ends v p)
   stopping : {x : Refusal} → Yields left (Stopped x) (stops x)
@@ -145,9 +123,3 @@ pub data Yields (left : List ℕ) : Step → Paths → Type 0 where
 -- the notes are as before
 pub record Unnoted (ws left : List ℕ) : Type 0 where
   pub each : (k : ℕ) → 1241 ≤ k → k < 1371 → getD left k 0 ≡ getD ws k 0
-
--- the choices are as before
-pub record Unchosen (ws left : List ℕ) : Type 0 where
-  pub met : metIn left ≡ metIn ws
-  pub all : choicesIn left ≡ choicesIn ws
-  pub each : (k : ℕ) → 1371 ≤ k → getD left k 0 ≡ getD ws k 0

@@ -5,50 +5,53 @@ use Prim.Native.Nat.{_-_}
 use native.Mathlib.Omega.{arith}
 use borrow.Author.Tests.{not-true, not-false}
 use Rattle.checker.specs.Code.Log.Loops.{Looking, looking-start, looking-found, looking-none, looking-on, looking-end}
-use Rattle.checker.specs.Code.State.{writesIn}
+use Rattle.checker.specs.Code.State.{writesIn, startIn}
 use Rattle.checker.proofs.log.lookup.Statement.{statement}
 use Rattle.checker.proofs.log.lookup.Tie as tie
 
 abbrev Inv-loop : tie.InvT-loop
-Inv-loop space place i₀ i = Looking space place (writesIn space) i
+Inv-loop space place first i₀ i = Looking space (startIn space) place (writesIn space) i
 
 abbrev μ-loop : tie.MeasureT-loop
-μ-loop space place i₀ i = i
+μ-loop space place first i₀ i = i
+
+cast-first : tie.Need-cast-first Inv-loop μ-loop
+cast-first c = omega (arith, c .shared-slice-known2 .given 727)
 
 loop-holds : tie.Need-loop-holds Inv-loop μ-loop
-loop-holds c = let a = c .before .before .args in looking-start (a .space .now) (a .place) (writesIn (a .space .now))
+loop-holds c = let a = c .before .before .before .args in looking-start (a .space .now) (startIn (a .space .now)) (a .place) (writesIn (a .space .now))
 
 returns : tie.Need-returns Inv-loop μ-loop
 returns c =
-    let a = c .before .before .before .before .before .before .before .before .before .before .args in
+    let a = c .before .before .before .before .before .before .before .before .before .before .before .args in
     let l = c .before .before .before .before .before .before .before .loop in
     let r = c .before .before .before .before .apart in
-    looking-found (a .space .now) (a .place) (writesIn (a .space .now)) (l .i) (l .i - 1)
-    (omega (arith, c .before .before .before .before .before .before .loop-test .taken)) (l .inv)
+    looking-found (a .space .now) (startIn (a .space .now)) (a .place) (writesIn (a .space .now)) (l .i) (l .i - 1)
+    (omega (arith, c .before .before .before .before .before .before .loop-test .taken)) (c .before .before .before .before .before .before .loop-test .taken) (l .inv)
     (sym (r .ensures) ∙ not-true (r .result) (c .before .before .before .if1 .taken)) (c .before .before .if2 .taken)
 
 returns-2 : tie.Need-returns-2 Inv-loop μ-loop
 returns-2 c =
-    let a = c .before .before .before .before .before .before .before .before .args in
+    let a = c .before .before .before .before .before .before .before .before .before .args in
     let l = c .before .before .before .before .before .loop in
     let r = c .before .before .apart in
-    looking-none (a .space .now) (a .place) (writesIn (a .space .now)) (l .i) (l .i - 1)
-    (omega (arith, c .before .before .before .before .loop-test .taken)) (l .inv)
+    looking-none (a .space .now) (startIn (a .space .now)) (a .place) (writesIn (a .space .now)) (l .i) (l .i - 1)
+    (omega (arith, c .before .before .before .before .loop-test .taken)) (c .before .before .before .before .loop-test .taken) (l .inv)
     (sym (r .ensures) ∙ not-true (r .result) (c .before .if1 .taken)) (c .if2 .left)
 
 loop-again : tie.Need-loop-again Inv-loop μ-loop
 loop-again c =
-    let a = c .before .before .before .before .before .before .before .args in
+    let a = c .before .before .before .before .before .before .before .before .args in
     let l = c .before .before .before .before .loop in
     let r = c .before .apart in
-    looking-on (a .space .now) (a .place) (writesIn (a .space .now)) (l .i) (l .i - 1)
-    (omega (arith, c .before .before .before .loop-test .taken)) (l .inv) (sym (r .ensures) ∙ not-false (r .result) (c .if1 .left))
+    looking-on (a .space .now) (startIn (a .space .now)) (a .place) (writesIn (a .space .now)) (l .i) (l .i - 1)
+    (omega (arith, c .before .before .before .loop-test .taken)) (c .before .before .before .loop-test .taken) (l .inv) (sym (r .ensures) ∙ not-false (r .result) (c .if1 .left))
 
 returns-3 : tie.Need-returns-3 Inv-loop μ-loop
 returns-3 c =
-    let a = c .before .before .before .before .args in
+    let a = c .before .before .before .before .before .args in
     let l = c .before .loop in
-    looking-end (a .space .now) (a .place) (writesIn (a .space .now)) (l .i) (c .loop-test .left) (l .inv)
+    looking-end (a .space .now) (startIn (a .space .now)) (a .place) (writesIn (a .space .now)) (l .i) (c .loop-test .left) (l .inv)
 
 pub lookup-spec : {M : Type 1} → statement M
 lookup-spec =
@@ -56,6 +59,8 @@ lookup-spec =
     (tie.spec
     Inv-loop
     μ-loop
+    (λ c. search needs)
+    cast-first
     (λ c. search needs)
     (λ c. search needs)
     loop-holds

@@ -1,43 +1,64 @@
--- `checker::nodes::path_end` meets its contract: the log, then the type, then whether another path follows. Assumes nothing.
+-- `checker::nodes::path_end` meets its contract: the log, the type, and the path after it. Assumes nothing.
 use borrow.Author.Needs.{needs}
-use mathlib.Core.Path.{sym, refl, _∙_}
+use mathlib.Core.Path.{sym, _∙_}
 use native.Mathlib.Omega.{arith}
-use borrow.Author.Tests.{not-true, not-false}
-use Rattle.checker.specs.Code.Log.Laws.{consistent-is}
-use Rattle.checker.specs.Code.Rules.Between.{end-inconsistent, end-other, end-more, end-last}
+use Rattle.checker.specs.Code.Going.Ends.{path-inconsistent, path-other, path-last, path-more, path-resumable}
 use Rattle.checker.proofs.nodes.path_end.Statement.{statement}
 use Rattle.checker.proofs.nodes.path_end.Tie as tie
 
 consistent-requires : tie.Need-consistent-requires
-consistent-requires c κs = (omega (arith, c .before .before .pre .writes), c .before .before .pre .lent)
+consistent-requires c κs = search needs
+
+same-length : tie.Need-same-length
+same-length c = search needs
 
 returns : tie.Need-returns
-returns c = end-inconsistent (λ l g. sym (consistent-is g) ∙ sym (c .before .consistent .ensures) ∙ not-true _ (c .if1 .taken)) refl
+returns c = path-inconsistent (c .before .before .before .before .before .before .pre) (c .before .consistent .ensures) (c .if1 .taken)
+
+right-type-requires : tie.Need-right-type-requires
+right-type-requires c κs = search needs
+
+same-length-2 : tie.Need-same-length-2
+same-length-2 c = search needs
 
 returns-2 : tie.Need-returns-2
-returns-2 c = end-other (λ l g. sym (consistent-is g) ∙ sym (c .before .before .before .consistent .ensures) ∙ not-false _ (c .before .before .if1 .left)) refl (sym (c .before .right-type .ensures) ∙ not-true _ (c .if2 .taken))
+returns-2 c = path-other (c .before .before .before .before .before .before .before .before .pre) (c .before .before .before .consistent .ensures) (c .before .before .if1 .left) (c .before .right-type .ensures) (c .if2 .taken)
 
-next-choices-requires : tie.Need-next-choices-requires
-next-choices-requires c κs = (omega (arith, c .before .before .before .before .before .before .before .pre .choices), c .before .before .before .before .before .before .before .pre .lent)
+slice-read-if3 : tie.Need-slice-read-if3
+slice-read-if3 c = search needs
+
+same-length-3 : tie.Need-same-length-3
+same-length-3 c = search needs
 
 returns-3 : tie.Need-returns-3
-returns-3 c = end-more (λ l g. sym (consistent-is g) ∙ sym (c .before .before .before .before .before .before .before .before .consistent .ensures) ∙ not-false _ (c .before .before .before .before .before .before .before .if1 .left)) refl (sym (c .before .before .before .before .before .before .right-type .ensures) ∙ not-false _ (c .before .before .before .before .before .if2 .left)) (c .before .before .before .next-choices .ensures) (c .if3 .taken)
+returns-3 c = path-last (c .before .before .before .before .before .before .before .before .before .before .pre) (c .before .before .before .before .before .consistent .ensures) (c .before .before .before .before .if1 .left) (c .before .before .before .right-type .ensures) (c .before .before .if2 .left) (c .if3 .taken)
+
+resume-requires : tie.Need-resume-requires
+resume-requires c κs = path-resumable (c .before .before .before .before .before .before .before .before .before .before .before .before .pre) (c .before .before .if3 .left)
+
+same-length-4 : tie.Need-same-length-4
+same-length-4 c = search needs
+
+same-length-5 : tie.Need-same-length-5
+same-length-5 c = search needs
 
 returns-4 : tie.Need-returns-4
-returns-4 c = end-last (λ l g. sym (consistent-is g) ∙ sym (c .before .before .before .before .before .before .before .before .consistent .ensures) ∙ not-false _ (c .before .before .before .before .before .before .before .if1 .left)) refl (sym (c .before .before .before .before .before .before .right-type .ensures) ∙ not-false _ (c .before .before .before .before .before .if2 .left)) (c .before .before .before .next-choices .ensures) (c .if3 .left)
+returns-4 c = path-more (c .before .before .before .before .before .before .before .before .before .before .before .before .before .before .before .before .before .pre) (c .before .before .before .before .before .before .before .before .before .before .before .before .consistent .ensures) (c .before .before .before .before .before .before .before .before .before .before .before .if1 .left) (c .before .before .before .before .before .before .before .before .before .before .right-type .ensures) (c .before .before .before .before .before .before .before .before .before .if2 .left) (c .before .before .before .before .resume .ensures)
 
 pub path-end-spec : {M : Type 1} → statement M
 path-end-spec =
     tie.close
     (tie.spec
     consistent-requires
-    (λ c. search needs)
+    same-length
     returns
-    (λ c κs. search needs)
-    (λ c. search needs)
+    right-type-requires
+    same-length-2
     returns-2
-    next-choices-requires
-    (λ c. search needs)
+    slice-read-if3
+    same-length-3
     returns-3
-    (λ c. search needs)
+    resume-requires
+    same-length-4
+    same-length-5
     returns-4)

@@ -1,9 +1,10 @@
--- `checker::operators::typed_result` meets its contract: a consistent log, which is then empty, and a fresh symbol. Assumes nothing.
+-- `checker::operators::typed_result` meets its contract: a consistent log, of which no write counts then, and a fresh symbol. Assumes nothing.
 use borrow.Author.Needs.{needs}
 use native.Mathlib.Omega.{arith}
 use lib.ListN.{length-set}
 use borrow.Author.Tests.{not-true, not-false}
 use Rattle.checker.specs.Code.Rules.Memory.{block-stopped, emptied-room, block-made}
+use Rattle.checker.specs.Code.State.{writesIn}
 use Rattle.checker.proofs.operators.typed_result.Statement.{statement}
 use Rattle.checker.proofs.operators.typed_result.Tie as tie
 
@@ -14,13 +15,13 @@ returns : tie.Need-returns
 returns c = block-stopped (c .before .before .before .before .args .n) (c .before .before .before .before .args .t) (c .before .consistent .ensures) (not-true _ (c .if1 .taken))
 
 fresh-requires : tie.Need-fresh-requires
-fresh-requires c κs = emptied-room (c .before .before .before .before .before .args .n) (c .before .before .before .before .before .args .t) (c .before .before .consistent .ensures) (c .before .before .before .before .before .pre)
+fresh-requires c κs = emptied-room (c .before .before .before .before .before .before .args .n) (c .before .before .before .before .before .before .args .t) (c .before .before .before .consistent .ensures) (c .before .before .before .before .before .before .pre)
 
 same-length-2 : tie.Need-same-length-2
-same-length-2 c = omega (arith, c .before .space .given, length-set (c .before .before .before .before .before .before .before .before .args .space .now) 726 0)
+same-length-2 c = omega (arith, c .before .space .given, length-set (c .before .before .before .before .before .before .before .before .before .args .space .now) 727 (writesIn (c .before .before .before .before .before .before .before .before .before .args .space .now)))
 
 returns-2 : tie.Need-returns-2
-returns-2 c = block-made (c .before .before .before .before .before .before .before .before .args .n) (c .before .before .before .before .before .before .before .before .args .t) (c .before .before .before .before .before .consistent .ensures) (c .before .before .before .before .before .before .before .before .pre) (not-false _ (c .before .before .before .before .if1 .left)) (c .before .before .fresh .ensures)
+returns-2 c = block-made (c .before .before .before .before .before .before .before .before .before .args .n) (c .before .before .before .before .before .before .before .before .before .args .t) (c .before .before .before .before .before .before .consistent .ensures) (c .before .before .before .before .before .before .before .before .before .pre) (not-false _ (c .before .before .before .before .before .if1 .left)) (c .before .before .fresh .ensures)
 
 pub typed-result-spec : {M : Type 1} → statement M
 typed-result-spec =
@@ -29,6 +30,7 @@ typed-result-spec =
     consistent-requires
     (λ c. search needs)
     returns
+    (λ c. search needs)
     (λ c. search needs)
     fresh-requires
     same-length-2

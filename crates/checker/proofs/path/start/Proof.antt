@@ -38,20 +38,22 @@ loop-again c =
 cast-space : tie.Need-cast-space Inv-loop μ-loop
 cast-space c = omega (arith, c .before .before .before .before .before .before .before .before .pre .1 .0)
 
+cast-space-2 : tie.Need-cast-space-2 Inv-loop μ-loop
+cast-space-2 c = omega (arith, c .before .before .before .before .before .before .before .before .pre .1 .0)
+
 slice-write-space : tie.Need-slice-write-space Inv-loop μ-loop
 slice-write-space c = omega (arith, c .before .loop .inv .2 .lent)
 
-slice-read-result : tie.Need-slice-read-result Inv-loop μ-loop
-slice-read-result c = simp length-set (omega (arith, c .before .before .loop .inv .2 .lent))
+slice-write-space-2 : tie.Need-slice-write-space-2 Inv-loop μ-loop
+slice-write-space-2 c = simp length-set (omega (arith, c .before .loop .inv .2 .lent))
 
 same-length : tie.Need-same-length Inv-loop μ-loop
-same-length c =
-    omega (arith, length-set (c .before .before .loop .space) 1241 (c .before .before .before .before .before .before .before .before .before .args .depth), c .before .before .loop .inv .0)
+same-length c = simp length-set (omega (arith, c .before .loop .inv .0))
 
 returns : tie.Need-returns Inv-loop μ-loop
 returns c =
-    let l = c .before .before .loop in
-    starting-end (c .before .before .before .before .before .before .before .before .before .args .depth) (c .before .before .before .before .before .before .before .before .before .pre .1 .0) (l .inv .1) (c .before .loop-test .left) (l .inv .2)
+    let l = c .before .loop in
+    starting-end (c .before .before .before .before .before .before .before .before .args .depth) (c .before .before .before .before .before .before .before .before .pre .1 .0) (l .inv .1) (c .loop-test .left) (l .inv .2)
 
 pub start-spec : {M : Type 1} → statement M
 start-spec =
@@ -67,6 +69,7 @@ start-spec =
     loop-again
     cast-space
     slice-write-space
-    slice-read-result
+    cast-space-2
+    slice-write-space-2
     same-length
     returns)

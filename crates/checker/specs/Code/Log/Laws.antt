@@ -16,6 +16,7 @@ use Rattle.rules.specs.Symbolic.{Origin, made, other, Symbolic, aReference, typ
 use Rattle.terms.specs.Terms.{countIn, Grown, rowLimit}
 use Rattle.terms.specs.Terms.Laws.{still-distinct}
 use Rattle.checker.specs.Code.Log.{rightOn, symbolOn, mendsOn, mendedOn, consistentOn, apartOn, lookupOn, FoundAs, found-none, found-some, written}
+use Rattle.checker.specs.Code.Log.Loops.{consistent-none, consistent-some, lookup-none, lookup-some}
 use Rattle.checker.specs.Code.Rules.{Ruled}
 use Rattle.checker.specs.Code.State.{writesIn, spaceSize, nodeLimit, Means, madeSymbol, otherSymbol, Log, noWrite, aWrite, PathIn}
 use Rattle.checker.specs.Code.State.Laws.{path-moved, means-type, means-at, log-kept}
@@ -53,13 +54,18 @@ right-is : {ws : List ℕ} (k : ℕ) {c s : ℕ} {o : Origin} {v : Symbolic} →
 right-is {ws} k {c = c} m n =
     typed-right (getD ws (729 + 4 * k) 0) c (getD ws (729 + 4 * k + 2) 0) (place-of m .type) ∙ ap (λ (u : ℕ). eqb u c) (sym (means-type n))
 
+-- the writes end where they begin or behind it
+log-begins : {ws : List ℕ} {begin k : ℕ} {l : List Write} → Log ws begin k l → begin ≤ k
+log-begins noWrite = omega arith
+log-begins (aWrite r a b) = let h = log-begins r in omega arith
+
 -- where the writes from k on mend the symbols of m
-consistent-from : {ws : List ℕ} {k : ℕ} {l : List Write} → Log ws k l → (more : ℕ) (m : List ℕ) → ((s : ℕ) → mendedOn ws s k more ≡ has m s)
-    → consistentOn ws more k ≡ consistentAfter m l
-unfolding consistentOn consistentAfter mendedOn has
-consistent-from noWrite more m h = refl
-consistent-from {ws} (aWrite {k = k} {o = o} {t = t} {s = s} {v = v} {l = l} r a b) more m h =
-    go (isRight (writeOf o t s v)) refl (λ n i. consistent-from r (suc more) n i)
+consistent-from : {ws : List ℕ} {begin k : ℕ} {l : List Write} → Log ws begin k l → (more : ℕ) (m : List ℕ) → ((s : ℕ) → mendedOn ws s k more ≡ has m s)
+    → consistentOn ws begin more (k - begin) ≡ consistentAfter m l
+unfolding consistentAfter mendedOn has
+consistent-from {ws} {begin} noWrite more m h = consistent-none ws begin more begin (omega arith)
+consistent-from {ws} {begin} (aWrite {k = k} {o = o} {t = t} {s = s} {v = v} {l = l} r a b) more m h =
+    consistent-some ws begin more k (log-begins r) ∙ go (isRight (writeOf o t s v)) refl (λ n i. consistent-from r (suc more) n i)
   where
     right : rightOn ws k ≡ isRight (writeOf o t s v)
     right = right-is k a b
@@ -68,13 +74,13 @@ consistent-from {ws} (aWrite {k = k} {o = o} {t = t} {s = s} {v = v} {l = l} r a
     symbol = place-of a .symbol
 
     go : (x : Bool) → isRight (writeOf o t s v) ≡ x
-        → ((m : List ℕ) → ((u : ℕ) → (mendsOn ws u k || mendedOn ws u (suc k) more) ≡ has m u) → consistentOn ws (suc more) k ≡ consistentAfter m l)
-        → ((rightOn ws k || mendedOn ws (symbolOn ws k) (suc k) more) && consistentOn ws (suc more) k)
+        → ((m : List ℕ) → ((u : ℕ) → (mendsOn ws u k || mendedOn ws u (suc k) more) ≡ has m u) → consistentOn ws begin (suc more) (k - begin) ≡ consistentAfter m l)
+        → ((rightOn ws k || mendedOn ws (symbolOn ws k) (suc k) more) && consistentOn ws begin (suc more) (k - begin))
         ≡ pick (isRight (writeOf o t s v)) (consistentAfter (s ∷ m) l) (has m s && consistentAfter m l)
     go true e f = rw (right, e) (f (s ∷ m) λ u. rw (right, e, symbol, h u))
     go false e f = rw (right, e, symbol, h s) (ap (λ (z : Bool). has m s && z) (f m λ u. rw (right, e, h u)))
 
-pub consistent-is : {ws : List ℕ} {k : ℕ} {l : List Write} → Log ws k l → consistentOn ws 0 k ≡ consistentAfter [] l
+pub consistent-is : {ws : List ℕ} {begin k : ℕ} {l : List Write} → Log ws begin k l → consistentOn ws begin 0 (k - begin) ≡ consistentAfter [] l
 unfolding mendedOn has
 consistent-is r = consistent-from r 0 [] λ s. refl
 
@@ -87,19 +93,19 @@ apart-is made s other u = refl
 apart-is other s made u = refl
 apart-is other s other u = refl
 
-pub lookup-is : {ws : List ℕ} {k t q c s : ℕ} {o : Origin} {l : List Write} → Log ws k l → Means ws t q (aReference o c s)
-    → FoundAs ws (lookupOn ws q k) (lookup o s l)
-unfolding lookupOn lookup
-lookup-is noWrite m = found-none
-lookup-is {ws} {q = q} {s = s} {o = o} (aWrite {k = k} {o = p} {s = u} {v = v} {l = l} r a b) m =
+pub lookup-is : {ws : List ℕ} {begin k t q c s : ℕ} {o : Origin} {l : List Write} → Log ws begin k l → Means ws t q (aReference o c s)
+    → FoundAs ws (lookupOn ws begin q (k - begin)) (lookup o s l)
+unfolding lookup
+lookup-is {ws} {begin} {q = q} noWrite m = rw (lookup-none ws begin q begin (omega arith)) found-none
+lookup-is {ws} {begin} {q = q} {s = s} {o = o} (aWrite {k = k} {o = p} {s = u} {v = v} {l = l} r a b) m =
     let x = place-of a in
     let y = place-of m in
     let e : apartOn (getD ws (729 + 4 * k + 1) 0) q ≡ apart p u o s = rw (x .origin, y .origin, x .symbol, y .symbol) (sym (apart-is p u o s)) in
-    rw (e, x .symbol, y .symbol) (go (apart p u o s) (eqb u s) (lookup-is r m))
+    rw (lookup-some ws begin q k (log-begins r), e, x .symbol, y .symbol) (go (apart p u o s) (eqb u s) (lookup-is r m))
   where
-    go : (d same : Bool) → FoundAs ws (lookupOn ws q k) (lookup o s l)
+    go : (d same : Bool) → FoundAs ws (lookupOn ws begin q (k - begin)) (lookup o s l)
         → FoundAs ws
-        (pick d (lookupOn ws q k) (pick same (Value (getD ws (729 + 4 * k + 2) 0) (getD ws (729 + 4 * k + 3) 0)) Nothing))
+        (pick d (lookupOn ws begin q (k - begin)) (pick same (Value (getD ws (729 + 4 * k + 2) 0) (getD ws (729 + 4 * k + 3) 0)) Nothing))
         (pick d (lookup o s l) (pick same (some v) none))
     go true same f = f
     go false true f = found-some b
@@ -181,7 +187,6 @@ module _ (ws : List ℕ) (t p u q : ℕ) (lent : spaceSize ≤ length ws) (few :
   written-ruled =
       let c = written-before 288 (λ h. omega arith) (omega arith) in
       let n = written-before 724 (λ h. omega arith) (omega arith) in
-      let m = written-before 727 (λ h. omega arith) (omega arith) in
       record {
         went = record {
           same = written-length;
@@ -190,13 +195,10 @@ module _ (ws : List ℕ) (t p u q : ℕ) (lent : spaceSize ≤ length ws) (few :
           rows = omega arith;
           symbols = omega arith;
           writes = omega (arith, written-writes);
-          choices = omega arith;
+          logged = omega (arith, written-writes);
+          log = λ k l h. written-before k (λ z. omega arith) h;
         };
-        unchosen = record {
-          met = m;
-          all = written-before 728 (λ h. omega arith) (omega arith);
-          each = λ k l. written-behind k (omega arith);
-        };
+        depth = written-before 728 (λ h. omega arith) (omega arith);
         notes = record { each = λ k l h. written-behind k l };
       }
 
@@ -206,7 +208,7 @@ module _ (ws : List ℕ) (t p u q : ℕ) (lent : spaceSize ≤ length ws) (few :
       let f = written-before 288 (λ z. omega arith) (omega arith) in
       path-moved written-grown (still-distinct written-grown (omega (arith, f)) (h .distinct)) (written-before 725 (λ z. omega arith) (omega arith))
       (written-before 724 (λ z. omega arith) (omega arith) ∙ h .next)
-      (rw (written-writes ∙ add-one (writesIn ws))
+      (rw (written-writes ∙ add-one (writesIn ws), written-before 727 (λ z. omega arith) (omega arith))
       (aWrite (log-kept (λ j i l. written-before j (λ z. omega arith) l) written-grown (h .log))
       (means-at written-grown written-type written-through m)
       (means-at written-grown written-kind written-value n))) h

@@ -1,7 +1,7 @@
 -- The loops over the log: what a turn leaves of the whole. Assumes nothing.
 use mathlib.Core.Bool.{true, false, not, _&&_, _||_}
 use mathlib.Core.List.{List}
-use mathlib.Core.Path.{_≡_, refl, sym, _∙_}
+use mathlib.Core.Path.{_≡_, refl, sym, ap, _∙_}
 use Prim.Native.Nat.{ℕ, suc, _+_, _*_, _-_, _/_, _%_, _≤_, _<_}
 use native.Mathlib.Numerals.{add-one}
 use native.Mathlib.Omega.{arith}
@@ -9,7 +9,7 @@ use lib.Dec.{leb, eqb}
 use lib.ListN.{getD}
 use borrow.Author.Tests.{le-leb, lt-leb, eq-eqb, ne-eqb}
 use Rattle.script.specs.Tests.{pick}
-use Rattle.checker.specs.Code.Log.{rightOn, mendsOn, mendedOn, settledOn, consistentOn, apartOn, lookupOn}
+use Rattle.checker.specs.Code.Log.{rightOn, mendsOn, mendedOn, settledOn, consistentOn, apartOn, lookupAt, lookupOn}
 use Rattle.checker.specs.declared.log.Found.{Found}
 use Rattle.checker.specs.declared.log.Found.the-variants.{Value, Nothing}
 
@@ -39,63 +39,88 @@ module _ (ws : List ℕ) (s i count : ℕ) where
 
 -- ---- all writes settled
 
-pub record Settling (ws : List ℕ) (count i : ℕ) : Type 0 where
-  pub within : i ≤ count
-  pub rest : consistentOn ws 0 count ≡ consistentOn ws (count - i) i
-
-module _ (ws : List ℕ) (count : ℕ) where
-  settling-by : (i j : ℕ) → i ≡ suc j → i ≤ count → consistentOn ws (count - i) i ≡ (settledOn ws j (count - suc j) && consistentOn ws (count - j) j)
+module _ (ws : List ℕ) (begin more : ℕ) where
+  pub consistent-none : (k : ℕ) → k ≤ begin → consistentOn ws begin more (k - begin) ≡ true
   unfolding consistentOn
-  settling-by i j e l = let k : count - j ≡ suc (count - suc j) = omega arith in rw (e, k) refl
+  consistent-none k l = let e : k - begin ≡ 0 = omega arith in rw e refl
 
-  pub settling-start : Settling ws count count
+  pub consistent-some : (k : ℕ) → begin ≤ k
+      → consistentOn ws begin more (suc k - begin) ≡ (settledOn ws k more && consistentOn ws begin (suc more) (k - begin))
+  unfolding consistentOn
+  consistent-some k l =
+      let e : suc k - begin ≡ suc (k - begin) = omega arith in
+      let f : begin + (k - begin) ≡ k = omega arith in
+      rw e (ap (λ (i : ℕ). settledOn ws i more && consistentOn ws begin (suc more) (k - begin)) f)
+
+pub record Settling (ws : List ℕ) (begin count i : ℕ) : Type 0 where
+  pub within : i ≤ count
+  pub rest : consistentOn ws begin 0 (count - begin) ≡ consistentOn ws begin (count - i) (i - begin)
+
+module _ (ws : List ℕ) (begin count : ℕ) where
+  settling-by : (i j : ℕ) → i ≡ suc j → begin < i → i ≤ count
+      → consistentOn ws begin (count - i) (i - begin) ≡ (settledOn ws j (count - suc j) && consistentOn ws begin (count - j) (j - begin))
+  settling-by i j e b l =
+      let k : suc (count - suc j) ≡ count - j = omega arith in
+      rw e (consistent-some ws begin (count - suc j) j (omega arith) ∙ rw k refl)
+
+  pub settling-start : Settling ws begin count count
   settling-start = let e : count - count ≡ 0 = omega arith in record { within = omega arith; rest = rw e refl }
 
-  pub settling-wrong : (i j : ℕ) → i ≡ suc j → Settling ws count i → settledOn ws j (count - suc j) ≡ false → false ≡ consistentOn ws 0 count
-  settling-wrong i j e m f = sym (m .rest ∙ settling-by i j e (m .within) ∙ rw f refl)
+  pub settling-wrong : (i j : ℕ) → i ≡ suc j → begin < i → Settling ws begin count i → settledOn ws j (count - suc j) ≡ false
+      → false ≡ consistentOn ws begin 0 (count - begin)
+  settling-wrong i j e b m f = sym (m .rest ∙ settling-by i j e b (m .within) ∙ rw f refl)
 
-  pub settling-on : (i j : ℕ) → i ≡ suc j → Settling ws count i → settledOn ws j (count - suc j) ≡ true → Settling ws count j
-  settling-on i j e m t = record { within = omega (arith, e, m .within); rest = m .rest ∙ settling-by i j e (m .within) ∙ rw t refl }
+  pub settling-on : (i j : ℕ) → i ≡ suc j → begin < i → Settling ws begin count i → settledOn ws j (count - suc j) ≡ true → Settling ws begin count j
+  settling-on i j e b m t = record { within = omega (arith, e, m .within); rest = m .rest ∙ settling-by i j e b (m .within) ∙ rw t refl }
 
-  pub settling-end : (i : ℕ) → i ≤ 0 → Settling ws count i → true ≡ consistentOn ws 0 count
-  unfolding consistentOn
-  settling-end i l m = let e : i ≡ 0 = omega arith in sym (m .rest ∙ rw e refl)
+  pub settling-end : (i : ℕ) → i ≤ begin → Settling ws begin count i → true ≡ consistentOn ws begin 0 (count - begin)
+  settling-end i l m = sym (m .rest ∙ consistent-none ws begin (count - i) i l)
 
 -- ---- what `get` finds
 
-pub record Looking (ws : List ℕ) (q count i : ℕ) : Type 0 where
-  pub within : i ≤ count
-  pub rest : lookupOn ws q count ≡ lookupOn ws q i
+module _ (ws : List ℕ) (begin q : ℕ) where
+  pub lookup-none : (k : ℕ) → k ≤ begin → lookupOn ws begin q (k - begin) ≡ Nothing
+  unfolding lookupOn
+  lookup-none k l = let e : k - begin ≡ 0 = omega arith in rw e refl
 
-module _ (ws : List ℕ) (q count : ℕ) where
+  pub lookup-some : (k : ℕ) → begin ≤ k → lookupOn ws begin q (suc k - begin) ≡ lookupAt ws q k (lookupOn ws begin q (k - begin))
+  unfolding lookupOn
+  lookup-some k l =
+      let e : suc k - begin ≡ suc (k - begin) = omega arith in
+      let f : begin + (k - begin) ≡ k = omega arith in
+      rw e (ap (λ (i : ℕ). lookupAt ws q i (lookupOn ws begin q (k - begin))) f)
+
+pub record Looking (ws : List ℕ) (begin q count i : ℕ) : Type 0 where
+  pub within : i ≤ count
+  pub rest : lookupOn ws begin q (count - begin) ≡ lookupOn ws begin q (i - begin)
+
+module _ (ws : List ℕ) (begin q count : ℕ) where
   abbrev throughOn : ℕ → ℕ
   throughOn j = getD ws (729 + 4 * j + 1) 0
 
   abbrev valueOn : ℕ → Found
   valueOn j = Value (getD ws (729 + 4 * j + 2) 0) (getD ws (729 + 4 * j + 3) 0)
 
-  looking-by : (i j : ℕ) → i ≡ suc j → lookupOn ws q i
-      ≡ pick (apartOn (throughOn j) q) (lookupOn ws q j) (pick (eqb (throughOn j / 2) (q / 2)) (valueOn j) Nothing)
-  unfolding lookupOn
-  looking-by i j e = rw e refl
+  looking-by : (i j : ℕ) → i ≡ suc j → begin < i → lookupOn ws begin q (i - begin)
+      ≡ pick (apartOn (throughOn j) q) (lookupOn ws begin q (j - begin)) (pick (eqb (throughOn j / 2) (q / 2)) (valueOn j) Nothing)
+  looking-by i j e b = rw e (lookup-some ws begin q j (omega arith))
 
-  pub looking-start : Looking ws q count count
+  pub looking-start : Looking ws begin q count count
   looking-start = record { within = omega arith; rest = refl }
 
-  pub looking-found : (i j : ℕ) → i ≡ suc j → Looking ws q count i → apartOn (throughOn j) q ≡ false → throughOn j / 2 ≡ q / 2
-      → valueOn j ≡ lookupOn ws q count
-  looking-found i j e m f t = sym (m .rest ∙ looking-by i j e ∙ rw (f, eq-eqb (throughOn j / 2) (q / 2) t) refl)
+  pub looking-found : (i j : ℕ) → i ≡ suc j → begin < i → Looking ws begin q count i → apartOn (throughOn j) q ≡ false → throughOn j / 2 ≡ q / 2
+      → valueOn j ≡ lookupOn ws begin q (count - begin)
+  looking-found i j e b m f t = sym (m .rest ∙ looking-by i j e b ∙ rw (f, eq-eqb (throughOn j / 2) (q / 2) t) refl)
 
-  pub looking-none : (i j : ℕ) → i ≡ suc j → Looking ws q count i → apartOn (throughOn j) q ≡ false → (throughOn j / 2 ≡ q / 2 → ⊥)
-      → Nothing ≡ lookupOn ws q count
-  looking-none i j e m f t = sym (m .rest ∙ looking-by i j e ∙ rw (f, ne-eqb (throughOn j / 2) (q / 2) t) refl)
+  pub looking-none : (i j : ℕ) → i ≡ suc j → begin < i → Looking ws begin q count i → apartOn (throughOn j) q ≡ false → (throughOn j / 2 ≡ q / 2 → ⊥)
+      → Nothing ≡ lookupOn ws begin q (count - begin)
+  looking-none i j e b m f t = sym (m .rest ∙ looking-by i j e b ∙ rw (f, ne-eqb (throughOn j / 2) (q / 2) t) refl)
 
-  pub looking-on : (i j : ℕ) → i ≡ suc j → Looking ws q count i → apartOn (throughOn j) q ≡ true → Looking ws q count j
-  looking-on i j e m t = record { within = omega (arith, e, m .within); rest = m .rest ∙ looking-by i j e ∙ rw t refl }
+  pub looking-on : (i j : ℕ) → i ≡ suc j → begin < i → Looking ws begin q count i → apartOn (throughOn j) q ≡ true → Looking ws begin q count j
+  looking-on i j e b m t = record { within = omega (arith, e, m .within); rest = m .rest ∙ looking-by i j e b ∙ rw t refl }
 
-  pub looking-end : (i : ℕ) → i ≤ 0 → Looking ws q count i → Nothing ≡ lookupOn ws q count
-  unfolding lookupOn
-  looking-end i l m = let e : i ≡ 0 = omega arith in sym (m .rest ∙ rw e refl)
+  pub looking-end : (i : ℕ) → i ≤ begin → Looking ws begin q count i → Nothing ≡ lookupOn ws begin q (count - begin)
+  looking-end i l m = sym (m .rest ∙ lookup-none ws begin q i l)
 
 -- ---- tests of a write
 

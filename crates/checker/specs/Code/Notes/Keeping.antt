@@ -6,7 +6,7 @@ use Prim.Native.Nat.{ℕ, _+_, _*_, _≤_, _<_}
 use native.Mathlib.Omega.{arith}
 use lib.ListN.{length, getD, getElem?}
 use Rattle.checker.specs.Code.Notes.{baseIn, noteAt, namesIn, nameIn, Agrees, NoteOf, Kept, Noting, Holding, Bare}
-use Rattle.checker.specs.Code.State.{Unnoted}
+use Rattle.checker.specs.Code.State.{spaceSize, Unnoted}
 
 -- a note whose places are as they were, where the first variables have the types that they had
 module _ (ws left : List ℕ) (base : baseIn left ≡ baseIn ws) (first : (k : ℕ) → k < baseIn ws → getD left (2 * k) 0 ≡ getD ws (2 * k) 0) (i : ℕ)
@@ -67,7 +67,7 @@ pub holding-trans : {limit : ℕ} {table ws xs left : List ℕ} → Holding limi
 holding-trans h k = record { base = k .base ∙ h .base; kept = k .kept }
 
 -- no note says nothing wrong
-pub bare-noting : {limit : ℕ} {table ws : List ℕ} {depth : ℕ} → 1499 ≤ length ws → Bare depth ws → Noting limit table ws depth
+pub bare-noting : {limit : ℕ} {table ws : List ℕ} {depth : ℕ} → spaceSize ≤ length ws → Bare depth ws → Noting limit table ws depth
 bare-noting l b =
     let e = b .base in
     record { lent = l; based = omega arith; kept = record { notes = λ i h depth d. absurd (let z = b .none i h in omega arith) } }

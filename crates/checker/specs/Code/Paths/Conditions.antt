@@ -1,54 +1,51 @@
 -- The condition joined by a guard, or without it: the path and what else it keeps. Assumes nothing.
 use mathlib.Core.Bool.{true}
 use mathlib.Core.List.{List}
-use mathlib.Core.Path.{_≡_, _∙_}
+use mathlib.Core.Path.{_≡_, refl, _∙_}
 use Prim.Native.Nat.{ℕ, _+_, _≤_, _<_}
 use native.Mathlib.Omega.{arith}
 use lib.ListN.{length, getD, set, length-set}
 use lib.Seq.{getD-set-same, getD-set-other}
 use Rattle.rules.specs.Paths.{Path, assume}
 use Rattle.rules.specs.Satisfiable.{satisfiable}
-use Rattle.rules.specs.Symbolic.{Formula, negation, conjunction}
+use Rattle.rules.specs.Symbolic.{Formula, aTruth}
 use Rattle.terms.specs.Terms.{countIn, Space, pushed, TruthRow, Grown, Made, rowLimit, symbolLimit}
 use Rattle.terms.specs.Terms.Laws.{still-distinct, grown-trans, truth-kept, pushed-length, pushed-count, pushed-added, made-conjunction, made-exclusion}
 use Rattle.checker.specs.Code.Paths.{assumed}
-use Rattle.checker.specs.Code.State.{conditionIn, spaceSize, PathIn, Went, Unchosen, Unnoted}
-use Rattle.checker.specs.Code.State.Laws.{log-kept, path-added}
+use Rattle.checker.specs.Code.Rules.{Ruled, withGuard, withoutGuard}
+use Rattle.checker.specs.Code.State.{conditionIn, spaceSize, Means, truthRow, PathIn, Room}
+use Rattle.checker.specs.Code.State.Laws.{log-kept, path-added, went-refl, unnoted-refl, room-space}
+
+-- where nothing changes
+pub ruled-refl : (ws : List ℕ) → Ruled ws ws
+ruled-refl ws = record { went = went-refl ws symbolLimit 1; depth = refl; notes = unnoted-refl ws }
 
 -- nothing changes but rows, at most one more, and the row of the condition
-pub record Joined (ws left : List ℕ) : Type 0 where
-  pub same : length left ≡ length ws
-  pub before : (k : ℕ) → k < 288 → getD left k 0 ≡ getD ws k 0
-  pub beyond : (k : ℕ) → 724 ≤ k → (k ≡ 725 → ⊥) → getD left k 0 ≡ getD ws k 0
-  pub grown : Grown ws left
-  pub rows : countIn left ≤ countIn ws + 1
+record Joined (ws left : List ℕ) : Type 0 where
+  same : length left ≡ length ws
+  before : (k : ℕ) → k < 288 → getD left k 0 ≡ getD ws k 0
+  beyond : (k : ℕ) → 724 ≤ k → (k ≡ 725 → ⊥) → getD left k 0 ≡ getD ws k 0
+  grown : Grown ws left
+  rows : countIn left ≤ countIn ws + 1
 
-module _ {ws left : List ℕ} (j : Joined ws left) where
-  pub joined-went : Went ws left symbolLimit 1
-  joined-went =
-      let n = j .beyond 724 (omega arith) λ e. omega arith in
-      let w = j .beyond 726 (omega arith) λ e. omega arith in
-      let m = j .beyond 727 (omega arith) λ e. omega arith in
-      record {
+joined-ruled : {ws left : List ℕ} → Joined ws left → Ruled ws left
+joined-ruled j =
+    let n = j .beyond 724 (omega arith) λ e. omega arith in
+    let w = j .beyond 726 (omega arith) λ e. omega arith in
+    record {
+      went = record {
         same = j .same;
         before = λ k l. j .before k (omega arith);
         grown = j .grown;
         rows = omega (arith, j .rows);
         symbols = omega arith;
         writes = omega arith;
-        choices = omega arith;
-      }
-
-  pub joined-unchosen : Unchosen ws left
-  joined-unchosen =
-      record {
-        met = j .beyond 727 (omega arith) λ e. omega arith;
-        all = j .beyond 728 (omega arith) λ e. omega arith;
-        each = λ k l. j .beyond k (omega arith) λ e. omega arith;
-      }
-
-  pub joined-unnoted : Unnoted ws left
-  joined-unnoted = record { each = λ k l h. j .beyond k (omega arith) λ e. omega arith }
+        logged = omega arith;
+        log = λ k l h. j .beyond k (omega arith) λ e. omega arith;
+      };
+      depth = j .beyond 728 (omega arith) λ e. omega arith;
+      notes = record { each = λ k l h. j .beyond k (omega arith) λ e. omega arith };
+    }
 
 -- ---- another row of the condition
 
@@ -70,7 +67,7 @@ module _ (ws : List ℕ) (lent : spaceSize ≤ length ws) (rows : countIn ws ≤
         inside = omega (arith, e, c, l);
         condition = rw c (truth-kept set-grown u l);
         allowed = a;
-        log = rw (set-other 726 λ z. omega arith) (log-kept (λ j i _. set-other j λ z. omega arith) set-grown (h .log));
+        log = rw (set-other 726 λ z. omega arith, set-other 727 λ z. omega arith) (log-kept (λ j i _. set-other j λ z. omega arith) set-grown (h .log));
         distinct = still-distinct set-grown (omega (arith, e)) (h .distinct);
       }
 
@@ -92,7 +89,7 @@ module _ {ws : List ℕ} (s : Space ws 1) (lent : spaceSize ≤ length ws) (op g
   assumed-count : countIn (assumed ws op g) ≡ countIn ws + 1
   assumed-count = assumed-other 288 (λ e. omega arith) ∙ pushed-count s op (conditionIn ws) g
 
-  pub assumed-joined : Joined ws (assumed ws op g)
+  assumed-joined : Joined ws (assumed ws op g)
   assumed-joined =
       let a = pushed-added s op (conditionIn ws) g in
       record {
@@ -106,10 +103,15 @@ module _ {ws : List ℕ} (s : Space ws 1) (lent : spaceSize ≤ length ws) (op g
   assumed-by : {f : Formula} (p : Path) → Made ws added (countIn ws) f → satisfiable f ≡ true → PathIn ws p → PathIn (assumed ws op g) (assume f p)
   assumed-by p m a h = set-path added added-lent added-rows (countIn ws) p (m .inside) (m .is) a (path-added (m .added) (m .distinct) h)
 
-module _ {ws : List ℕ} (s : Space ws 1) (lent : spaceSize ≤ length ws) (g : ℕ) {f : Formula} (p : Path) (l : g < countIn ws) (u : TruthRow ws g f) where
-  pub assumed-path : satisfiable (conjunction (p .condition) f) ≡ true → PathIn ws p → PathIn (assumed ws 5 g) (assume (conjunction (p .condition) f) p)
-  assumed-path a h = assumed-by s lent 5 g p (made-conjunction s (h .distinct) (h .condition) (h .inside) u l) a h
+pub assumed-ruled : {ws : List ℕ} → Room ws 1 → (op q : ℕ) → Ruled ws (assumed ws op q)
+assumed-ruled r op q = joined-ruled (assumed-joined (room-space r) (r .lent) op q)
 
-  pub denied-path : satisfiable (conjunction (p .condition) (negation f)) ≡ true → PathIn ws p
-      → PathIn (assumed ws 7 g) (assume (conjunction (p .condition) (negation f)) p)
-  denied-path a h = assumed-by s lent 7 g p (made-exclusion s (h .distinct) (h .condition) (h .inside) u l) a h
+pub assumed-with : {ws : List ℕ} {q : ℕ} {g : Formula} {p : Path} → Room ws 1 → Means ws 1 q (aTruth g) → satisfiable (withGuard g p .condition) ≡ true
+    → PathIn ws p → PathIn (assumed ws 5 q) (withGuard g p)
+assumed-with {q = q} {p = p} r (truthRow l u) a h =
+    assumed-by (room-space r) (r .lent) 5 q p (made-conjunction (room-space r) (h .distinct) (h .condition) (h .inside) u l) a h
+
+pub assumed-without : {ws : List ℕ} {q : ℕ} {g : Formula} {p : Path} → Room ws 1 → Means ws 1 q (aTruth g) → satisfiable (withoutGuard g p .condition) ≡ true
+    → PathIn ws p → PathIn (assumed ws 7 q) (withoutGuard g p)
+assumed-without {q = q} {p = p} r (truthRow l u) a h =
+    assumed-by (room-space r) (r .lent) 7 q p (made-exclusion (room-space r) (h .distinct) (h .condition) (h .inside) u l) a h

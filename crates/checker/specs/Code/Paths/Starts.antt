@@ -6,22 +6,17 @@ use Prim.Native.Nat.{ℕ, suc, _+_, _*_, _≤_, _<_}
 use native.Mathlib.Numerals.{add-one}
 use native.Mathlib.Omega.{arith}
 use lib.ListN.{length, getD, set, length-set}
-use lib.Seq.{getD-set-same, getD-set-other, set-getD}
+use lib.Seq.{getD-set-same, getD-set-other}
 use Rattle.rules.specs.Paths.{start}
 use Rattle.rules.specs.Satisfiable.Laws.{true-satisfiable}
 use Rattle.rules.specs.Symbolic.{Symbolic, symbol, symbols}
-use Rattle.terms.specs.Terms.{countIn, Space, pushed, Distinct, Grown, symbolLimit}
+use Rattle.terms.specs.Terms.{Space, pushed, Distinct, Grown, symbolLimit}
 use Rattle.terms.specs.Terms.Laws.{pushed-length, pushed-count, pushed-above, made-constant}
 use Rattle.checker.specs.Code.Notes.{noteAt, Bare}
 use Rattle.checker.specs.Code.Paths.{Fresh, Blank, Starting}
-use Rattle.checker.specs.Code.Rules.{restarted, Started, choicesOn}
-use Rattle.checker.specs.Code.Rules.Walking.{started-kept}
-use Rattle.checker.specs.Code.State.{choicesIn, spaceSize, typesOn, Means, Variables, noVariable, oneMore, Log, noWrite, PathIn, choicesAt, Room}
-use Rattle.checker.specs.Code.State.Laws.{types-length, variables-kept, means-at, path-kept, distinct-same, same-grown, choices-kept}
-
--- an empty log has no write
-empty-log : {ws : List ℕ} {k : ℕ} → Log ws k [] → k ≡ 0
-empty-log noWrite = refl
+use Rattle.checker.specs.Code.Rules.{Started}
+use Rattle.checker.specs.Code.State.{spaceSize, typesOn, Means, Variables, noVariable, oneMore, noWrite, PathIn, Room}
+use Rattle.checker.specs.Code.State.Laws.{types-length, variables-kept, means-at, path-kept, path-rewound, distinct-same, same-grown}
 
 -- one variable more is one symbol more
 symbols-last : (s : ℕ) (ts : List ℕ) (t : ℕ) → symbols s (ts ++ (t ∷ [])) ≡ symbols s ts ++ (symbol t (s + length ts) ∷ [])
@@ -37,10 +32,6 @@ types-last types i =
     let e : 0 + length (typesOn types i) ≡ i = let l = types-length types i in omega arith in
     symbols-last 0 (typesOn types i) (getD types (2 * i) 0)
     ∙ ap (λ (k : ℕ). symbols 0 (typesOn types i) ++ (symbol (getD types (2 * i) 0) k ∷ [])) e
-
--- where no choice and none met changes, all choices are as before
-choices-same : (ws left : List ℕ) → choicesIn left ≡ choicesIn ws → ((k : ℕ) → 1371 ≤ k → getD left k 0 ≡ getD ws k 0) → choicesOn left ≡ choicesOn ws
-choices-same ws left e b = rw e (choices-kept ws left 0 (choicesIn ws) λ j h l. b j (omega arith))
 
 -- ---- row 0
 
@@ -61,7 +52,7 @@ module _ {ws : List ℕ} (b : Blank ws) where
   first-beyond k l = pushed-above blank-space 3 1 0 k (omega (arith, l, b .zeros 288)) ∙ b .zeros k
 
   pub first-started : (types left : List ℕ) → left ≡ first-row → Starting types left 0
-  unfolding typesOn symbols choicesAt
+  unfolding typesOn symbols
   first-started types left e =
       let m = made-constant blank-space blank-distinct true 0 in
       let c = pushed-count blank-space 3 1 0 in
@@ -75,15 +66,14 @@ module _ {ws : List ℕ} (b : Blank ws) where
         first = omega arith;
         next = first-beyond 724 (omega arith);
         condition = d;
-        met = first-beyond 727 (omega arith);
-        free = rw (first-beyond 728 (omega arith)) refl;
+        writes = first-beyond 726 (omega arith);
         bare = λ k h l. first-beyond k (omega arith);
         path = record {
           next = first-beyond 724 (omega arith);
           inside = omega arith;
           condition = rw (d ∙ sym z) (m .is);
           allowed = true-satisfiable;
-          log = rw (first-beyond 726 (omega arith)) noWrite;
+          log = rw (first-beyond 726 (omega arith), first-beyond 727 (omega arith)) noWrite;
           distinct = m .distinct;
         };
         variables = noVariable;
@@ -94,13 +84,11 @@ module _ {ws : List ℕ} (b : Blank ws) where
 module _ {types ws : List ℕ} {i : ℕ} (l : i < symbolLimit) (s : Starting types ws i) where
   pub starting-room : Room ws 1
   starting-room =
-      let w = empty-log (s .path .log) in
       record {
         lent = s .lent;
         rows = omega (arith, s .rows);
         symbols = omega (arith, s .next);
-        writes = omega arith;
-        choices = omega (arith, s .met);
+        writes = omega (arith, s .writes);
       }
 
   module _ {q : ℕ} {xs : List ℕ} (f : Fresh (getD types (2 * i) 0) ws q xs) where
@@ -160,70 +148,68 @@ module _ {types ws : List ℕ} {i : ℕ} (l : i < symbolLimit) (s : Starting typ
           first = omega (arith, e, g, s .first);
           next = placed-path .next;
           condition = placed-behind 725 (omega arith) ∙ f .condition ∙ s .condition;
-          met = placed-behind 727 (omega arith) ∙ f .ruled .unchosen .met ∙ s .met;
-          free = choices-same ws placed (placed-behind 728 (omega arith) ∙ f .ruled .unchosen .all)
-              (λ k h. placed-behind k (omega arith) ∙ f .ruled .unchosen .each k h)
-              ∙ s .free;
+          writes = placed-behind 726 (omega arith) ∙ f .writes ∙ s .writes;
           bare = λ k h m. placed-behind k (omega arith) ∙ f .ruled .notes .each k h m ∙ s .bare k h m;
           path = placed-path;
           variables = placed-variables;
         }
-
--- ---- all variables
-
-set-same : (ws : List ℕ) (i v : ℕ) → getD ws i 0 ≡ v → set ws i v ≡ ws
-set-same ws i v e = rw (sym e) (set-getD ws i 0)
-
-module _ {types ws : List ℕ} {depth : ℕ} (s : Starting types ws depth) where
-  -- a restart changes nothing
-  again : restarted ws (countIn ws) depth ≡ ws
-  again =
-      ap (λ (x : List ℕ). set (set (set (set x 724 depth) 725 0) 726 0) 727 0) (set-getD ws 288 0)
-      ∙ ap (λ (x : List ℕ). set (set (set x 725 0) 726 0) 727 0) (set-same ws 724 depth (s .next))
-      ∙ ap (λ (x : List ℕ). set (set x 726 0) 727 0) (set-same ws 725 0 (s .condition))
-      ∙ ap (λ (x : List ℕ). set x 727 0) (set-same ws 726 0 (empty-log (s .path .log)))
-      ∙ set-same ws 727 0 (s .met)
-
-  pub started-all : Started ws depth (countIn ws) (typesOn types depth)
-  started-all =
-      record {
-        lent = s .lent;
-        few = s .rows;
-        state = rw again (record { variables = s .variables; path = s .path });
-      }
 
 -- ---- the loop
 
 pub starting-on : {types ws : List ℕ} (i : ℕ) → Starting types ws (suc i) → Starting types ws (i + 1)
 starting-on i s = rw (add-one i) s
 
--- the number of the variables is noted
+-- ---- all variables
+
+-- the number of the variables is noted, for the notes and for the path
 module _ {types ws : List ℕ} {depth : ℕ} (l : depth ≤ symbolLimit) (s : Starting types ws depth) where
   abbrev based : List ℕ
   based = set ws 1241 depth
 
-  based-other : (k : ℕ) → (k ≡ 1241 → ⊥) → getD based k 0 ≡ getD ws k 0
-  based-other k n = getD-set-other ws 1241 k depth 0 n
+  abbrev counted : List ℕ
+  counted = set based 728 depth
 
-  based-started : Started based depth (countIn ws) (typesOn types depth)
-  based-started =
-      let r = s .rows in
-      started-kept l (omega arith) (length-set ws 1241 depth) (λ k h. based-other k λ e. omega arith) (λ k h i. based-other k λ e. omega arith) (started-all s)
+  counted-other : (k : ℕ) → (k ≡ 728 → ⊥) → (k ≡ 1241 → ⊥) → getD counted k 0 ≡ getD ws k 0
+  counted-other k m n = getD-set-other based 728 k depth 0 m ∙ getD-set-other ws 1241 k depth 0 n
 
-  based-free : choicesOn based ≡ []
-  based-free = choices-same ws based (based-other 728 λ e. omega arith) (λ k h. based-other k λ e. omega arith) ∙ s .free
+  counted-before : (k : ℕ) → k < 728 → getD counted k 0 ≡ getD ws k 0
+  counted-before k h = counted-other k (λ e. omega arith) (λ e. omega arith)
 
-  based-bare : Bare depth based
-  based-bare =
+  counted-grown : Grown ws counted
+  counted-grown =
+      let e = counted-before 288 (omega arith) in
+      record { grows = omega arith; rows = λ k h i. counted-before k (omega (arith, i, s .rows)) }
+
+  counted-path : PathIn counted (start depth)
+  counted-path =
+      path-rewound (counted-grown .rows) (λ k h i. absurd (omega (arith, h, i, s .writes))) (counted-before 288 (omega arith)) (counted-before 724 (omega arith))
+      (counted-before 725 (omega arith)) (counted-before 726 (omega arith)) (counted-before 727 (omega arith)) (s .path)
+
+  counted-bare : Bare depth counted
+  counted-bare =
       record {
-        base = getD-set-same ws 1241 depth 0 (omega (arith, s .lent));
-        none = λ i h. based-other (noteAt i + 1) (λ e. omega arith) ∙ s .bare (noteAt i + 1) (omega arith) (omega arith);
+        base = getD-set-other based 728 1241 depth 0 (λ e. omega arith) ∙ getD-set-same ws 1241 depth 0 (omega (arith, s .lent));
+        none = λ i h. counted-other (noteAt i + 1) (λ e. omega arith) (λ e. omega arith) ∙ s .bare (noteAt i + 1) (omega arith) (omega arith);
+      }
+
+  counted-length : length counted ≡ length ws
+  counted-length = simp length-set
+
+  counted-started : Started depth (typesOn types depth) counted
+  counted-started =
+      let e = counted-before 288 (omega arith) in
+      record {
+        lent = omega (arith, counted-length, s .lent);
+        rows = omega (arith, e, s .rows);
+        writes = counted-before 726 (omega arith) ∙ s .writes;
+        depth = getD-set-same based 728 depth 0 (simp length-set (omega (arith, s .lent)));
+        state = record {
+          variables = variables-kept depth (omega arith) (λ k h. counted-before k (omega arith)) counted-grown (s .variables);
+          path = counted-path;
+        };
+        bare = counted-bare;
       }
 
 pub starting-end : {types ws : List ℕ} {i : ℕ} (depth : ℕ) → depth ≤ symbolLimit → i ≤ depth → depth ≤ i → Starting types ws i
-    → Started (set ws 1241 depth) depth (countIn (set ws 1241 depth)) (typesOn types depth)
-    × ((choicesOn (set ws 1241 depth) ≡ []) × Bare depth (set ws 1241 depth))
-starting-end {ws = ws} {i = i} depth h l m s =
-    let e : i ≡ depth = omega arith in
-    let t = rw e at s in
-    (rw (getD-set-other ws 1241 288 depth 0 λ z. omega arith) (based-started h t), (based-free h t, based-bare h t))
+    → Started depth (typesOn types depth) (set (set ws 1241 depth) 728 depth)
+starting-end {i = i} depth h l m s = let e : i ≡ depth = omega arith in counted-started h (rw e at s)

@@ -2,7 +2,7 @@
 use mathlib.Core.Bool.{Bool, true, false}
 use mathlib.Core.List.{List}
 use mathlib.Core.Path.{_≡_, refl, _∙_}
-use Prim.Native.Nat.{ℕ, zero, suc, _+_, _*_, _-_, _≤_, _<_}
+use Prim.Native.Nat.{ℕ, zero, suc, _+_, _*_, _≤_, _<_}
 use native.Mathlib.Numerals.{add-one}
 use native.Mathlib.Omega.{arith}
 use lib.Dec.{ltb}
@@ -77,7 +77,7 @@ module _ (ws : List ℕ) (room : Room ws 1) where
   numbered-path : (p : Path) → PathIn ws p → PathIn numbered (taken p)
   numbered-path p h =
       path-moved numbered-grown (numbered-distinct (h .distinct)) (numbered-other 725 λ e. omega arith) (numbered-next ∙ rw (h .next))
-      (rw (numbered-other 726 λ e. omega arith) (log-kept (λ j i _. numbered-other j λ e. omega arith) numbered-grown (h .log))) h
+      (rw (numbered-other 726 λ e. omega arith, numbered-other 727 λ e. omega arith) (log-kept (λ j i _. numbered-other j λ e. omega arith) numbered-grown (h .log))) h
 
   -- at most one row more
   module _ {left : List ℕ} (same : length left ≡ length numbered) (a : Added numbered left 1) where
@@ -88,7 +88,6 @@ module _ (ws : List ℕ) (room : Room ws 1) where
     numbered-ruled =
         let n = a .beyond 724 (omega arith) in
         let w = behind 726 (omega arith) in
-        let m = behind 727 (omega arith) in
         record {
           went = record {
             same = same ∙ numbered-length;
@@ -97,9 +96,10 @@ module _ (ws : List ℕ) (room : Room ws 1) where
             rows = omega (arith, a .most, numbered-count);
             symbols = omega (arith, n, numbered-next);
             writes = omega arith;
-            choices = omega arith;
+            logged = omega arith;
+            log = λ k l h. behind k (omega arith);
           };
-          unchosen = record { met = m; all = behind 728 (omega arith); each = λ k l. behind k (omega arith) };
+          depth = behind 728 (omega arith);
           notes = record { each = λ k l m. behind k (omega arith) };
         }
 
@@ -110,6 +110,7 @@ module _ (ws : List ℕ) (room : Room ws 1) where
           means = λ x. m (numbered-distinct x);
           path = λ p h. path-added a (d (numbered-distinct (h .distinct))) (numbered-path p h);
           condition = behind 725 (omega arith);
+          writes = behind 726 (omega arith);
           most = omega (arith, a .most, numbered-count);
         }
 

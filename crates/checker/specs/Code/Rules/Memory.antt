@@ -18,12 +18,11 @@ use Rattle.terms.specs.Terms.Laws.{grown-trans, still-distinct}
 use Rattle.checker.specs.Code.Log.{consistentOn, lookupOn, written, FoundAs, found-none, found-some}
 use Rattle.checker.specs.Code.Log.Laws.{consistent-is, lookup-is, written-grown, written-before, written-ruled, written-path}
 use Rattle.checker.specs.Code.Paths.{Fresh}
+use Rattle.checker.specs.Code.Paths.Conditions.{ruled-refl}
 use Rattle.checker.specs.Code.Paths.Symbols.{fresh-reference}
 use Rattle.checker.specs.Code.Rules.{oneExec, twoExec, Ruled, One, Two, After}
-use Rattle.checker.specs.Code.Rules.Executed.{unchosen-trans}
-use Rattle.checker.specs.Code.Rules.Operators.{ruled-refl}
-use Rattle.checker.specs.Code.State.{nextIn, writesIn, Means, wordRow, truthRow, madeSymbol, otherSymbol, noWrite, PathIn, Room, Went, Unchosen, Unnoted, Yields, ending, stopping}
-use Rattle.checker.specs.Code.State.Laws.{path-moved, means-type, means-kept, went-trans, unnoted-trans}
+use Rattle.checker.specs.Code.State.{nextIn, writesIn, startIn, depthIn, Means, wordRow, truthRow, madeSymbol, otherSymbol, noWrite, PathIn, Room, Went, Unnoted, Yields, ending, stopping}
+use Rattle.checker.specs.Code.State.Laws.{path-moved, means-type, means-kept, went-trans, room-on, unnoted-trans}
 use Rattle.checker.specs.declared.log.Found.{Found}
 use Rattle.checker.specs.declared.log.Found.the-variants.{Value, Nothing}
 use Rattle.checker.specs.declared.operators.Step.the-variants.{Gave, Stopped}
@@ -51,8 +50,8 @@ no-reference l (truthRow i r) = a-truth
 no-reference l (madeSymbol e) = absurd (omega arith)
 no-reference l (otherSymbol e) = absurd (omega arith)
 
-ruled-then : {ws xs left : List ℕ} → Unchosen ws xs → Unnoted ws xs → Ruled xs left → Went ws left 144 1 → Ruled ws left
-ruled-then u k v w = record { went = w; unchosen = unchosen-trans u (v .unchosen); notes = unnoted-trans k (v .notes) }
+ruled-then : {ws xs left : List ℕ} → depthIn xs ≡ depthIn ws → Unnoted ws xs → Ruled xs left → Went ws left 144 1 → Ruled ws left
+ruled-then d k v w = record { went = w; depth = v .depth ∙ d; notes = unnoted-trans k (v .notes) }
 
 -- ---- `set`
 
@@ -101,7 +100,7 @@ module _ (n t q : ℕ) {ws : List ℕ} where
     fresh : Fresh (t + 2) ws (2 * nextIn ws) numbered
     fresh = fresh-reference ws x (t + 2) (λ e. omega arith) (λ e. omega arith)
 
-    pub ref-lent : 1499 ≤ length numbered
+    pub ref-lent : 1371 ≤ length numbered
     ref-lent = omega (arith, length-set ws 724 (nextIn ws + 1), x .lent)
 
     pub ref-few : writesIn numbered < 128
@@ -119,9 +118,7 @@ module _ (n t q : ℕ) {ws : List ℕ} where
         let b = written-ruled numbered (t + 2) (2 * nextIn ws + 1) t q ref-lent ref-few ref-rows .went in
         let rows = getD-set-other ws 724 288 (nextIn ws + 1) 0 (λ e. omega arith) in
         let writes = getD-set-other ws 724 726 (nextIn ws + 1) 0 (λ e. omega arith) in
-        let met = getD-set-other ws 724 727 (nextIn ws + 1) 0 (λ e. omega arith) in
         let next = written-before numbered (t + 2) (2 * nextIn ws + 1) t q ref-lent ref-few ref-rows 724 (λ e. omega arith) (omega arith) in
-        let met₂ = written-before numbered (t + 2) (2 * nextIn ws + 1) t q ref-lent ref-few ref-rows 727 (λ e. omega arith) (omega arith) in
         record {
           same = b .same ∙ a .same;
           before = λ k i. b .before k i ∙ a .before k i;
@@ -129,7 +126,8 @@ module _ (n t q : ℕ) {ws : List ℕ} where
           rows = omega (arith, b .rows, rows);
           symbols = omega (arith, next, a .symbols);
           writes = omega (arith, b .writes, writes);
-          choices = omega (arith, met, met₂);
+          logged = omega (arith, a .logged, b .logged);
+          log = λ k i h. b .log k i (omega (arith, h, writes)) ∙ a .log k i h;
         }
 
     made-here : (zs : List ℕ) (u : ℕ) → nextIn ws ≡ u → Means zs (t + 2) (2 * nextIn ws + 1) (aReference made t u)
@@ -148,7 +146,7 @@ module _ (n t q : ℕ) {ws : List ℕ} where
     ref-made e =
         rw e
         (record {
-          ruled = ruled-then (fresh .ruled .unchosen) (fresh .ruled .notes)
+          ruled = ruled-then (fresh .ruled .depth) (fresh .ruled .notes)
               (written-ruled numbered (t + 2) (2 * nextIn ws + 1) t q ref-lent ref-few ref-rows) ref-went;
           yields = ref-yields;
         })
@@ -182,10 +180,10 @@ get-inconsistent n p e refers = rw e stopping
 
 -- what is found is the value
 get-found : (n q : ℕ) {ws : List ℕ} {t u i : ℕ} {v : Symbolic} {f : Found} (p : Path) → consistent p ≡ true → PathIn ws p → Refers t v → Means ws t q v
-    → lookupOn ws q (writesIn ws) ≡ f → f ≡ Value u i → Yields ws (Gave u i) (unaryExec n getOp v p)
+    → lookupOn ws (startIn ws) q (writesIn ws - startIn ws) ≡ f → f ≡ Value u i → Yields ws (Gave u i) (unaryExec n getOp v p)
 unfolding unaryExec
 get-found n q {ws} {u = u} {i = i} p e h (refers {o = o} {c = c} {s = s}) m d z =
-    rw e (go (lookupOn ws q (writesIn ws)) (lookup o s (p .log)) (lookup-is (h .log) m) (d ∙ z))
+    rw e (go (lookupOn ws (startIn ws) q (writesIn ws - startIn ws)) (lookup o s (p .log)) (lookup-is (h .log) m) (d ∙ z))
   where
     go : (f : Found) (r : Option Symbolic) → FoundAs ws f r → f ≡ Value u i → Yields ws (Gave u i) (got r c p)
     go Nothing none found-none y = absurd (nothing-found y)
@@ -193,10 +191,10 @@ get-found n q {ws} {u = u} {i = i} p e h (refers {o = o} {c = c} {s = s}) m d z 
 
 -- nothing is found: a fresh symbol
 get-nothing : (n q : ℕ) {ws left : List ℕ} {t i : ℕ} {v : Symbolic} {f : Found} (p : Path) → consistent p ≡ true → PathIn ws p → Refers t v → Means ws t q v
-    → lookupOn ws q (writesIn ws) ≡ f → f ≡ Nothing → Fresh (t - 2) ws i left → Yields left (Gave (t - 2) i) (unaryExec n getOp v p)
+    → lookupOn ws (startIn ws) q (writesIn ws - startIn ws) ≡ f → f ≡ Nothing → Fresh (t - 2) ws i left → Yields left (Gave (t - 2) i) (unaryExec n getOp v p)
 unfolding unaryExec
 get-nothing n q {ws} {left} {i = i} p e h (refers {o = o} {c = c} {s = s}) m d z x =
-    rw e (go (lookupOn ws q (writesIn ws)) (lookup o s (p .log)) (lookup-is (h .log) m) (d ∙ z))
+    rw e (go (lookupOn ws (startIn ws) q (writesIn ws - startIn ws)) (lookup o s (p .log)) (lookup-is (h .log) m) (d ∙ z))
   where
     go : (f : Found) (r : Option Symbolic) → FoundAs ws f r → f ≡ Nothing → Yields left (Gave (suc (suc c) - 2) i) (got r c p)
     go Nothing none found-none y =
@@ -209,7 +207,7 @@ module _ (n t q : ℕ) {ws : List ℕ} where
   unfolding oneExec
   get-wrong l = record { ruled = ruled-refl ws; yields = λ v p m h. get-refused n p (no-reference l m) }
 
-  module _ (l : 2 ≤ t) {b : Bool} (e : b ≡ consistentOn ws 0 (writesIn ws)) where
+  module _ (l : 2 ≤ t) {b : Bool} (e : b ≡ consistentOn ws (startIn ws) 0 (writesIn ws - startIn ws)) where
     log-is : {p : Path} {c : Bool} → PathIn ws p → b ≡ c → consistent p ≡ c
     log-is h z = sym (consistent-is (h .log)) ∙ sym e ∙ z
 
@@ -217,7 +215,7 @@ module _ (n t q : ℕ) {ws : List ℕ} where
     unfolding oneExec
     get-stopped z = record { ruled = ruled-refl ws; yields = λ v p m h. get-inconsistent n p (log-is h z) (refer l m) }
 
-    module _ (z : b ≡ true) {f : Found} (d : f ≡ lookupOn ws q (writesIn ws)) where
+    module _ (z : b ≡ true) {f : Found} (d : f ≡ lookupOn ws (startIn ws) q (writesIn ws - startIn ws)) where
       pub get-value : {u i : ℕ} → f ≡ Value u i → One (unaryForm getOp) n t q ws (Gave u i) ws
       unfolding oneExec
       get-value y = record { ruled = ruled-refl ws; yields = λ v p m h. get-found n q p (log-is h z) h (refer l m) m (sym d) y }
@@ -228,7 +226,7 @@ module _ (n t q : ℕ) {ws : List ℕ} where
 
 -- ---- after a typed block
 
-module _ (n t : ℕ) {ws : List ℕ} {b : Bool} (e : b ≡ consistentOn ws 0 (writesIn ws)) where
+module _ (n t : ℕ) {ws : List ℕ} {b : Bool} (e : b ≡ consistentOn ws (startIn ws) 0 (writesIn ws - startIn ws)) where
   pub block-stopped : b ≡ false → After n t ws (Stopped (InconsistentLog n)) ws
   unfolding typedResult
   block-stopped z =
@@ -237,16 +235,19 @@ module _ (n t : ℕ) {ws : List ℕ} {b : Bool} (e : b ≡ consistentOn ws 0 (wr
         yields = λ p h. rw (sym (consistent-is (h .log)) ∙ sym e ∙ z) stopping;
       }
 
-  -- the log is empty
+  -- no write counts any more
   module _ (x : Room ws 1) where
     abbrev emptied : List ℕ
-    emptied = set ws 726 0
+    emptied = set ws 727 (writesIn ws)
 
-    emptied-other : (k : ℕ) → (k ≡ 726 → ⊥) → getD emptied k 0 ≡ getD ws k 0
-    emptied-other k d = getD-set-other ws 726 k 0 0 d
+    emptied-other : (k : ℕ) → (k ≡ 727 → ⊥) → getD emptied k 0 ≡ getD ws k 0
+    emptied-other k d = getD-set-other ws 727 k (writesIn ws) 0 d
 
-    emptied-writes : writesIn emptied ≡ 0
-    emptied-writes = getD-set-same ws 726 0 0 (omega (arith, x .lent))
+    emptied-writes : writesIn emptied ≡ writesIn ws
+    emptied-writes = emptied-other 726 λ e. omega arith
+
+    emptied-start : startIn emptied ≡ writesIn ws
+    emptied-start = getD-set-same ws 727 (writesIn ws) 0 (omega (arith, x .lent))
 
     emptied-grown : Grown ws emptied
     emptied-grown =
@@ -257,42 +258,29 @@ module _ (n t : ℕ) {ws : List ℕ} {b : Bool} (e : b ≡ consistentOn ws 0 (wr
     emptied-path h =
         let k = emptied-other 288 (λ e. omega arith) in
         path-moved emptied-grown (still-distinct emptied-grown (omega (arith, k)) (h .distinct)) (emptied-other 725 (λ e. omega arith))
-        (emptied-other 724 (λ e. omega arith) ∙ h .next) (rw emptied-writes noWrite) h
-
-    pub emptied-room : Room emptied 1
-    emptied-room =
-        record {
-          lent = omega (arith, x .lent, length-set ws 726 0);
-          rows = omega (arith, x .rows, emptied-other 288 (λ e. omega arith));
-          symbols = omega (arith, x .symbols, emptied-other 724 (λ e. omega arith));
-          writes = omega (arith, emptied-writes);
-          choices = omega (arith, x .choices, emptied-other 727 (λ e. omega arith));
-        }
+        (emptied-other 724 (λ e. omega arith) ∙ h .next) (rw (emptied-writes, emptied-start) noWrite) h
 
     emptied-went : Went ws emptied 144 0
     emptied-went =
         record {
-          same = length-set ws 726 0;
+          same = length-set ws 727 (writesIn ws);
           before = λ k l. emptied-other k λ z. omega arith;
           grown = emptied-grown;
           rows = omega (arith, emptied-other 288 (λ e. omega arith));
           symbols = omega (arith, emptied-other 724 (λ e. omega arith));
           writes = omega (arith, emptied-writes);
-          choices = omega (arith, emptied-other 727 (λ e. omega arith));
+          logged = omega (arith, emptied-writes);
+          log = λ k l h. emptied-other k λ z. omega arith;
         }
 
-    emptied-unchosen : Unchosen ws emptied
-    emptied-unchosen =
-        record {
-          met = emptied-other 727 (λ e. omega arith);
-          all = emptied-other 728 (λ e. omega arith);
-          each = λ k l. emptied-other k λ z. omega arith;
-        }
+    pub emptied-room : Room emptied 1
+    emptied-room = room-on x emptied-went
 
     pub block-made : b ≡ true → {i : ℕ} {left : List ℕ} → Fresh t emptied i left → After n t ws (Gave t i) left
     unfolding typedResult
     block-made z y =
         record {
-          ruled = ruled-then emptied-unchosen (record { each = λ k l h. emptied-other k λ z. omega arith }) (y .ruled) (went-trans (omega arith) emptied-went (y .ruled .went));
+          ruled = ruled-then (emptied-other 728 λ e. omega arith) (record { each = λ k l h. emptied-other k λ z. omega arith }) (y .ruled)
+              (went-trans (omega arith) emptied-went (y .ruled .went));
           yields = λ p h. rw (sym (consistent-is (h .log)) ∙ sym e ∙ z) (fresh-yields t t refl y (emptied-path h));
         }

@@ -20,24 +20,18 @@ use Rattle.terms.specs.Terms.Laws.{pushed-length, pushed-added, made-number, ma
 use Rattle.terms.specs.Words.{Words, equalRow, equalLeft}
 use Rattle.terms.specs.Words.Laws.{equal-length, words-asked}
 use Rattle.terms.specs.Words.Made.{made-equal}
+use Rattle.checker.specs.Code.Paths.Conditions.{ruled-refl}
 use Rattle.checker.specs.Code.Rules.{leafExec, oneExec, twoExec, Ruled, Leaf, One, Two, Operable}
 use Rattle.checker.specs.Code.State.{Means, wordRow, truthRow, madeSymbol, otherSymbol, PathIn, Room, Yields, ending, stopping}
-use Rattle.checker.specs.Code.State.Laws.{went-refl, path-added, variables-at, variables-length, none-at}
+use Rattle.checker.specs.Code.State.Laws.{path-added, variables-at, variables-length, none-at, room-space}
 use Rattle.checker.specs.declared.operators.Step.the-variants.{Gave, Stopped}
 
--- ---- room
-
-pub room-space : {ws : List ℕ} → Room ws 1 → Space ws 1
-room-space r = record { lent = omega (arith, r .lent); room = omega (arith, r .rows) }
-
-pub ruled-refl : (ws : List ℕ) → Ruled ws ws
-ruled-refl ws = record { went = went-refl ws 144 1; unchosen = record { met = refl; all = refl; each = λ k l. refl }; notes = record { each = λ k l m. refl } }
+-- ---- rows
 
 pub added-ruled : {ws left : List ℕ} → length left ≡ length ws → Added ws left 1 → Ruled ws left
 added-ruled l a =
     let next = a .beyond 724 (omega arith) in
     let writes = a .beyond 726 (omega arith) in
-    let met = a .beyond 727 (omega arith) in
     record {
       went = record {
         same = l;
@@ -46,9 +40,10 @@ added-ruled l a =
         rows = omega (arith, a .most);
         symbols = omega arith;
         writes = omega arith;
-        choices = omega arith;
+        logged = omega arith;
+        log = λ k i m. a .beyond k (omega arith);
       };
-      unchosen = record { met = met; all = a .beyond 728 (omega arith); each = λ k i. a .beyond k (omega arith) };
+      depth = a .beyond 728 (omega arith);
       notes = record { each = λ k i m. a .beyond k (omega arith) };
     }
 

@@ -4,20 +4,16 @@ use mathlib.Core.List.{List, [], _∷_, _++_, map, map-append}
 use mathlib.Core.Logic.{_⊎_, inl, inr}
 use mathlib.Core.Option.{none, some}
 use mathlib.Core.Path.{_≡_, refl, sym, _∙_}
-use Prim.Native.Nat.{ℕ, zero, suc, _+_, _*_, _-_, _≤_, _<_}
+use Prim.Native.Nat.{ℕ, zero, suc, _+_, _*_, _≤_, _<_}
 use native.Mathlib.Omega.{arith}
 use lib.Dec.{eqb}
 use lib.ListN.{length, getD, getElem?, length-append}
 use borrow.Author.Tests.{eqb-true, eqb-false}
-use Rattle.script.specs.declared.Refusal.{Refusal}
-use Rattle.rules.specs.Paths.{Path, Paths, Write}
-use Rattle.rules.specs.Paths.Next.{Trace, arrives, halts, follow}
+use Rattle.rules.specs.Paths.{Path, Write}
 use Rattle.rules.specs.Symbolic.{Symbolic, typeOf}
-use Rattle.terms.specs.Terms.{Grown, Distinct, Added}
+use Rattle.terms.specs.Terms.{countIn, Space, Grown, Distinct, Added}
 use Rattle.terms.specs.Terms.Laws.{grown-refl, grown-trans, sum-kept, truth-kept, still-distinct}
-use Rattle.checker.specs.Code.State.{nextIn, conditionIn, writesIn, metIn, choicesIn, typesOn, Means, wordRow, truthRow, madeSymbol, otherSymbol, Variables, noVariable, oneMore, Log, noWrite, aWrite, PathIn, choicesAt, metOn, leftOn, Room, Went, Took, arrived, halted, Yields, ending, stopping, Unchosen, Unnoted}
-use Rattle.checker.specs.declared.operators.Step.{Step}
-use Rattle.checker.specs.declared.operators.Step.the-variants.{Gave, Stopped}
+use Rattle.checker.specs.Code.State.{nextIn, conditionIn, writesIn, startIn, typesOn, Means, wordRow, truthRow, madeSymbol, otherSymbol, Variables, noVariable, oneMore, Log, noWrite, aWrite, PathIn, Room, Went, Unnoted}
 
 -- ---- values
 
@@ -119,8 +115,8 @@ variables-at {ws} k l (oneMore {d = d} {env = env} {v = v} vs m) = go (below-or-
 
 -- ---- the path
 
-pub log-kept : {ws left : List ℕ} {k : ℕ} {l : List Write} → ((j : ℕ) → 729 ≤ j → j < 729 + 4 * k → getD left j 0 ≡ getD ws j 0) → Grown ws left
-    → Log ws k l → Log left k l
+pub log-kept : {ws left : List ℕ} {begin k : ℕ} {l : List Write} → ((j : ℕ) → 729 ≤ j → j < 729 + 4 * k → getD left j 0 ≡ getD ws j 0) → Grown ws left
+    → Log ws begin k l → Log left begin k l
 log-kept b g noWrite = noWrite
 log-kept b g (aWrite {k = k} r m n) =
     aWrite (log-kept (λ j h i. b j h (omega arith)) g r)
@@ -129,7 +125,7 @@ log-kept b g (aWrite {k = k} r m n) =
 
 -- the condition is where it was; next symbol and log are as said
 pub path-moved : {ws left : List ℕ} {p : Path} {n : ℕ} {l : List Write} → Grown ws left → Distinct left → conditionIn left ≡ conditionIn ws → nextIn left ≡ n
-    → Log left (writesIn left) l → PathIn ws p → PathIn left (record { next = n; condition = p .condition; log = l })
+    → Log left (startIn left) (writesIn left) l → PathIn ws p → PathIn left (record { next = n; condition = p .condition; log = l })
 path-moved g d c n l h =
     record {
       next = n;
@@ -144,7 +140,7 @@ path-moved g d c n l h =
 pub path-kept : {ws left : List ℕ} {p : Path} → ((j : ℕ) → 724 ≤ j → getD left j 0 ≡ getD ws j 0) → Grown ws left → Distinct left → PathIn ws p → PathIn left p
 path-kept b g d h =
     path-moved g d (b 725 (omega arith)) (b 724 (omega arith) ∙ h .next)
-    (rw (b 726 (omega arith)) (log-kept (λ j i _. b j (omega arith)) g (h .log))) h
+    (rw (b 726 (omega arith), b 727 (omega arith)) (log-kept (λ j i _. b j (omega arith)) g (h .log))) h
 
 pub path-added : {ws left : List ℕ} {m : ℕ} {p : Path} → Added ws left m → Distinct left → PathIn ws p → PathIn left p
 path-added a d h = path-kept (a .beyond) (a .grown) d h
@@ -156,20 +152,18 @@ same-grown b = let e = b 288 (omega arith) in record { grows = omega arith; rows
 pub distinct-same : {ws left : List ℕ} → ((j : ℕ) → 288 ≤ j → getD left j 0 ≡ getD ws j 0) → Distinct ws → Distinct left
 distinct-same b d = let e = b 288 (omega arith) in still-distinct (same-grown b) (omega arith) d
 
--- ---- the choices
+-- back at the rows, the log and the numbers of a path
+pub path-rewound : {xs ws : List ℕ} {p : Path} → ((k : ℕ) → 289 ≤ k → k < 289 + 3 * countIn xs → getD ws k 0 ≡ getD xs k 0)
+    → ((k : ℕ) → 729 ≤ k → k < 729 + 4 * writesIn xs → getD ws k 0 ≡ getD xs k 0) → countIn ws ≡ countIn xs → nextIn ws ≡ nextIn xs
+    → conditionIn ws ≡ conditionIn xs → writesIn ws ≡ writesIn xs → startIn ws ≡ startIn xs → PathIn xs p → PathIn ws p
+path-rewound {xs} {ws} b l count next condition writes start h =
+    path-moved grown (still-distinct grown (omega (arith, count)) (h .distinct)) condition (next ∙ h .next)
+    (rw (writes, start) (log-kept l grown (h .log))) h
+  where
+    grown : Grown xs ws
+    grown = record { grows = omega (arith, count); rows = b }
 
-pub choices-kept : (ws left : List ℕ) (i k : ℕ) → ((j : ℕ) → 1371 + i ≤ j → j < 1371 + i + k → getD left j 0 ≡ getD ws j 0) → choicesAt left i k ≡ choicesAt ws i k
-unfolding choicesAt
-choices-kept ws left i zero b = refl
-choices-kept ws left i (suc k) b =
-    rw (b (1371 + i) (omega arith) (omega arith), choices-kept ws left (suc i) k λ j h l. b j (omega arith) (omega arith))
-
-module _ {ws left : List ℕ} (u : Unchosen ws left) where
-  pub unchosen-met : metOn left ≡ metOn ws
-  unchosen-met = rw (u .met) (choices-kept ws left 0 (metIn ws) λ j h l. u .each j (omega arith))
-
-  pub unchosen-left : leftOn left ≡ leftOn ws
-  unchosen-left = rw (u .met, u .all) (choices-kept ws left (metIn ws) (choicesIn ws - metIn ws) λ j h l. u .each j (omega arith))
+-- ---- the notes
 
 pub unnoted-refl : (ws : List ℕ) → Unnoted ws ws
 unnoted-refl ws = record { each = λ k l h. refl }
@@ -188,7 +182,8 @@ went-refl ws depth nodes =
       rows = omega arith;
       symbols = omega arith;
       writes = omega arith;
-      choices = omega arith;
+      logged = omega arith;
+      log = λ k l h. refl;
     }
 
 -- one step after the other; the second may have more variables
@@ -201,7 +196,8 @@ went-trans h v w =
       rows = omega (arith, v .rows, w .rows);
       symbols = omega (arith, v .symbols, w .symbols);
       writes = omega (arith, v .writes, w .writes);
-      choices = omega (arith, v .choices, w .choices);
+      logged = omega (arith, v .logged, w .logged);
+      log = λ k l h. w .log k l (omega (arith, h, v .logged)) ∙ v .log k l h;
     }
 
 pub went-less : {ws left : List ℕ} {depth inner m n : ℕ} → depth ≤ inner → m ≤ n → Went ws left inner m → Went ws left depth n
@@ -213,7 +209,8 @@ went-less h l w =
       rows = omega (arith, w .rows, l);
       symbols = omega (arith, w .symbols, l);
       writes = omega (arith, w .writes, l);
-      choices = omega (arith, w .choices, l);
+      logged = w .logged;
+      log = w .log;
     }
 
 pub room-less : {ws : List ℕ} {m n : ℕ} → m ≤ n → Room ws n → Room ws m
@@ -223,7 +220,6 @@ room-less h r =
       rows = omega (arith, r .rows, h);
       symbols = omega (arith, r .symbols, h);
       writes = omega (arith, r .writes, h);
-      choices = omega (arith, r .choices, h);
     }
 
 pub room-on : {ws left : List ℕ} {depth m n : ℕ} → Room ws (m + n) → Went ws left depth m → Room left n
@@ -233,41 +229,7 @@ room-on r w =
       rows = omega (arith, r .rows, w .rows);
       symbols = omega (arith, r .symbols, w .symbols);
       writes = omega (arith, r .writes, w .writes);
-      choices = omega (arith, r .choices, w .choices);
     }
 
--- ---- answers
-
--- where a following arrived
-pub record Arrived (left : List ℕ) (t q : ℕ) (T : Trace) : Type 0 where
-  pub value : Symbolic
-  pub path : Path
-  pub is : T ≡ arrives value path (metOn left) (leftOn left)
-  pub means : Means left t q value
-  pub holds : PathIn left path
-
-same-type : {t q u r : ℕ} → Gave t q ≡ Gave u r → t ≡ u
-same-type e = cc
-
-same-place : {t q u r : ℕ} → Gave t q ≡ Gave u r → q ≡ r
-same-place e = cc
-
-gave-not-stopped : {t q : ℕ} {x : Refusal} → Gave t q ≡ Stopped x → ⊥
-gave-not-stopped e = let z : _≡_ {A = ℕ} 0 1 = cc in omega arith
-
-same-stop : {x y : Refusal} → Stopped x ≡ Stopped y → x ≡ y
-same-stop e = cc
-
-pub took-gave : {left : List ℕ} {r : Step} {T : Trace} {t q : ℕ} → Took left r T → r ≡ Gave t q → Arrived left t q T
-took-gave {left} (arrived {v = v} {p = p} m h e f) k =
-    record { value = v; path = p; is = rw (e, f); means = rw (sym (same-type k), sym (same-place k)) m; holds = h }
-took-gave halted k = absurd (gave-not-stopped (sym k))
-
-pub took-stopped : {left : List ℕ} {r : Step} {T : Trace} {x : Refusal} → Took left r T → r ≡ Stopped x → (met : List Bool) × (T ≡ halts x met)
-took-stopped (arrived m h e f) k = absurd (gave-not-stopped k)
-took-stopped (halted {met = met}) k = (met, rw (same-stop k))
-
-pub yields-took : {ws left : List ℕ} {r : Step} {t : Paths} → Unchosen ws left → Yields left r t → Took left r (follow t (metOn ws) (leftOn ws))
-unfolding follow
-yields-took u (ending m h) = arrived m h (sym (unchosen-met u)) (sym (unchosen-left u))
-yields-took u stopping = halted
+pub room-space : {ws : List ℕ} → Room ws 1 → Space ws 1
+room-space r = record { lent = omega (arith, r .lent); room = omega (arith, r .rows) }

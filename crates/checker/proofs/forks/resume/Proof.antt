@@ -1,0 +1,91 @@
+-- `checker::forks::resume` meets its contract: the last fork's numbers and variables, and the condition without its guard. Assumes nothing.
+use borrow.Author.Needs.{needs}
+use native.Mathlib.Omega.{arith}
+use Rattle.checker.specs.Code.Going.Resuming.{resume-lent, resume-framed, resume-few, rewound-restorable, guard-space, guard-lent, branch-node, branch-few, resumed}
+use Rattle.checker.proofs.forks.resume.Statement.{statement}
+use Rattle.checker.proofs.forks.resume.Tie as tie
+
+rewind-requires : tie.Need-rewind-requires
+rewind-requires c κs =
+    let x = c .before .before .before .before .before .pre in
+    (resume-lent x, (resume-framed x, (x .some, resume-few x)))
+
+restore-requires : tie.Need-restore-requires
+restore-requires c κs = rewound-restorable (c .before .before .before .before .before .before .before .before .before .before .before .before .pre) (c .before .before .before .before .before .before .rewind .ensures)
+
+slice-read-at : tie.Need-slice-read-at
+slice-read-at c = search needs
+
+cast-at : tie.Need-cast-at
+cast-at c =
+    let i = rewound-restorable (c .before .before .before .before .before .before .before .before .before .before .before .before .before .before .before .before .pre) (c .before .before .before .before .before .before .before .before .before .before .rewind .ensures) in
+    record { fits = omega (arith, i .inside) }
+
+mul-at : tie.Need-mul-at
+mul-at c =
+    let i = rewound-restorable (c .before .before .before .before .before .before .before .before .before .before .before .before .before .before .before .before .pre) (c .before .before .before .before .before .before .before .before .before .before .rewind .ensures) in
+    omega (arith, i .inside, i .framed)
+
+add-assume : tie.Need-add-assume
+add-assume c =
+    let i = rewound-restorable (c .before .before .before .before .before .before .before .before .before .before .before .before .before .before .before .before .before .pre) (c .before .before .before .before .before .before .before .before .before .before .before .rewind .ensures) in
+    omega (arith, i .inside, i .framed)
+
+mul-assume : tie.Need-mul-assume
+mul-assume c =
+    let i = rewound-restorable (c .before .before .before .before .before .before .before .before .before .before .before .before .before .before .before .before .before .pre) (c .before .before .before .before .before .before .before .before .before .before .before .rewind .ensures) in
+    omega (arith, i .inside, i .framed)
+
+slice-read-assume : tie.Need-slice-read-assume
+slice-read-assume c =
+    let i = rewound-restorable (c .before .before .before .before .before .before .before .before .before .before .before .before .before .before .before .before .before .before .pre) (c .before .before .before .before .before .before .before .before .before .before .before .before .rewind .ensures) in
+    omega (arith, i .inside, i .framed)
+
+assume-requires : tie.Need-assume-requires
+assume-requires c κs = (guard-space (c .before .before .before .before .before .before .before .before .before .before .before .before .before .before .before .before .before .before .pre) (c .before .before .before .before .before .before .before .before .before .before .before .before .rewind .ensures) (c .before .before .before .before .before .restore .ensures), guard-lent (c .before .before .before .before .before .before .before .before .before .before .before .before .before .before .before .before .before .before .pre) (c .before .before .before .before .before .before .before .before .before .before .before .before .rewind .ensures) (c .before .before .before .before .before .restore .ensures))
+
+mul-node-at : tie.Need-mul-node-at
+mul-node-at c =
+    let i = rewound-restorable (c .before .before .before .before .before .before .before .before .before .before .before .before .before .before .before .before .before .before .before .before .before .pre) (c .before .before .before .before .before .before .before .before .before .before .before .before .before .before .before .rewind .ensures) in
+    omega (arith, i .inside, i .framed)
+
+slice-read-node-at : tie.Need-slice-read-node-at
+slice-read-node-at c =
+    let i = rewound-restorable (c .before .before .before .before .before .before .before .before .before .before .before .before .before .before .before .before .before .before .before .before .before .before .pre) (c .before .before .before .before .before .before .before .before .before .before .before .before .before .before .before .before .rewind .ensures) in
+    omega (arith, i .inside, i .framed)
+
+cast-node-at : tie.Need-cast-node-at
+cast-node-at c = record { fits = omega (arith, branch-few (c .before .before .before .before .before .before .before .before .before .before .before .before .before .before .before .before .before .before .before .before .before .before .pre) (c .before .before .before .before .before .before .before .before .before .before .before .before .before .before .before .before .rewind .ensures) (c .before .before .before .before .before .before .before .before .before .restore .ensures)) }
+
+node-at-requires : tie.Need-node-at-requires
+node-at-requires c κs = branch-node (c .before .before .before .before .before .before .before .before .before .before .before .before .before .before .before .before .before .before .before .before .before .before .pre) (c .before .before .before .before .before .before .before .before .before .before .before .before .before .before .before .before .rewind .ensures) (c .before .before .before .before .before .before .before .before .before .restore .ensures)
+
+same-length : tie.Need-same-length
+same-length c = search needs
+
+same-length-2 : tie.Need-same-length-2
+same-length-2 c = search needs
+
+returns : tie.Need-returns
+returns c = rw (c .node-at .ensures) (resumed (c .before .before .before .before .before .before .before .before .before .before .before .before .before .before .before .before .before .before .before .before .before .before .before .pre) (c .before .before .before .before .before .before .before .before .before .before .before .before .before .before .before .before .before .rewind .ensures) (c .before .before .before .before .before .before .before .before .before .before .restore .ensures) (c .before .before .before .before .assume .ensures))
+
+pub resume-spec : {M : Type 1} → statement M
+resume-spec =
+    tie.close
+    (tie.spec
+    rewind-requires
+    restore-requires
+    slice-read-at
+    cast-at
+    mul-at
+    add-assume
+    mul-assume
+    slice-read-assume
+    assume-requires
+    mul-node-at
+    slice-read-node-at
+    cast-node-at
+    node-at-requires
+    same-length
+    same-length-2
+    returns)

@@ -1,0 +1,612 @@
+-- The checker meets its contracts: `check_node`, `inner_type`, `paths`, `walk`, `arrive`, `block_up` and `block_type` of `checker::nodes`, which call each
+-- other; a node's number falls on the way round. In the answers s is the start's measure and `requires`, node what was read, i and w what holds at a turn of
+-- a loop, d the way down to the inner node, j its type, b what a block came to. Assumes nothing.
+use borrow.Author.Needs.{needs}
+use borrow.Author.Tests.{not-true}
+use mathlib.Core.Path.{_≡_, refl, sym, _∙_}
+use Prim.Native.Nat.{_+_, _*_, _-_}
+use native.Mathlib.Omega.{arith}
+use lib.ListN.{length}
+use Rattle.script.specs.Code.Forms.{some-operand}
+use Rattle.checker.specs.Code.Frames.{topIn}
+use Rattle.checker.specs.Code.Frames.Laws.{waits-none}
+use Rattle.checker.specs.Code.Going.Arriving.{arrives-leaf, up-node, up-space, up-earlier, up-checkable, up-noting, up-refused, up-room, up-returnable, up-climbing, up-stopping}
+use Rattle.checker.specs.Code.Going.Steps.{enters-formed, descends-other}
+use Rattle.checker.specs.Code.Going.Walking.{Walking, walking-start, walking-descendable, walking-enterable, walking-earlier, walking-less, walking-on, walking-stopped, walking-end, walking-ended, Turn, turn-start, turn-walkable, turn-none, turn-wrong, turn-last, turn-more, no-frames}
+use Rattle.checker.specs.Code.Paths.Start.{blank}
+use Rattle.checker.specs.Code.Rising.{callOf, Entering}
+use Rattle.checker.specs.Code.Rising.Down.{entering-checkable, entering-descendable, inner-returns, inner-refused, goes-down}
+use Rattle.checker.specs.Code.Rising.Start.{starting, judged}
+use Rattle.checker.specs.Code.Rising.Answers.{risen-typed, risen-operand, risen-refused}
+use Rattle.checker.specs.Code.Rules.{Aside}
+use Rattle.checker.specs.Code.Rules.Blocks.{block-small, block-recallables, block-recalled, judged-lent, block-judged, block-noted}
+use Rattle.checker.specs.Code.Rules.Typed.{aside-refl, aside-trans, first-earlier, first-checkable, leaf-checked, sym-checked}
+use Prim.Native.Nat.{ℕ, _<_}
+use borrow.Fn.Kinds.{In}
+use borrow.Fn.PlainCycle.{Measures, is, falls, and}
+use Rattle.checker.proofs.nodes.arrive.Reads as arrive
+use Rattle.checker.proofs.nodes.arrive.Kinds as arrive-kinds
+use Rattle.checker.proofs.nodes.+arrive+block_type+block_up+check_node+inner_type+paths+walk.Lts-arrive as arrive-lts
+use Rattle.checker.proofs.nodes.block_type.Reads as block-type
+use Rattle.checker.proofs.nodes.block_type.Kinds as block-type-kinds
+use Rattle.checker.proofs.nodes.+arrive+block_type+block_up+check_node+inner_type+paths+walk.Lts-block_type as block-type-lts
+use Rattle.checker.proofs.nodes.block_up.Reads as block-up
+use Rattle.checker.proofs.nodes.block_up.Kinds as block-up-kinds
+use Rattle.checker.proofs.nodes.+arrive+block_type+block_up+check_node+inner_type+paths+walk.Lts-block_up as block-up-lts
+use Rattle.checker.proofs.nodes.check_node.Reads as check-node
+use Rattle.checker.proofs.nodes.check_node.Kinds as check-node-kinds
+use Rattle.checker.proofs.nodes.+arrive+block_type+block_up+check_node+inner_type+paths+walk.Lts-check_node as check-node-lts
+use Rattle.checker.proofs.nodes.inner_type.Reads as inner-type
+use Rattle.checker.proofs.nodes.inner_type.Kinds as inner-type-kinds
+use Rattle.checker.proofs.nodes.+arrive+block_type+block_up+check_node+inner_type+paths+walk.Lts-inner_type as inner-type-lts
+use Rattle.checker.proofs.nodes.paths.Reads as paths
+use Rattle.checker.proofs.nodes.paths.Kinds as paths-kinds
+use Rattle.checker.proofs.nodes.+arrive+block_type+block_up+check_node+inner_type+paths+walk.Lts-paths as paths-lts
+use Rattle.checker.proofs.nodes.walk.Reads as walk
+use Rattle.checker.proofs.nodes.walk.Kinds as walk-kinds
+use Rattle.checker.proofs.nodes.+arrive+block_type+block_up+check_node+inner_type+paths+walk.Lts-walk as walk-lts
+use Rattle.checker.proofs.frames.descend.Reads as descend-reads
+use Rattle.checker.proofs.frames.waits.Reads as waits-reads
+use Rattle.checker.proofs.nodes.path_end.Reads as path-end-reads
+use Rattle.checker.proofs.notes.note.Reads as note-reads
+use Rattle.checker.proofs.notes.recall.Reads as recall-reads
+use Rattle.checker.proofs.operators.typed_result.Reads as typed-result-reads
+use Rattle.checker.proofs.path.start.Reads as start-reads
+use Rattle.checker.proofs.rise.ascend.Reads as ascend-reads
+use Rattle.checker.proofs.steps.climb.Reads as climb-reads
+use Rattle.checker.proofs.steps.leaf_up.Reads as leaf-up-reads
+use Rattle.checker.proofs.types.leaf_type.Reads as leaf-type-reads
+use Rattle.script.proofs.table.node_at.Reads as node-at-reads
+use Rattle.checker.proofs.nodes.+arrive+block_type+block_up+check_node+inner_type+paths+walk.{statement}
+use Rattle.checker.proofs.nodes.+arrive+block_type+block_up+check_node+inner_type+paths+walk.Tie.{close}
+
+abbrev μ-arrive : Measures 3 arrive-kinds.ps ℕ
+μ-arrive κs a = 4 * a .1 .1 .1 .1 .0 + 3
+
+abbrev μ-block-type : Measures 2 block-type-kinds.ps ℕ
+μ-block-type κs a = 4 * a .1 .1 .1 .1 .0 + 4
+
+abbrev μ-block-up : Measures 3 block-up-kinds.ps ℕ
+μ-block-up κs a = 4 * a .1 .1 .1 .1 .0 + 2
+
+abbrev μ-check-node : Measures 2 check-node-kinds.ps ℕ
+μ-check-node κs a = 4 * a .1 .1 .1 .1 .0 + 3
+
+abbrev μ-inner-type : Measures 2 inner-type-kinds.ps ℕ
+μ-inner-type κs a = 4 * a .1 .1 .1 .1 .0 + 2
+
+abbrev μ-paths : Measures 2 paths-kinds.ps ℕ
+μ-paths κs a = 4 * a .1 .1 .1 .1 .0 + 1
+
+abbrev μ-walk : Measures 3 walk-kinds.ps ℕ
+μ-walk κs a = 4 * a .1 .1 .1 .1 .0
+
+abbrev arrive-at : ℕ → In 3 arrive-kinds.ps
+arrive-at t = and 3 arrive-kinds.ps (is 3 arrive-kinds.ps μ-arrive t) arrive.Pre
+
+abbrev arrive-below : ℕ → In 3 arrive-kinds.ps
+arrive-below t = and 3 arrive-kinds.ps (falls 3 arrive-kinds.ps _<_ μ-arrive t) arrive.Pre
+
+abbrev block-type-at : ℕ → In 2 block-type-kinds.ps
+block-type-at t = and 2 block-type-kinds.ps (is 2 block-type-kinds.ps μ-block-type t) block-type.Pre
+
+abbrev block-type-below : ℕ → In 2 block-type-kinds.ps
+block-type-below t = and 2 block-type-kinds.ps (falls 2 block-type-kinds.ps _<_ μ-block-type t) block-type.Pre
+
+abbrev block-up-at : ℕ → In 3 block-up-kinds.ps
+block-up-at t = and 3 block-up-kinds.ps (is 3 block-up-kinds.ps μ-block-up t) block-up.Pre
+
+abbrev block-up-below : ℕ → In 3 block-up-kinds.ps
+block-up-below t = and 3 block-up-kinds.ps (falls 3 block-up-kinds.ps _<_ μ-block-up t) block-up.Pre
+
+abbrev check-node-at : ℕ → In 2 check-node-kinds.ps
+check-node-at t = and 2 check-node-kinds.ps (is 2 check-node-kinds.ps μ-check-node t) check-node.Pre
+
+abbrev check-node-below : ℕ → In 2 check-node-kinds.ps
+check-node-below t = and 2 check-node-kinds.ps (falls 2 check-node-kinds.ps _<_ μ-check-node t) check-node.Pre
+
+abbrev inner-type-at : ℕ → In 2 inner-type-kinds.ps
+inner-type-at t = and 2 inner-type-kinds.ps (is 2 inner-type-kinds.ps μ-inner-type t) inner-type.Pre
+
+abbrev inner-type-below : ℕ → In 2 inner-type-kinds.ps
+inner-type-below t = and 2 inner-type-kinds.ps (falls 2 inner-type-kinds.ps _<_ μ-inner-type t) inner-type.Pre
+
+abbrev paths-at : ℕ → In 2 paths-kinds.ps
+paths-at t = and 2 paths-kinds.ps (is 2 paths-kinds.ps μ-paths t) paths.Pre
+
+abbrev paths-below : ℕ → In 2 paths-kinds.ps
+paths-below t = and 2 paths-kinds.ps (falls 2 paths-kinds.ps _<_ μ-paths t) paths.Pre
+
+abbrev walk-at : ℕ → In 3 walk-kinds.ps
+walk-at t = and 3 walk-kinds.ps (is 3 walk-kinds.ps μ-walk t) walk.Pre
+
+abbrev walk-below : ℕ → In 3 walk-kinds.ps
+walk-below t = and 3 walk-kinds.ps (falls 3 walk-kinds.ps _<_ μ-walk t) walk.Pre
+
+abbrev arrive-calls : ℕ → arrive-lts.Claims
+arrive-calls t = (
+  node-at-reads.Asked,
+  node-at-reads.Learnt,
+  block-up-below t,
+  block-up.Post,
+  leaf-up-reads.Asked,
+  leaf-up-reads.Learnt,
+)
+
+abbrev block-type-calls : ℕ → block-type-lts.Claims
+block-type-calls t = (
+  recall-reads.Asked,
+  recall-reads.Learnt,
+  check-node-below t,
+  check-node.Post,
+  note-reads.Asked,
+  note-reads.Learnt,
+)
+
+abbrev block-up-calls : ℕ → block-up-lts.Claims
+block-up-calls t = (
+  node-at-reads.Asked,
+  node-at-reads.Learnt,
+  block-type-below t,
+  block-type.Post,
+  typed-result-reads.Asked,
+  typed-result-reads.Learnt,
+  climb-reads.Asked,
+  climb-reads.Learnt,
+)
+
+abbrev check-node-calls : ℕ → check-node-lts.Claims
+check-node-calls t = (
+  node-at-reads.Asked,
+  node-at-reads.Learnt,
+  waits-reads.Asked,
+  waits-reads.Learnt,
+  inner-type-below t,
+  inner-type.Post,
+  descend-reads.Asked,
+  descend-reads.Learnt,
+  ascend-reads.Asked,
+  ascend-reads.Learnt,
+)
+
+abbrev inner-type-calls : ℕ → inner-type-lts.Claims
+inner-type-calls t = (
+  node-at-reads.Asked,
+  node-at-reads.Learnt,
+  paths-below t,
+  paths.Post,
+  leaf-type-reads.Asked,
+  leaf-type-reads.Learnt,
+)
+
+abbrev paths-calls : ℕ → paths-lts.Claims
+paths-calls t = (
+  start-reads.Asked,
+  start-reads.Learnt,
+  walk-below t,
+  walk.Post,
+)
+
+abbrev walk-calls : ℕ → walk-lts.Claims
+walk-calls t = (
+  descend-reads.Asked,
+  descend-reads.Learnt,
+  arrive-below t,
+  arrive.Post,
+  path-end-reads.Asked,
+  path-end-reads.Learnt,
+)
+
+abbrev check-node-Inv-loop : check-node-lts.InvT-loop
+check-node-Inv-loop table space₀ depth limit n frames₀ next₀ space frames next =
+    (length frames ≡ 512) × Entering (callOf limit table space₀ depth n) table space frames next × Aside depth space₀ space
+
+abbrev check-node-μ-loop : check-node-lts.MeasureT-loop
+check-node-μ-loop table space₀ depth limit n frames₀ next₀ space frames next = 128 - topIn frames
+
+abbrev paths-Inv-loop : paths-lts.InvT-loop
+paths-Inv-loop table types depth limit n a space₀ frames₀ followed₀ wanted₀ next₀ space frames followed wanted next =
+    Turn table types depth limit n a space frames followed wanted next
+
+abbrev paths-μ-loop : paths-lts.MeasureT-loop
+paths-μ-loop table types depth limit n a space₀ frames₀ followed₀ wanted₀ next₀ space frames followed wanted next = limit - followed
+
+abbrev walk-Inv-loop : walk-lts.InvT-loop
+walk-Inv-loop table space₀ frames₀ limit n m first wanted next₀ space frames next = Walking limit table n m space₀ frames₀ space frames next
+
+abbrev walk-μ-loop : walk-lts.MeasureT-loop
+walk-μ-loop table space₀ frames₀ limit n m first wanted next₀ space frames next = 128 - topIn frames
+
+arrive-node-at-requires : (t : ℕ) → arrive-lts.Need-node-at-requires (arrive-calls t) (arrive-at t) arrive.Post
+arrive-node-at-requires t c κs = omega (arith, enters-formed (c .before .before .before .pre .1 .0 .entering) .room)
+
+arrive-block-up-requires : (t : ℕ) → arrive-lts.Need-block-up-requires (arrive-calls t) (arrive-at t) arrive.Post
+arrive-block-up-requires t c κs =
+    let s = c .before .before .before .before .before .before .before .before .pre in
+    let k = rw (c .before .before .before .before .node-at .ensures) at (c .before .before .if1 .taken) in
+    (omega (arith, s .0), (s .1 .0, k))
+
+arrive-returns : (t : ℕ) → arrive-lts.Need-returns (arrive-calls t) (arrive-at t) arrive.Post
+arrive-returns t c = c .before .before .before .before .block-up .ensures
+
+arrive-leaf-up-requires : (t : ℕ) → arrive-lts.Need-leaf-up-requires (arrive-calls t) (arrive-at t) arrive.Post
+arrive-leaf-up-requires t c κs =
+    let s = c .before .before .before .before .before .before .before .before .pre in
+    let l = arrives-leaf _ (s .1 .1) (rw (c .before .before .before .before .node-at .ensures) at (c .before .before .if1 .left)) in
+    record { leaf = l; limit = _; enterable = s .1 .0 }
+
+arrive-returns-2 : (t : ℕ) → arrive-lts.Need-returns-2 (arrive-calls t) (arrive-at t) arrive.Post
+arrive-returns-2 t c = c .before .before .before .before .leaf-up .ensures .each _
+
+block-type-recall-requires : (t : ℕ) → block-type-lts.Need-recall-requires (block-type-calls t) (block-type-at t) block-type.Post
+block-type-recall-requires t c κs = let s = c .before .before .before .pre in block-recallables (s .1 .0) (s .1 .1)
+
+block-type-check-node-requires : (t : ℕ) → block-type-lts.Need-check-node-requires (block-type-calls t) (block-type-at t) block-type.Post
+block-type-check-node-requires t c κs = let s = c .before .before .before .before .before .before .before .pre in (omega (arith, s .0), s .1 .0)
+
+block-type-note-requires : (t : ℕ) → block-type-lts.Need-note-requires (block-type-calls t) (block-type-at t) block-type.Post
+block-type-note-requires t c κs =
+    let s = c .before .before .before .before .before .before .before .before .before .before .before .before .before .before .pre in
+    let j = c .before .before .before .before .before .before .check-node .ensures in
+    (s .1 .0 .formed, (block-small (s .1 .0) (s .1 .1), judged-lent (s .1 .0) (s .1 .1) j))
+
+block-type-returns : (t : ℕ) → block-type-lts.Need-returns (block-type-calls t) (block-type-at t) block-type.Post
+block-type-returns t c =
+    let s = c .before .before .before .before .before .before .before .pre in
+    block-recalled (s .1 .0) (s .1 .1) (c .before .before .before .recall .ensures) (c .before .t .given .1)
+
+block-type-returns-2 : (t : ℕ) → block-type-lts.Need-returns-2 (block-type-calls t) (block-type-at t) block-type.Post
+block-type-returns-2 t c =
+    let s = c .before .before .before .before .before .before .before .before .before .before .before .before .before .pre in
+    block-judged (s .1 .0) (s .1 .1) (c .before .before .before .before .before .check-node .ensures) (c .before .why .given .1)
+
+block-type-returns-3 : (t : ℕ) → block-type-lts.Need-returns-3 (block-type-calls t) (block-type-at t) block-type.Post
+block-type-returns-3 t c =
+    let s = c .before .before .before .before .before .before .before .before .before .before .before .before .before .before .before .before .before .pre in
+    block-noted (s .1 .0) (s .1 .1) (c .before .before .before .before .before .before .before .before .before .check-node .ensures) (c .before .before .before .before .before .t2 .given .1) (c .before .before .note .ensures)
+
+block-up-node-at-requires : (t : ℕ) → block-up-lts.Need-node-at-requires (block-up-calls t) (block-up-at t) block-up.Post
+block-up-node-at-requires t c κs = up-node (c .before .before .before .pre .1 .0) (c .before .before .before .pre .1 .1)
+
+block-up-slice-read-depth : (t : ℕ) → block-up-lts.Need-slice-read-depth (block-up-calls t) (block-up-at t) block-up.Post
+block-up-slice-read-depth t c = omega (arith, up-space (c .before .before .before .before .before .pre .1 .0) (c .before .before .before .before .before .pre .1 .1))
+
+block-up-block-type-requires : (t : ℕ) → block-up-lts.Need-block-type-requires (block-up-calls t) (block-up-at t) block-up.Post
+block-up-block-type-requires t c κs =
+    let s = c .before .before .before .before .before .before .pre in
+    let node = c .before .before .node-at .ensures in
+    rw node (omega (arith, up-earlier (s .1 .0) (s .1 .1), s .0), (up-checkable (s .1 .0) (s .1 .1), up-noting (s .1 .0) (s .1 .1)))
+
+block-up-typed-result-requires : (t : ℕ) → block-up-lts.Need-typed-result-requires (block-up-calls t) (block-up-at t) block-up.Post
+block-up-typed-result-requires t c κs =
+    let s = c .before .before .before .before .before .before .before .before .before .before .before .before .before .pre in
+    let b = rw (c .before .before .before .before .before .before .before .before .before .node-at .ensures) at (c .before .before .before .before .before .before .block-type .ensures) in
+    up-room (s .1 .0) (s .1 .1) b
+
+block-up-climb-requires : (t : ℕ) → block-up-lts.Need-climb-requires (block-up-calls t) (block-up-at t) block-up.Post
+block-up-climb-requires t c κs =
+    let s = c .before .before .before .before .before .before .before .before .before .before .before .before .before .before .before .before .before .before .before .before .before .pre in
+    let b = rw (c .before .before .before .before .before .before .before .before .before .before .before .before .before .before .before .before .before .node-at .ensures) at (c .before .before .before .before .before .before .before .before .before .before .before .before .before .before .block-type .ensures) in
+    up-returnable (s .1 .0) (s .1 .1) b (c .before .before .before .before .before .before .before .before .before .before .t .given .1) (c .before .before .before .before .before .before .before .typed-result .ensures) (c .before .before .before .u .given .1)
+
+block-up-returns : (t : ℕ) → block-up-lts.Need-returns (block-up-calls t) (block-up-at t) block-up.Post
+block-up-returns t c =
+    let s = c .before .before .before .before .before .before .before .before .before .before .before .before .pre in
+    let b = rw (c .before .before .before .before .before .before .before .before .node-at .ensures) at (c .before .before .before .before .before .block-type .ensures) in
+    up-refused (s .1 .0) (s .1 .1) b (c .before .why .given .1)
+
+block-up-returns-2 : (t : ℕ) → block-up-lts.Need-returns-2 (block-up-calls t) (block-up-at t) block-up.Post
+block-up-returns-2 t c =
+    let s = c .before .before .before .before .before .before .before .before .before .before .before .before .before .before .before .before .before .before .before .pre in
+    let b = rw (c .before .before .before .before .before .before .before .before .before .before .before .before .before .before .before .node-at .ensures) at (c .before .before .before .before .before .before .before .before .before .before .before .before .block-type .ensures) in
+    up-stopping (s .1 .0) (s .1 .1) b (c .before .before .before .before .before .before .before .before .t .given .1) (c .before .before .before .before .before .typed-result .ensures) (c .before .why2 .given .1)
+
+block-up-returns-3 : (t : ℕ) → block-up-lts.Need-returns-3 (block-up-calls t) (block-up-at t) block-up.Post
+block-up-returns-3 t c =
+    let s = c .before .before .before .before .before .before .before .before .before .before .before .before .before .before .before .before .before .before .before .before .before .before .before .before .before .before .pre in
+    let b = rw (c .before .before .before .before .before .before .before .before .before .before .before .before .before .before .before .before .before .before .before .before .before .before .node-at .ensures) at (c .before .before .before .before .before .before .before .before .before .before .before .before .before .before .before .before .before .before .before .block-type .ensures) in
+    up-climbing (s .1 .0) (s .1 .1) b (c .before .before .before .before .before .before .before .before .before .before .before .before .before .before .before .t .given .1) (c .before .before .before .before .before .before .before .before .before .before .before .before .typed-result .ensures) (c .before .before .before .before .before .before .before .before .u .given .1) (c .before .before .before .before .climb .ensures)
+
+check-node-node-at-requires : (t : ℕ) → check-node-lts.Need-node-at-requires (check-node-calls t) (check-node-at t) check-node.Post check-node-Inv-loop check-node-μ-loop
+check-node-node-at-requires t c κs = omega (arith, (c .before .before) .pre .1 .formed .room)
+
+check-node-inner-type-requires : (t : ℕ) → check-node-lts.Need-inner-type-requires (check-node-calls t) (check-node-at t) check-node.Post check-node-Inv-loop check-node-μ-loop
+check-node-inner-type-requires t c κs =
+    let s = (c .before .before .before .before .before .before) .pre in
+    let w = sym (rw (c .before .before .before .node-at .ensures) at (c .before .before .waits .ensures)) ∙ not-true _ (c .before .if1 .taken) in
+    (omega (arith, s .0), (s .1, w))
+
+check-node-returns : (t : ℕ) → check-node-lts.Need-returns (check-node-calls t) (check-node-at t) check-node.Post check-node-Inv-loop check-node-μ-loop
+check-node-returns t c = record { answer = c .inner-type .ensures; aside = aside-refl _ _ }
+
+check-node-cast-frames : (t : ℕ) → check-node-lts.Need-cast-frames (check-node-calls t) (check-node-at t) check-node.Post check-node-Inv-loop check-node-μ-loop
+check-node-cast-frames t c = record { fits = omega (arith, (c .before .before .before .before .before) .pre .1 .variables) }
+
+check-node-loop-holds : (t : ℕ) → check-node-lts.Need-loop-holds (check-node-calls t) (check-node-at t) check-node.Post check-node-Inv-loop check-node-μ-loop
+check-node-loop-holds t c = (refl, starting _ ((c .before .before .before .before .before) .pre .1), aside-refl _ _)
+
+check-node-slice-aggregate-descend : (t : ℕ) → check-node-lts.Need-slice-aggregate-descend (check-node-calls t) (check-node-at t) check-node.Post check-node-Inv-loop check-node-μ-loop
+check-node-slice-aggregate-descend t c = sym (c .before .loop .inv .0)
+
+check-node-descend-requires : (t : ℕ) → check-node-lts.Need-descend-requires (check-node-calls t) (check-node-at t) check-node.Post check-node-Inv-loop check-node-μ-loop
+check-node-descend-requires t c κs = entering-descendable (c .before .loop .inv .1)
+
+check-node-cast-present : (t : ℕ) → check-node-lts.Need-cast-present (check-node-calls t) (check-node-at t) check-node.Post check-node-Inv-loop check-node-μ-loop
+check-node-cast-present t c =
+    let d = goes-down (c .before .before .before .loop .inv .1) (c .before .descend .ensures) in
+    record { fits = omega (arith, d .entering .variables, d .entering .present .variables) }
+
+check-node-inner-type-requires-2 : (t : ℕ) → check-node-lts.Need-inner-type-requires-2 (check-node-calls t) (check-node-at t) check-node.Post check-node-Inv-loop check-node-μ-loop
+check-node-inner-type-requires-2 t c κs =
+    let s = (c .before .before .before .before .before .before .before .before .before .before) .pre in
+    let d = goes-down (c .before .before .before .before .loop .inv .1) (c .before .before .descend .ensures) in
+    (omega (arith, d .entering .below, s .0), (entering-checkable (d .entering), d .inner))
+
+check-node-same-length-2 : (t : ℕ) → check-node-lts.Need-same-length-2 (check-node-calls t) (check-node-at t) check-node.Post check-node-Inv-loop check-node-μ-loop
+check-node-same-length-2 t c = c .before .before .before .before .before .before .before .before .loop .inv .2 .same
+
+check-node-returns-2 : (t : ℕ) → check-node-lts.Need-returns-2 (check-node-calls t) (check-node-at t) check-node.Post check-node-Inv-loop check-node-μ-loop
+check-node-returns-2 t c =
+    let d = goes-down (c .before .before .before .before .before .before .before .before .loop .inv .1) (c .before .before .before .before .before .before .descend .ensures) in
+    judged (inner-refused (d .entering) (c .before .before .before .inner-type2 .ensures) (c .before .why .given .1)) (c .before .before .before .before .before .before .before .before .loop .inv .2)
+
+check-node-slice-aggregate-ascend : (t : ℕ) → check-node-lts.Need-slice-aggregate-ascend (check-node-calls t) (check-node-at t) check-node.Post check-node-Inv-loop check-node-μ-loop
+check-node-slice-aggregate-ascend t c = sym (c .before .before .before .before .before .before .before .before .descend .kept .1 .0 ∙ c .before .before .before .before .before .before .before .before .before .before .loop .inv .0)
+
+check-node-ascend-requires : (t : ℕ) → check-node-lts.Need-ascend-requires (check-node-calls t) (check-node-at t) check-node.Post check-node-Inv-loop check-node-μ-loop
+check-node-ascend-requires t c κs =
+    let d = goes-down (c .before .before .before .before .before .before .before .before .before .before .loop .inv .1) (c .before .before .before .before .before .before .before .before .descend .ensures) in
+    record { call = _; returning = inner-returns (d .entering) (c .before .before .before .before .before .inner-type2 .ensures) (c .before .before .before .t .given .1) }
+
+check-node-same-length-3 : (t : ℕ) → check-node-lts.Need-same-length-3 (check-node-calls t) (check-node-at t) check-node.Post check-node-Inv-loop check-node-μ-loop
+check-node-same-length-3 t c = c .before .before .before .before .before .before .ascend .kept .1 .0 ∙ c .before .before .before .before .before .before .before .before .before .before .before .before .before .before .before .before .before .loop .inv .2 .same
+
+check-node-returns-3 : (t : ℕ) → check-node-lts.Need-returns-3 (check-node-calls t) (check-node-at t) check-node.Post check-node-Inv-loop check-node-μ-loop
+check-node-returns-3 t c =
+    let d = goes-down (c .before .before .before .before .before .before .before .before .before .before .before .before .before .before .before .before .before .loop .inv .1) (c .before .before .before .before .before .before .before .before .before .before .before .before .before .before .before .descend .ensures) in
+    let u = c .before .before .before .before .before .before .ascend .ensures _ (inner-returns (d .entering) (c .before .before .before .before .before .before .before .before .before .before .before .before .inner-type2 .ensures) (c .before .before .before .before .before .before .before .before .before .before .t .given .1)) in
+    judged (risen-refused (u .risen) (c .before .why2 .given .1)) (aside-trans (omega arith) (c .before .before .before .before .before .before .before .before .before .before .before .before .before .before .before .before .before .loop .inv .2) (u .aside))
+
+check-node-same-length-4 : (t : ℕ) → check-node-lts.Need-same-length-4 (check-node-calls t) (check-node-at t) check-node.Post check-node-Inv-loop check-node-μ-loop
+check-node-same-length-4 t c = c .before .before .before .before .before .before .ascend .kept .1 .0 ∙ c .before .before .before .before .before .before .before .before .before .before .before .before .before .before .before .before .before .loop .inv .2 .same
+
+check-node-returns-4 : (t : ℕ) → check-node-lts.Need-returns-4 (check-node-calls t) (check-node-at t) check-node.Post check-node-Inv-loop check-node-μ-loop
+check-node-returns-4 t c =
+    let d = goes-down (c .before .before .before .before .before .before .before .before .before .before .before .before .before .before .before .before .before .loop .inv .1) (c .before .before .before .before .before .before .before .before .before .before .before .before .before .before .before .descend .ensures) in
+    let u = c .before .before .before .before .before .before .ascend .ensures _ (inner-returns (d .entering) (c .before .before .before .before .before .before .before .before .before .before .before .before .inner-type2 .ensures) (c .before .before .before .before .before .before .before .before .before .before .t .given .1)) in
+    judged (risen-typed (u .risen) (c .before .u .given .1)) (aside-trans (omega arith) (c .before .before .before .before .before .before .before .before .before .before .before .before .before .before .before .before .before .loop .inv .2) (u .aside))
+
+check-node-loop-less : (t : ℕ) → check-node-lts.Need-loop-less (check-node-calls t) (check-node-at t) check-node.Post check-node-Inv-loop check-node-μ-loop
+check-node-loop-less t c =
+    let d = goes-down (c .before .before .before .before .before .before .before .before .before .before .before .before .before .before .before .before .before .loop .inv .1) (c .before .before .before .before .before .before .before .before .before .before .before .before .before .before .before .descend .ensures) in
+    let u = c .before .before .before .before .before .before .ascend .ensures _ (inner-returns (d .entering) (c .before .before .before .before .before .before .before .before .before .before .before .before .inner-type2 .ensures) (c .before .before .before .before .before .before .before .before .before .before .t .given .1)) in
+    let r = risen-operand (u .risen) (c .before .m .given .1) in
+    omega (arith, r .grown, d .grown, r .entering .room)
+
+check-node-loop-again : (t : ℕ) → check-node-lts.Need-loop-again (check-node-calls t) (check-node-at t) check-node.Post check-node-Inv-loop check-node-μ-loop
+check-node-loop-again t c =
+    let d = goes-down (c .before .before .before .before .before .before .before .before .before .before .before .before .before .before .before .before .before .loop .inv .1) (c .before .before .before .before .before .before .before .before .before .before .before .before .before .before .before .descend .ensures) in
+    let u = c .before .before .before .before .before .before .ascend .ensures _ (inner-returns (d .entering) (c .before .before .before .before .before .before .before .before .before .before .before .before .inner-type2 .ensures) (c .before .before .before .before .before .before .before .before .before .before .t .given .1)) in (
+      c .before .before .before .before .before .before .ascend .kept .1 .1 .0 ∙ c .before .before .before .before .before .before .before .before .before .before .before .before .before .before .before .descend .kept .1 .0 ∙ c .before .before .before .before .before .before .before .before .before .before .before .before .before .before .before .before .before .loop .inv .0,
+      risen-operand (u .risen) (c .before .m .given .1) .entering,
+      aside-trans (omega arith) (c .before .before .before .before .before .before .before .before .before .before .before .before .before .before .before .before .before .loop .inv .2) (u .aside),
+    )
+
+inner-type-node-at-requires : (t : ℕ) → inner-type-lts.Need-node-at-requires (inner-type-calls t) (inner-type-at t) inner-type.Post
+inner-type-node-at-requires t c κs = omega (arith, (c .before .before) .pre .1 .0 .formed .room)
+
+inner-type-paths-requires : (t : ℕ) → inner-type-lts.Need-paths-requires (inner-type-calls t) (inner-type-at t) inner-type.Post
+inner-type-paths-requires t c κs =
+    let s = c .before .before .before .before .before .pre in
+    let node = c .before .before .node-at .ensures in
+    let k = rw node at (c .if1 .taken) in
+    let h = some-operand (s .1 .0 .formed) (omega arith) in
+    rw node (omega (arith, s .0), (first-checkable (s .1 .0) h, first-earlier (s .1 .0) h))
+
+inner-type-returns : (t : ℕ) → inner-type-lts.Need-returns (inner-type-calls t) (inner-type-at t) inner-type.Post
+inner-type-returns t c =
+    let node = c .before .before .before .node-at .ensures in
+    sym-checked ((c .before .before .before .before .before .before) .pre .1 .0) _ (rw node at (c .before .if1 .taken)) (rw node at (c .paths .ensures))
+
+inner-type-leaf-type-requires : (t : ℕ) → inner-type-lts.Need-leaf-type-requires (inner-type-calls t) (inner-type-at t) inner-type.Post
+inner-type-leaf-type-requires t c κs =
+    let q = (c .before .before .before .before .before) .pre .1 .0 in
+    omega (arith, q .variables, q .lent)
+
+inner-type-returns-2 : (t : ℕ) → inner-type-lts.Need-returns-2 (inner-type-calls t) (inner-type-at t) inner-type.Post
+inner-type-returns-2 t c =
+    let s = (c .before .before .before .before .before .before) .pre in
+    let node = c .before .before .before .node-at .ensures in
+    leaf-checked (s .1 .0) _ (waits-none _ 14 (s .1 .1) (rw node at (c .before .if1 .left))) (rw node at (c .leaf-type .ensures))
+
+paths-slice-aggregate-start : (t : ℕ) → paths-lts.Need-slice-aggregate-start (paths-calls t) (paths-at t) paths.Post paths-Inv-loop paths-μ-loop
+paths-slice-aggregate-start t c = refl
+
+paths-start-requires : (t : ℕ) → paths-lts.Need-start-requires (paths-calls t) (paths-at t) paths.Post paths-Inv-loop paths-μ-loop
+paths-start-requires t c κs =
+    let q = c .before .before .before .pre .1 .0 in
+    (omega (arith, q .variables, q .lent), (omega (arith, q .variables), blank))
+
+paths-loop-holds : (t : ℕ) → paths-lts.Need-loop-holds (paths-calls t) (paths-at t) paths.Post paths-Inv-loop paths-μ-loop
+paths-loop-holds t c =
+    let s = c .before .before .before .before .before .pre .1 in
+    turn-start (omega (arith, c .space2 .given)) refl no-frames (s .1) (s .0) (c .before .start .ensures)
+
+paths-slice-aggregate-walk : (t : ℕ) → paths-lts.Need-slice-aggregate-walk (paths-calls t) (paths-at t) paths.Post paths-Inv-loop paths-μ-loop
+paths-slice-aggregate-walk t c = sym (c .before .before .loop .inv .whole)
+
+paths-slice-aggregate-walk-2 : (t : ℕ) → paths-lts.Need-slice-aggregate-walk-2 (paths-calls t) (paths-at t) paths.Post paths-Inv-loop paths-μ-loop
+paths-slice-aggregate-walk-2 t c = sym (c .before .before .before .loop .inv .framed)
+
+paths-walk-requires : (t : ℕ) → paths-lts.Need-walk-requires (paths-calls t) (paths-at t) paths.Post paths-Inv-loop paths-μ-loop
+paths-walk-requires t c κs = (omega (arith, c .before .before .before .before .before .before .before .before .before .pre .0), turn-walkable (c .before .before .before .loop .inv))
+
+paths-returns : (t : ℕ) → paths-lts.Need-returns (paths-calls t) (paths-at t) paths.Post paths-Inv-loop paths-μ-loop
+paths-returns t c = turn-wrong (c .before .before .before .before .before .before .before .before .before .loop .inv) (c .before .before .before .before .before .before .before .before .loop-test .taken) (c .before .before .before .before .before .walk .ensures) (c .before .why .given .1)
+
+paths-returns-2 : (t : ℕ) → paths-lts.Need-returns-2 (paths-calls t) (paths-at t) paths.Post paths-Inv-loop paths-μ-loop
+paths-returns-2 t c = turn-last (c .before .before .before .before .before .before .before .before .before .loop .inv) (c .before .before .before .before .before .before .before .before .loop-test .taken) (c .before .before .before .before .before .walk .ensures) (c .before .t .given .1)
+
+paths-add-followed : (t : ℕ) → paths-lts.Need-add-followed (paths-calls t) (paths-at t) paths.Post paths-Inv-loop paths-μ-loop
+paths-add-followed t c = omega arith
+
+paths-loop-less : (t : ℕ) → paths-lts.Need-loop-less (paths-calls t) (paths-at t) paths.Post paths-Inv-loop paths-μ-loop
+paths-loop-less t c = omega arith
+
+paths-loop-again : (t : ℕ) → paths-lts.Need-loop-again (paths-calls t) (paths-at t) paths.Post paths-Inv-loop paths-μ-loop
+paths-loop-again t c = turn-more (c .before .before .before .before .before .before .before .before .before .loop .inv) (c .before .before .before .before .before .before .before .before .loop-test .taken) (c .before .before .before .before .before .walk .ensures) (c .before .t2 .given .1) (c .before .before .before .before .before .walk .kept .1 .0) (c .before .before .before .before .before .walk .kept .1 .1 .0)
+
+paths-returns-3 : (t : ℕ) → paths-lts.Need-returns-3 (paths-calls t) (paths-at t) paths.Post paths-Inv-loop paths-μ-loop
+paths-returns-3 t c = turn-none (c .before .loop .inv) (c .loop-test .left)
+
+walk-loop-holds : (t : ℕ) → walk-lts.Need-loop-holds (walk-calls t) (walk-at t) walk.Post walk-Inv-loop walk-μ-loop
+walk-loop-holds t c = walking-start (c .before .before .before .pre .1)
+
+walk-descend-requires : (t : ℕ) → walk-lts.Need-descend-requires (walk-calls t) (walk-at t) walk.Post walk-Inv-loop walk-μ-loop
+walk-descend-requires t c κs = walking-descendable (c .before .loop .inv)
+
+walk-arrive-requires : (t : ℕ) → walk-lts.Need-arrive-requires (walk-calls t) (walk-at t) walk.Post walk-Inv-loop walk-μ-loop
+walk-arrive-requires t c κs =
+    let w = c .before .before .before .before .before .before .loop .inv in
+    let d = c .before .before .before .before .descend .ensures in
+    (omega (arith, walking-earlier w d, c .before .before .before .before .before .before .before .before .before .before .pre .0), (walking-enterable w d, descends-other d))
+
+walk-same-length : (t : ℕ) → walk-lts.Need-same-length (walk-calls t) (walk-at t) walk.Post walk-Inv-loop walk-μ-loop
+walk-same-length t c = c .before .before .before .before .before .before .before .arrive .kept .1 .0 ∙ c .before .before .before .before .before .before .before .before .before .before .before .before .before .before .loop .inv .same
+
+walk-same-length-2 : (t : ℕ) → walk-lts.Need-same-length-2 (walk-calls t) (walk-at t) walk.Post walk-Inv-loop walk-μ-loop
+walk-same-length-2 t c = c .before .before .before .before .before .before .before .arrive .kept .1 .1 .0 ∙ c .before .before .before .before .before .before .before .before .before .before .before .before .descend .kept .1 .0 ∙ c .before .before .before .before .before .before .before .before .before .before .before .before .before .before .loop .inv .framed
+
+walk-returns : (t : ℕ) → walk-lts.Need-returns (walk-calls t) (walk-at t) walk.Post walk-Inv-loop walk-μ-loop
+walk-returns t c = walking-stopped (c .before .before .before .before .before .before .before .before .before .before .before .before .before .before .loop .inv) (c .before .before .before .before .before .before .before .before .before .before .before .before .descend .ensures) (c .before .before .before .before .before .before .before .arrive .ensures) (c .before .why .given .1)
+
+walk-path-end-requires : (t : ℕ) → walk-lts.Need-path-end-requires (walk-calls t) (walk-at t) walk.Post walk-Inv-loop walk-μ-loop
+walk-path-end-requires t c κs = walking-end (c .before .before .before .before .before .before .before .before .before .before .before .before .before .before .before .before .loop .inv) (c .before .before .before .before .before .before .before .before .before .before .before .before .before .before .descend .ensures) (c .before .before .before .before .before .before .before .before .before .arrive .ensures) (c .before .before .before .u .given .1)
+
+walk-same-length-3 : (t : ℕ) → walk-lts.Need-same-length-3 (walk-calls t) (walk-at t) walk.Post walk-Inv-loop walk-μ-loop
+walk-same-length-3 t c = c .before .before .before .before .path-end .kept .1 .0 ∙ c .before .before .before .before .before .before .before .before .before .before .before .before .before .before .arrive .kept .1 .0 ∙ c .before .before .before .before .before .before .before .before .before .before .before .before .before .before .before .before .before .before .before .before .before .loop .inv .same
+
+walk-same-length-4 : (t : ℕ) → walk-lts.Need-same-length-4 (walk-calls t) (walk-at t) walk.Post walk-Inv-loop walk-μ-loop
+walk-same-length-4 t c = c .before .before .before .before .path-end .kept .1 .1 .0 ∙ c .before .before .before .before .before .before .before .before .before .before .before .before .before .before .arrive .kept .1 .1 .0 ∙ c .before .before .before .before .before .before .before .before .before .before .before .before .before .before .before .before .before .before .before .descend .kept .1 .0 ∙ c .before .before .before .before .before .before .before .before .before .before .before .before .before .before .before .before .before .before .before .before .before .loop .inv .framed
+
+walk-returns-2 : (t : ℕ) → walk-lts.Need-returns-2 (walk-calls t) (walk-at t) walk.Post walk-Inv-loop walk-μ-loop
+walk-returns-2 t c = walking-ended (c .before .before .before .before .before .before .before .before .before .before .before .before .before .before .before .before .before .before .before .before .before .loop .inv) (c .before .before .before .before .before .before .before .before .before .before .before .before .before .before .before .before .before .before .before .descend .ensures) (c .before .before .before .before .before .before .before .before .before .before .before .before .before .before .arrive .ensures) (c .before .before .before .before .before .before .before .before .u .given .1) (c .before .before .before .before .path-end .ensures)
+
+walk-loop-less : (t : ℕ) → walk-lts.Need-loop-less (walk-calls t) (walk-at t) walk.Post walk-Inv-loop walk-μ-loop
+walk-loop-less t c = walking-less (c .before .before .before .before .before .before .before .before .before .before .before .before .before .before .loop .inv) (c .before .before .before .before .before .before .before .before .before .before .before .before .descend .ensures) (c .before .before .before .before .before .before .before .arrive .ensures) (c .before .k .given .1)
+
+walk-loop-again : (t : ℕ) → walk-lts.Need-loop-again (walk-calls t) (walk-at t) walk.Post walk-Inv-loop walk-μ-loop
+walk-loop-again t c = walking-on (c .before .before .before .before .before .before .before .before .before .before .before .before .before .before .loop .inv) (c .before .before .before .before .before .before .before .before .before .before .before .before .descend .ensures) (c .before .before .before .before .before .before .before .arrive .ensures) (c .before .k .given .1) (c .before .before .before .before .before .before .before .arrive .kept .1 .0) (c .before .before .before .before .before .before .before .arrive .kept .1 .1 .0 ∙ c .before .before .before .before .before .before .before .before .before .before .before .before .descend .kept .1 .0)
+
+pub +arrive+block-type+block-up+check-node+inner-type+paths+walk-spec : {M : Type 1} → statement M
++arrive+block-type+block-up+check-node+inner-type+paths+walk-spec =
+    close μ-arrive μ-block-type μ-block-up μ-check-node μ-inner-type μ-paths μ-walk
+    (λ t. arrive-lts.spec (arrive-calls t) (arrive-at t) arrive.Post
+    (arrive-node-at-requires t)
+    (arrive-block-up-requires t)
+    (λ c. search needs)
+    (λ c. search needs)
+    (arrive-returns t)
+    (arrive-leaf-up-requires t)
+    (λ c. search needs)
+    (λ c. search needs)
+    (arrive-returns-2 t))
+    (λ t. block-type-lts.spec (block-type-calls t) (block-type-at t) block-type.Post
+    (block-type-recall-requires t)
+    (λ c. search needs)
+    (λ c. search needs)
+    (block-type-check-node-requires t)
+    (λ c. search needs)
+    (λ c. search needs)
+    (block-type-note-requires t)
+    (λ c. search needs)
+    (block-type-returns t)
+    (λ c. search needs)
+    (block-type-returns-2 t)
+    (λ c. search needs)
+    (block-type-returns-3 t))
+    (λ t. block-up-lts.spec (block-up-calls t) (block-up-at t) block-up.Post
+    (block-up-node-at-requires t)
+    (block-up-slice-read-depth t)
+    (λ c. search needs)
+    (block-up-block-type-requires t)
+    (λ c. search needs)
+    (λ c. search needs)
+    (block-up-typed-result-requires t)
+    (λ c. search needs)
+    (λ c. search needs)
+    (block-up-climb-requires t)
+    (λ c. search needs)
+    (block-up-returns t)
+    (λ c. search needs)
+    (block-up-returns-2 t)
+    (λ c. search needs)
+    (λ c. search needs)
+    (block-up-returns-3 t))
+    (λ t. check-node-lts.spec (check-node-calls t) (check-node-at t) check-node.Post check-node-Inv-loop check-node-μ-loop
+    (check-node-node-at-requires t)
+    (λ c κs. search needs)
+    (check-node-inner-type-requires t)
+    (λ c. search needs)
+    (check-node-returns t)
+    (check-node-cast-frames t)
+    (λ c. search needs)
+    (check-node-loop-holds t)
+    (check-node-slice-aggregate-descend t)
+    (check-node-descend-requires t)
+    (λ c. search needs)
+    (check-node-cast-present t)
+    (check-node-inner-type-requires-2 t)
+    (λ c. search needs)
+    (check-node-same-length-2 t)
+    (check-node-returns-2 t)
+    (λ c. search needs)
+    (check-node-slice-aggregate-ascend t)
+    (check-node-ascend-requires t)
+    (λ c. search needs)
+    (check-node-same-length-3 t)
+    (check-node-returns-3 t)
+    (λ c. search needs)
+    (check-node-same-length-4 t)
+    (check-node-returns-4 t)
+    (λ c. search needs)
+    (check-node-loop-less t)
+    (check-node-loop-again t))
+    (λ t. inner-type-lts.spec (inner-type-calls t) (inner-type-at t) inner-type.Post
+    (inner-type-node-at-requires t)
+    (inner-type-paths-requires t)
+    (inner-type-returns t)
+    (inner-type-leaf-type-requires t)
+    (inner-type-returns-2 t))
+    (λ t. paths-lts.spec (paths-calls t) (paths-at t) paths.Post paths-Inv-loop paths-μ-loop
+    (paths-slice-aggregate-start t)
+    (paths-start-requires t)
+    (paths-loop-holds t)
+    (paths-slice-aggregate-walk t)
+    (paths-slice-aggregate-walk-2 t)
+    (paths-walk-requires t)
+    (λ c. search needs)
+    (paths-returns t)
+    (λ c. search needs)
+    (paths-returns-2 t)
+    (λ c. search needs)
+    (paths-add-followed t)
+    (paths-loop-less t)
+    (paths-loop-again t)
+    (paths-returns-3 t))
+    λ t. walk-lts.spec (walk-calls t) (walk-at t) walk.Post walk-Inv-loop walk-μ-loop
+    (walk-loop-holds t)
+    (walk-descend-requires t)
+    (walk-arrive-requires t)
+    (λ c. search needs)
+    (walk-same-length t)
+    (walk-same-length-2 t)
+    (walk-returns t)
+    (λ c. search needs)
+    (walk-path-end-requires t)
+    (walk-same-length-3 t)
+    (walk-same-length-4 t)
+    (walk-returns-2 t)
+    (λ c. search needs)
+    (walk-loop-less t)
+    (walk-loop-again t)

@@ -1,0 +1,52 @@
+-- `checker::steps::branch` meets its contract: the branch that is taken, or the first one and a fork. Assumes nothing.
+use borrow.Author.Needs.{needs}
+use Rattle.checker.specs.Code.Going.Small.{both-lent, both-space, waits-few, branched-first, branched-second, branched-none, branched-both}
+use Rattle.checker.proofs.steps.branch.Statement.{statement}
+use Rattle.checker.proofs.steps.branch.Tie as tie
+
+fork-requires : tie.Need-fork-requires
+fork-requires c κs =
+    let p = c .before .before .before .before .before .before .before .before .before .before .before .before .before .before .pre in
+    (both-lent (p .0) (c .before .before .enum-told3 .given .1) (c .before .before .before .before .before .before .choose .ensures), waits-few (c .before .before .before .before .before .before .before .before .before .before .wait .ensures) (p .1 .1 .0) (p .1 .1 .1))
+
+assume-requires : tie.Need-assume-requires
+assume-requires c κs =
+    let p = c .before .before .before .before .before .before .before .before .before .before .before .before .before .before .before .before .before .before .pre in
+    (both-space (p .0) (c .before .before .before .before .before .before .enum-told3 .given .1) (c .before .before .before .before .before .before .before .before .before .before .choose .ensures), both-lent (p .0) (c .before .before .before .before .before .before .enum-told3 .given .1) (c .before .before .before .before .before .before .before .before .before .before .choose .ensures))
+
+returns : tie.Need-returns
+returns c = branched-first (c .before .before .before .before .before .before .before .before .wait .ensures) (c .before .before .before .before .choose .ensures) (c .enum-told .given .1)
+
+returns-2 : tie.Need-returns-2
+returns-2 c = branched-second (c .before .before .before .before .before .before .before .before .wait .ensures) (c .before .before .before .before .choose .ensures) (c .enum-told2 .given .1)
+
+returns-3 : tie.Need-returns-3
+returns-3 c = branched-none (c .before .before .before .before .before .before .before .before .before .wait .ensures) (c .before .before .before .before .before .choose .ensures) (c .before .why .given .1)
+
+returns-4 : tie.Need-returns-4
+returns-4 c = branched-both (c .before .before .before .before .before .before .before .before .before .before .before .before .before .before .before .before .before .wait .ensures) (c .before .before .before .before .before .before .before .before .before .before .before .before .before .choose .ensures) (c .before .before .before .before .before .before .before .before .before .enum-told3 .given .1) (c .before .before .before .before .before .before .fork .ensures) (c .before .before .assume .ensures)
+
+pub branch-spec : {M : Type 1} → statement M
+branch-spec =
+    tie.close
+    (tie.spec
+    (λ c κs. search needs)
+    (λ c κs. search needs)
+    (λ c. search needs)
+    (λ c. search needs)
+    (λ c. search needs)
+    (λ c. search needs)
+    fork-requires
+    assume-requires
+    (λ c. search needs)
+    (λ c. search needs)
+    returns
+    (λ c. search needs)
+    (λ c. search needs)
+    returns-2
+    (λ c. search needs)
+    (λ c. search needs)
+    returns-3
+    (λ c. search needs)
+    (λ c. search needs)
+    returns-4)

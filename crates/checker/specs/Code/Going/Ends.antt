@@ -1,0 +1,155 @@
+-- The end of a path: its log, its type, and the path that follows; and the loop over the paths. Assumes nothing.
+use mathlib.Core.Bool.{Bool, true, false, not, _||_, false≢true}
+use mathlib.Core.List.{List, [], _∷_, _++_, append-nil}
+use mathlib.Core.Path.{_≡_, refl, sym, ap, _∙_}
+use Prim.Native.Nat.{ℕ, suc, _+_, _*_, _-_, _≤_, _<_}
+use native.Mathlib.Nat.{sub-zero}
+use native.Mathlib.Omega.{arith}
+use lib.Dec.{eqb}
+use lib.ListN.{length, getD, replicate}
+use borrow.Author.Tests.{eqb-true, eq-eqb, ne-eqb}
+use Rattle.script.specs.Code.Forms.{treeIn}
+use Rattle.script.specs.Rows.Laws.{same-anywhere}
+use Rattle.script.specs.Tests.{pick}
+use Rattle.script.specs.Tree.{size}
+use Rattle.script.specs.declared.Checked.the-variants.{Accepted, Refused}
+use Rattle.script.specs.declared.Refusal.{Refusal}
+use Rattle.script.specs.declared.Refusal.the-variants.{InconsistentLog, PathTypesDiffer, TooManyPaths}
+use Rattle.rules.specs.Checking.{exec}
+use Rattle.rules.specs.Paths.{Path, Paths, ends, bind, Leaf, ended, stopped, start, leaves, consistent, consistentAfter}
+use Rattle.rules.specs.Symbolic.{Symbolic, typeOf, symbols}
+use Rattle.rules.specs.SymbolicRules.{firstType, judge, verdict}
+use Rattle.checker.specs.Code.Frames.{frameIn, topIn}
+use Rattle.checker.specs.Code.Going.{Later, goOn, Awaits, no-frame, for-only, for-first, for-second, for-body, forkedIn, Left, none-left, one-left, Stands, Entering, Returning, Enterable, Came, came-value, came-operand, came-stopped, Resumable, Resumes, AtEnd, PathEnds, WalkOf, refused, lasted, went-on, Walks, Walkable}
+use Rattle.checker.specs.Code.Log.{consistentOn}
+use Rattle.checker.specs.Code.Log.Laws.{consistent-is}
+use Rattle.checker.specs.Code.Notes.{baseIn}
+use Rattle.checker.specs.Code.Notes.Keeping.{bare-noting}
+use Rattle.checker.specs.Code.Rules.{Checkable, Started}
+use Rattle.checker.specs.Code.State.{nextIn, writesIn, startIn, depthIn, typesOn, Room}
+use Rattle.checker.specs.Code.State.Laws.{means-type}
+use Rattle.checker.specs.declared.nodes.Walked.{Walked}
+use Rattle.checker.specs.declared.nodes.Walked.the-variants.{Wrong, Last, More}
+use Rattle.checker.specs.declared.steps.Move.{Move}
+use Rattle.checker.specs.declared.steps.Move.the-variants.{Value, Operand, Stopped}
+
+-- ---- the end of a path
+
+-- a path whose type is the first's, or is not
+right-type : (t kind : ℕ) (first : Bool) → (first || eqb t kind) ≡ true → pick first t kind ≡ t
+right-type t kind true e = refl
+right-type t kind false e = sym (eqb-true t kind e)
+
+other-type : (t kind : ℕ) (first : Bool) → (first || eqb t kind) ≡ false → eqb t (pick first t kind) ≡ false
+other-type t kind true e = absurd (false≢true (sym e))
+other-type t kind false e = e
+
+-- nothing waits where no frame is left
+none-waits : {table : List ℕ} {bound base : ℕ} {ground : List Symbolic} {ws fs : List ℕ} {f depth owed frames : ℕ} {env : List Symbolic} {ks : List Later}
+    → Awaits table bound base ground ws fs f depth env ks owed frames → f ≡ 0 → ks ≡ []
+none-waits no-frame e = refl
+none-waits (for-only s l o a) e = absurd (let h = s .earlier in omega arith)
+none-waits (for-first s l o r v a) e = absurd (let h = s .earlier in omega arith)
+none-waits (for-second s l m a) e = absurd (let h = s .earlier in omega arith)
+none-waits (for-body s l o m a) e = absurd (let h = s .earlier in omega arith)
+
+none-left-of : {limit : ℕ} {table : List ℕ} {bound base : ℕ} {ground : List Symbolic} {ws fs : List ℕ} {j : ℕ} {ls : List Leaf}
+    → Left limit table bound base ground ws fs j ls → j ≡ 0 → ls ≡ []
+none-left-of none-left e = refl
+none-left-of (one-left j e c l o s) h = absurd (omega arith)
+
+module _ {limit : ℕ} {table : List ℕ} {bound base : ℕ} {ground : List Symbolic} {ws fs : List ℕ} {t q : ℕ} {ls : List Leaf}
+    (r : Returning limit table bound base ground ws fs t q ls) (none : frameIn fs ≡ 0) where
+  ends-is : ls ≡ ended (r .value) (r .path) ∷ r .others
+  unfolding goOn leaves
+  ends-is = r .is ∙ ap (λ (ks : List Later). leaves (goOn limit table ks (r .value) (r .path)) ++ r .others) (none-waits (r .stands .awaits) none)
+
+  type-is : typeOf (r .value) ≡ t
+  type-is = means-type (r .means)
+
+  consistent-here : {b : Bool} → consistentOn ws (startIn ws) 0 (writesIn ws - startIn ws) ≡ b → consistent (r .path) ≡ b
+  consistent-here e = sym (consistent-is (r .stands .state .path .log)) ∙ e
+
+  module _ (n : ℕ) (isFirst : Bool) (kind : ℕ) where
+    first-is : pick isFirst (firstType ls) kind ≡ pick isFirst t kind
+    first-is = ap (λ (u : ℕ). pick isFirst u kind) (ap firstType ends-is ∙ type-is)
+
+    pub end-inconsistent : {left gs : List ℕ} → consistentOn ws (startIn ws) 0 (writesIn ws - startIn ws) ≡ false
+        → WalkOf limit table bound base ground n (pick isFirst (firstType ls) kind) left gs ls (Wrong (InconsistentLog n))
+    unfolding judge
+    end-inconsistent e = refused {x = InconsistentLog n} λ k. ap (judge n (suc k) (pick isFirst (firstType ls) kind)) ends-is ∙ rw (consistent-here e) refl
+
+    module _ (e : consistentOn ws (startIn ws) 0 (writesIn ws - startIn ws) ≡ true) where
+      pub end-other : {left gs : List ℕ} → (isFirst || eqb t kind) ≡ false
+          → WalkOf limit table bound base ground n (pick isFirst (firstType ls) kind) left gs ls (Wrong (PathTypesDiffer n))
+      unfolding judge
+      end-other d =
+          refused {x = PathTypesDiffer n} λ k.
+          ap (judge n (suc k) (pick isFirst (firstType ls) kind)) ends-is ∙ rw (consistent-here e, type-is, first-is, other-type t kind isFirst d) refl
+
+      module _ (y : (isFirst || eqb t kind) ≡ true) where
+        right : pick isFirst (firstType ls) kind ≡ t
+        right = first-is ∙ right-type t kind isFirst y
+
+        goes : (k : ℕ) → judge n (suc k) (pick isFirst (firstType ls) kind) ls ≡ judge n k (pick isFirst (firstType ls) kind) (r .others)
+        unfolding judge
+        goes k = ap (judge n (suc k) (pick isFirst (firstType ls) kind)) ends-is ∙ rw (consistent-here e, type-is, right, eq-eqb t t refl) refl
+
+        pub end-last : {left gs : List ℕ} → forkedIn fs ≡ 0 → WalkOf limit table bound base ground n (pick isFirst (firstType ls) kind) left gs ls (Last t)
+        unfolding judge
+        end-last z =
+            lasted λ k.
+            goes k ∙ ap (judge n k (pick isFirst (firstType ls) kind)) (none-left-of (r .stands .left) z) ∙ ap Accepted right
+
+        pub end-more : {left gs : List ℕ} {m : ℕ} → Resumes table ws fs m left gs
+            → WalkOf limit table bound base ground n (pick isFirst (firstType ls) kind) left gs ls (More t m)
+        end-more u =
+            went-on (r .others) right
+            (u .resumed limit bound base ground (r .environment) (r .path) (r .later) (r .owed) (r .frames) (r .others) (r .stands)) goes
+
+  pub end-resumable : 1 ≤ forkedIn fs → Resumable table ws fs
+  end-resumable z =
+      record {
+        some = z;
+        limit = limit;
+        bound = bound;
+        base = base;
+        ground = ground;
+        environment = r .environment;
+        path = r .path;
+        later = r .later;
+        owed = r .owed;
+        frames = r .frames;
+        to-come = r .others;
+        few = omega (arith, r .tops);
+        stands = r .stands;
+      }
+
+-- ---- as the code ends a path
+
+not-false : (b : Bool) → not b ≡ true → b ≡ false
+not-false true e = absurd (false≢true e)
+not-false false e = refl
+
+not-true : (b : Bool) → not b ≡ false → b ≡ true
+not-true true e = refl
+not-true false e = absurd (false≢true (sym e))
+
+module _ {table ws fs : List ℕ} {t n : ℕ} {isFirst : Bool} {kind : ℕ} (x : AtEnd table ws fs t) {a : Bool} (c : a ≡ consistentOn ws (startIn ws) 0 (writesIn ws - startIn ws)) where
+  pub path-inconsistent : not a ≡ true → PathEnds table n t isFirst kind ws fs (Wrong (InconsistentLog n)) ws fs
+  path-inconsistent e =
+      record { ends = λ limit bound base q ground ls r. end-inconsistent r (x .none) n isFirst kind (sym c ∙ not-false a e) }
+
+  module _ (e : not a ≡ false) {b : Bool} (w : b ≡ (isFirst || eqb t kind)) where
+    pub path-other : not b ≡ true → PathEnds table n t isFirst kind ws fs (Wrong (PathTypesDiffer n)) ws fs
+    path-other d = record { ends = λ limit bound base q ground ls r. end-other r (x .none) n isFirst kind (sym c ∙ not-true a e) (sym w ∙ not-false b d) }
+
+    module _ (d : not b ≡ false) where
+      pub path-last : forkedIn fs ≡ 0 → PathEnds table n t isFirst kind ws fs (Last t) ws fs
+      path-last z = record { ends = λ limit bound base q ground ls r. end-last r (x .none) n isFirst kind (sym c ∙ not-true a e) (sym w ∙ not-true b d) z }
+
+      pub path-more : {m : ℕ} {left gs : List ℕ} → Resumes table ws fs m left gs → PathEnds table n t isFirst kind ws fs (More t m) left gs
+      path-more u = record { ends = λ limit bound base q ground ls r. end-more r (x .none) n isFirst kind (sym c ∙ not-true a e) (sym w ∙ not-true b d) u }
+
+pub path-resumable : {table ws fs : List ℕ} {t : ℕ} → AtEnd table ws fs t → (forkedIn fs ≡ 0 → ⊥) → Resumable table ws fs
+path-resumable x z = end-resumable (x .returnable .returning) (x .none) (omega arith)

@@ -1,0 +1,399 @@
+-- Keeping a fork and going back to it: what the code's stores come to, and how the variables are found again in the frames. Assumes nothing.
+use mathlib.Core.List.{List, [], _∷_, _++_}
+use mathlib.Core.Path.{_≡_, refl, _∙_}
+use Prim.Native.Nat.{ℕ, suc, _+_, _*_, _-_, _/_, _%_, _≤_, _<_}
+use native.Mathlib.Omega.{arith}
+use lib.ListN.{length, getD, set, length-set}
+use lib.Seq.{getD-set-same, getD-set-other}
+use Rattle.rules.specs.Symbolic.{Symbolic}
+use Rattle.terms.specs.Terms.{countIn, Grown, symbolLimit}
+use Rattle.checker.specs.Code.Frames.{frameIn, upOf, firstOf, secondOf}
+use Rattle.checker.specs.Code.Going.{Later, Slot, Awaits, no-frame, for-only, for-first, for-second, for-body, forkedIn, framesSize, forkAt, Forks, Rewound, RestoredOne, Restorable, Restores}
+use Rattle.checker.specs.Code.Going.Keeping.{awaits-base}
+use Rattle.checker.specs.Code.Notes.{baseIn}
+use Rattle.checker.specs.Code.State.{nextIn, conditionIn, writesIn, startIn, depthIn, spaceSize, Means, Variables, oneMore}
+use Rattle.checker.specs.Code.State.Laws.{means-at, variables-kept, same-grown}
+
+-- ---- keeping a fork
+
+-- its seven numbers and the count of the forks, one store after the other
+module _ (ws fs : List ℕ) (framed : framesSize ≤ length fs) (few : forkedIn fs < 64) where
+  abbrev x1 : List ℕ
+  x1 = set fs (forkAt (forkedIn fs)) (frameIn fs)
+
+  abbrev x2 : List ℕ
+  x2 = set x1 (forkAt (forkedIn fs) + 1) (countIn ws)
+
+  abbrev x3 : List ℕ
+  x3 = set x2 (forkAt (forkedIn fs) + 2) (nextIn ws)
+
+  abbrev x4 : List ℕ
+  x4 = set x3 (forkAt (forkedIn fs) + 3) (conditionIn ws)
+
+  abbrev x5 : List ℕ
+  x5 = set x4 (forkAt (forkedIn fs) + 4) (writesIn ws)
+
+  abbrev x6 : List ℕ
+  x6 = set x5 (forkAt (forkedIn fs) + 5) (startIn ws)
+
+  abbrev x7 : List ℕ
+  x7 = set x6 (forkAt (forkedIn fs) + 6) (depthIn ws)
+
+  abbrev x8 : List ℕ
+  x8 = set x7 2 (forkedIn fs + 1)
+
+  -- the first of them are not changed by the later ones
+  from7 : (k : ℕ) → (k ≡ 2 → ⊥) → getD x8 k 0 ≡ getD x7 k 0
+  from7 k n = getD-set-other x7 2 k (forkedIn fs + 1) 0 n
+
+  from6 : (k : ℕ) → (k ≡ 2 → ⊥) → k < forkAt (forkedIn fs) + 6 → getD x8 k 0 ≡ getD x6 k 0
+  from6 k n l = from7 k n ∙ getD-set-other x6 (forkAt (forkedIn fs) + 6) k (depthIn ws) 0 λ e. omega arith
+
+  from5 : (k : ℕ) → (k ≡ 2 → ⊥) → k < forkAt (forkedIn fs) + 5 → getD x8 k 0 ≡ getD x5 k 0
+  from5 k n l = from6 k n (omega arith) ∙ getD-set-other x5 (forkAt (forkedIn fs) + 5) k (startIn ws) 0 λ e. omega arith
+
+  from4 : (k : ℕ) → (k ≡ 2 → ⊥) → k < forkAt (forkedIn fs) + 4 → getD x8 k 0 ≡ getD x4 k 0
+  from4 k n l = from5 k n (omega arith) ∙ getD-set-other x4 (forkAt (forkedIn fs) + 4) k (writesIn ws) 0 λ e. omega arith
+
+  from3 : (k : ℕ) → (k ≡ 2 → ⊥) → k < forkAt (forkedIn fs) + 3 → getD x8 k 0 ≡ getD x3 k 0
+  from3 k n l = from4 k n (omega arith) ∙ getD-set-other x3 (forkAt (forkedIn fs) + 3) k (conditionIn ws) 0 λ e. omega arith
+
+  from2 : (k : ℕ) → (k ≡ 2 → ⊥) → k < forkAt (forkedIn fs) + 2 → getD x8 k 0 ≡ getD x2 k 0
+  from2 k n l = from3 k n (omega arith) ∙ getD-set-other x2 (forkAt (forkedIn fs) + 2) k (nextIn ws) 0 λ e. omega arith
+
+  from1 : (k : ℕ) → (k ≡ 2 → ⊥) → k < forkAt (forkedIn fs) + 1 → getD x8 k 0 ≡ getD x1 k 0
+  from1 k n l = from2 k n (omega arith) ∙ getD-set-other x1 (forkAt (forkedIn fs) + 1) k (countIn ws) 0 λ e. omega arith
+
+  from0 : (k : ℕ) → (k ≡ 2 → ⊥) → k < forkAt (forkedIn fs) → getD x8 k 0 ≡ getD fs k 0
+  from0 k n l = from1 k n (omega arith) ∙ getD-set-other fs (forkAt (forkedIn fs)) k (frameIn fs) 0 λ e. omega arith
+
+  pub kept-fork : Forks ws fs x8
+  kept-fork =
+      record {
+        same = simp length-set;
+        forked = getD-set-same x7 2 (forkedIn fs + 1) 0 (simp length-set (omega arith)) ∙ omega arith;
+        slot = record {
+          frame = from1 (forkAt (forkedIn fs)) (λ e. omega arith) (omega arith) ∙ getD-set-same fs (forkAt (forkedIn fs)) (frameIn fs) 0 (omega arith);
+          count = from2 (forkAt (forkedIn fs) + 1) (λ e. omega arith) (omega arith)
+              ∙ getD-set-same x1 (forkAt (forkedIn fs) + 1) (countIn ws) 0 (simp length-set (omega arith));
+          next = from3 (forkAt (forkedIn fs) + 2) (λ e. omega arith) (omega arith)
+              ∙ getD-set-same x2 (forkAt (forkedIn fs) + 2) (nextIn ws) 0 (simp length-set (omega arith));
+          condition = from4 (forkAt (forkedIn fs) + 3) (λ e. omega arith) (omega arith)
+              ∙ getD-set-same x3 (forkAt (forkedIn fs) + 3) (conditionIn ws) 0 (simp length-set (omega arith));
+          writes = from5 (forkAt (forkedIn fs) + 4) (λ e. omega arith) (omega arith)
+              ∙ getD-set-same x4 (forkAt (forkedIn fs) + 4) (writesIn ws) 0 (simp length-set (omega arith));
+          start = from6 (forkAt (forkedIn fs) + 5) (λ e. omega arith) (omega arith)
+              ∙ getD-set-same x5 (forkAt (forkedIn fs) + 5) (startIn ws) 0 (simp length-set (omega arith));
+          depth = from7 (forkAt (forkedIn fs) + 6) (λ e. omega arith)
+              ∙ getD-set-same x6 (forkAt (forkedIn fs) + 6) (depthIn ws) 0 (simp length-set (omega arith));
+        };
+        others = from0;
+      }
+
+-- ---- going back to a fork
+
+-- six numbers in the workspace, in the order of their places, and the first three of the frames
+module _ (ws fs : List ℕ) (lent : spaceSize ≤ length ws) (framed : framesSize ≤ length fs) (j : ℕ) where
+  abbrev y1 : List ℕ
+  y1 = set ws 288 (getD fs (forkAt j + 1) 0)
+
+  abbrev y2 : List ℕ
+  y2 = set y1 724 (getD fs (forkAt j + 2) 0)
+
+  abbrev y3 : List ℕ
+  y3 = set y2 725 (getD fs (forkAt j + 3) 0)
+
+  abbrev y4 : List ℕ
+  y4 = set y3 726 (getD fs (forkAt j + 4) 0)
+
+  abbrev y5 : List ℕ
+  y5 = set y4 727 (getD fs (forkAt j + 5) 0)
+
+  abbrev y6 : List ℕ
+  y6 = set y5 728 (getD fs (forkAt j + 6) 0)
+
+  below5 : (k : ℕ) → k < 728 → getD y6 k 0 ≡ getD y5 k 0
+  below5 k l = getD-set-other y5 728 k (getD fs (forkAt j + 6) 0) 0 λ e. omega arith
+
+  below4 : (k : ℕ) → k < 727 → getD y6 k 0 ≡ getD y4 k 0
+  below4 k l = below5 k (omega arith) ∙ getD-set-other y4 727 k (getD fs (forkAt j + 5) 0) 0 λ e. omega arith
+
+  below3 : (k : ℕ) → k < 726 → getD y6 k 0 ≡ getD y3 k 0
+  below3 k l = below4 k (omega arith) ∙ getD-set-other y3 726 k (getD fs (forkAt j + 4) 0) 0 λ e. omega arith
+
+  below2 : (k : ℕ) → k < 725 → getD y6 k 0 ≡ getD y2 k 0
+  below2 k l = below3 k (omega arith) ∙ getD-set-other y2 725 k (getD fs (forkAt j + 3) 0) 0 λ e. omega arith
+
+  below1 : (k : ℕ) → k < 724 → getD y6 k 0 ≡ getD y1 k 0
+  below1 k l = below2 k (omega arith) ∙ getD-set-other y1 724 k (getD fs (forkAt j + 2) 0) 0 λ e. omega arith
+
+  above : (k : ℕ) → 729 ≤ k → getD y6 k 0 ≡ getD ws k 0
+  above k l =
+      getD-set-other y5 728 k (getD fs (forkAt j + 6) 0) 0 (λ e. omega arith)
+      ∙ getD-set-other y4 727 k (getD fs (forkAt j + 5) 0) 0 (λ e. omega arith)
+      ∙ getD-set-other y3 726 k (getD fs (forkAt j + 4) 0) 0 (λ e. omega arith)
+      ∙ getD-set-other y2 725 k (getD fs (forkAt j + 3) 0) 0 (λ e. omega arith)
+      ∙ getD-set-other y1 724 k (getD fs (forkAt j + 2) 0) 0 (λ e. omega arith)
+      ∙ getD-set-other ws 288 k (getD fs (forkAt j + 1) 0) 0 (λ e. omega arith)
+
+  abbrev z1 : List ℕ
+  z1 = set fs 0 (getD fs (forkAt j) 0)
+
+  abbrev z2 : List ℕ
+  z2 = set z1 1 (getD z1 (forkAt j) 0)
+
+  abbrev z3 : List ℕ
+  z3 = set z2 2 j
+
+  z2-other : (k : ℕ) → 2 ≤ k → getD z2 k 0 ≡ getD fs k 0
+  z2-other k l = getD-set-other z1 1 k (getD z1 (forkAt j) 0) 0 (λ e. omega arith) ∙ getD-set-other fs 0 k (getD fs (forkAt j) 0) 0 λ e. omega arith
+
+  pub gone-back : Rewound j ws fs y6 z3
+  gone-back =
+      record {
+        same = simp length-set;
+        framed = simp length-set;
+        count = below1 288 (omega arith) ∙ getD-set-same ws 288 (getD fs (forkAt j + 1) 0) 0 (omega arith);
+        next = below2 724 (omega arith) ∙ getD-set-same y1 724 (getD fs (forkAt j + 2) 0) 0 (simp length-set (omega arith));
+        condition = below3 725 (omega arith) ∙ getD-set-same y2 725 (getD fs (forkAt j + 3) 0) 0 (simp length-set (omega arith));
+        writes = below4 726 (omega arith) ∙ getD-set-same y3 726 (getD fs (forkAt j + 4) 0) 0 (simp length-set (omega arith));
+        start = below5 727 (omega arith) ∙ getD-set-same y4 727 (getD fs (forkAt j + 5) 0) 0 (simp length-set (omega arith));
+        depth = getD-set-same y5 728 (getD fs (forkAt j + 6) 0) 0 (simp length-set (omega arith));
+        before = λ k l n. below1 k l ∙ getD-set-other ws 288 k (getD fs (forkAt j + 1) 0) 0 n;
+        beyond = above;
+        frame = getD-set-other z2 2 0 j 0 (λ e. omega arith) ∙ getD-set-other z1 1 0 (getD z1 (forkAt j) 0) 0 (λ e. omega arith)
+            ∙ getD-set-same fs 0 (getD fs (forkAt j) 0) 0 (omega arith);
+        top = getD-set-other z2 2 1 j 0 (λ e. omega arith) ∙ getD-set-same z1 1 (getD z1 (forkAt j) 0) 0 (simp length-set (omega arith))
+            ∙ getD-set-other fs 0 (forkAt j) (getD fs (forkAt j) 0) 0 λ e. omega arith;
+        forked = getD-set-same z2 2 j 0 (simp length-set (omega arith));
+        others = λ k l. getD-set-other z2 2 k j 0 (λ e. omega arith) ∙ z2-other k (omega arith);
+      }
+
+-- ---- the variables that the frames have
+
+module _ {fs ws : List ℕ} {f d : ℕ} where
+  pub restored-body : 1 ≤ d → upOf fs f % 4 ≡ 2
+      → RestoredOne fs f d ws (d - 1) (set (set ws (2 * (d - 1)) (firstOf fs f)) (2 * (d - 1) + 1) (secondOf fs f))
+  restored-body l e = record { body = λ _. (omega arith, refl); other = λ n. absurd (n e) }
+
+  pub restored-other : (upOf fs f % 4 ≡ 2 → ⊥) → RestoredOne fs f d ws d ws
+  restored-other n = record { body = λ e. absurd (n e); other = λ _. (refl, refl) }
+
+-- the variables from place d on hold the values by which one environment, of d values, becomes another
+data Extends (ws : List ℕ) : ℕ → List Symbolic → ℕ → List Symbolic → Type 0 where
+  there : {d : ℕ} {env : List Symbolic} → Extends ws d env d env
+  one-more : {d depth : ℕ} {env env₂ : List Symbolic} {v : Symbolic} → Means ws (getD ws (2 * d) 0) (getD ws (2 * d + 1) 0) v
+      → Extends ws (suc d) (env ++ (v ∷ [])) depth env₂ → Extends ws d env depth env₂
+
+extends-trans : {ws : List ℕ} {d e depth : ℕ} {env env₁ env₂ : List Symbolic} → Extends ws d env e env₁ → Extends ws e env₁ depth env₂
+    → Extends ws d env depth env₂
+extends-trans there y = y
+extends-trans (one-more m x) y = one-more m (extends-trans x y)
+
+extends-kept : {ws left : List ℕ} {d depth : ℕ} {env env₂ : List Symbolic} (low : ℕ) → low ≤ d → ((k : ℕ) → 2 * low ≤ k → getD left k 0 ≡ getD ws k 0)
+    → Grown ws left → Extends ws d env depth env₂ → Extends left d env depth env₂
+extends-kept low l b g there = there
+extends-kept low l b g (one-more {d = d} m x) =
+    one-more (means-at g (b (2 * d) (omega arith)) (b (2 * d + 1) (omega arith)) m) (extends-kept low (omega arith) b g x)
+
+extends-variables : {ws : List ℕ} {d depth : ℕ} {env env₂ : List Symbolic} → Variables ws d env → Extends ws d env depth env₂ → Variables ws depth env₂
+extends-variables vs there = vs
+extends-variables vs (one-more m x) = extends-variables (oneMore vs m) x
+
+-- with as many variables as at the start, they are those
+awaits-ground : {table : List ℕ} {bound base : ℕ} {ground : List Symbolic} {ws fs : List ℕ} {f depth owed frames : ℕ} {env : List Symbolic} {ks : List Later}
+    → depth ≡ base → Awaits table bound base ground ws fs f depth env ks owed frames → env ≡ ground
+awaits-ground e no-frame = refl
+awaits-ground e (for-only s l o a) = awaits-ground e a
+awaits-ground e (for-first s l o r v a) = awaits-ground e a
+awaits-ground e (for-second s l m a) = awaits-ground e a
+awaits-ground e (for-body s l o m a) = let h = awaits-base a in absurd (omega arith)
+
+-- how one variable is put back
+record Placed (f : ℕ) (fs : List ℕ) (d : ℕ) (ws left : List ℕ) : Type 0 where
+  same : length left ≡ length ws
+  before : (k : ℕ) → k < 2 * d → getD left k 0 ≡ getD ws k 0
+  type : getD left (2 * d) 0 ≡ firstOf fs f
+  place : getD left (2 * d + 1) 0 ≡ secondOf fs f
+  beyond : (k : ℕ) → 2 * suc d ≤ k → getD left k 0 ≡ getD ws k 0
+
+placed-by : (f : ℕ) (fs : List ℕ) (d : ℕ) (ws : List ℕ) → 2 * suc d ≤ length ws
+    → Placed f fs d ws (set (set ws (2 * d) (firstOf fs f)) (2 * d + 1) (secondOf fs f))
+placed-by f fs d ws l =
+    let x = set ws (2 * d) (firstOf fs f) in
+    record {
+      same = simp length-set;
+      before = λ k h. getD-set-other x (2 * d + 1) k (secondOf fs f) 0 (λ e. omega arith) ∙ getD-set-other ws (2 * d) k (firstOf fs f) 0 λ e. omega arith;
+      type = getD-set-other x (2 * d + 1) (2 * d) (secondOf fs f) 0 (λ e. omega arith) ∙ getD-set-same ws (2 * d) (firstOf fs f) 0 (omega arith);
+      place = getD-set-same x (2 * d + 1) (secondOf fs f) 0 (simp length-set (omega arith));
+      beyond = λ k h. getD-set-other x (2 * d + 1) k (secondOf fs f) 0 (λ e. omega arith) ∙ getD-set-other ws (2 * d) k (firstOf fs f) 0 λ e. omega arith;
+    }
+
+-- one turn of the loop: what waits from the frame on that frame f's value goes to, with r variables, and how they become d
+record Upward (table : List ℕ) (bound base : ℕ) (ground : List Symbolic) (ws fs : List ℕ) (f d : ℕ) (env : List Symbolic) (xs : List ℕ) (r : ℕ) (left : List ℕ)
+    : Type 0 where
+  environment : List Symbolic
+  later : List Later
+  owed : ℕ
+  frames : ℕ
+  awaits : Awaits table bound base ground ws fs (upOf fs f / 4) r environment later owed frames
+  extends : Extends left r environment d env
+  earlier : upOf fs f / 4 < f
+  fewer : r ≤ d
+  same : length left ≡ length xs
+  before : (k : ℕ) → k < 2 * r → getD left k 0 ≡ getD xs k 0
+  beyond : (k : ℕ) → 2 * d ≤ k → getD left k 0 ≡ getD xs k 0
+
+module _ {table : List ℕ} {bound base : ℕ} {ground : List Symbolic} {ws fs xs left : List ℕ} {r : ℕ} where
+  -- a frame that waits for no body of a `let`
+  upward-same : {f n g given d owed frames : ℕ} {env : List Symbolic} {ks : List Later} → RestoredOne fs f d xs r left → Slot fs f n g given → given < 2
+      → Awaits table bound base ground ws fs g d env ks owed frames → Upward table bound base ground ws fs f d env xs r left
+  upward-same {f = f} {g = g} {given = given} {d = d} {owed = owed} {frames = frames} {env = env} {ks = ks} o s l a =
+      let u = s .up in
+      let h = s .earlier in
+      let e = o .other λ x. omega arith in
+      let p : upOf fs f / 4 ≡ g = omega arith in
+      record {
+        environment = env;
+        later = ks;
+        owed = owed;
+        frames = frames;
+        awaits = rw (p, e .0) a;
+        extends = rw (e .0) there;
+        earlier = omega arith;
+        fewer = omega (arith, e .0);
+        same = rw (e .1) refl;
+        before = λ k i. rw (e .1) refl;
+        beyond = λ k i. rw (e .1) refl;
+      }
+
+  -- one that does
+  upward-body : {f n g d owed frames : ℕ} {env : List Symbolic} {ks : List Later} {v : Symbolic} → RestoredOne fs f (suc d) xs r left → Slot fs f n g 2
+      → 2 * suc d ≤ length xs → suc d ≤ symbolLimit → ((k : ℕ) → 288 ≤ k → getD xs k 0 ≡ getD ws k 0) → Means ws (firstOf fs f) (secondOf fs f) v
+      → Awaits table bound base ground ws fs g d env ks owed frames → Upward table bound base ground ws fs f (suc d) (env ++ (v ∷ [])) xs r left
+  upward-body {f = f} {g = g} {d = d} {owed = owed} {frames = frames} {env = env} {ks = ks} o s l n b m a =
+      let u = s .up in
+      let h = s .earlier in
+      let e = o .body (omega arith) in
+      let p : upOf fs f / 4 ≡ g = omega arith in
+      let i : r ≡ d = omega (arith, e .0) in
+      let j : suc d - 1 ≡ d = omega arith in
+      let q : Placed f fs d xs left = rw (e .1, j) (placed-by f fs d xs l) in
+      record {
+        environment = env;
+        later = ks;
+        owed = owed;
+        frames = frames;
+        awaits = rw (p, i) a;
+        extends = rw i (one-more (means-at (same-grown λ k z. q .beyond k (omega arith) ∙ b k z) (q .type) (q .place) m) there);
+        earlier = omega arith;
+        fewer = omega arith;
+        same = q .same;
+        before = λ k z. q .before k (omega arith);
+        beyond = q .beyond;
+      }
+
+  upward : {f d owed frames : ℕ} {env : List Symbolic} {ks : List Later} → base < d → 2 * d ≤ length xs → d ≤ symbolLimit
+      → ((k : ℕ) → 288 ≤ k → getD xs k 0 ≡ getD ws k 0) → RestoredOne fs f d xs r left → Awaits table bound base ground ws fs f d env ks owed frames
+      → Upward table bound base ground ws fs f d env xs r left
+  upward h l n b o no-frame = absurd (omega arith)
+  upward h l n b o (for-only s i p a) = upward-same o s (omega arith) a
+  upward h l n b o (for-first s i p q v a) = upward-same o s (omega arith) a
+  upward h l n b o (for-second s i m a) = upward-same o s (omega arith) a
+  upward h l n b o (for-body s i p m a) = upward-body o s l n b m a
+
+-- what waits from frame f on, with d variables, and how they become those of the path
+pub record Reached (table : List ℕ) (bound : ℕ) (ground : List Symbolic) (ws fs : List ℕ) (env : List Symbolic) (f d : ℕ) (xs : List ℕ) : Type 0 where
+  environment : List Symbolic
+  later : List Later
+  owed : ℕ
+  frames : ℕ
+  awaits : Awaits table bound (baseIn ws) ground ws fs f d environment later owed frames
+  extends : Extends xs d environment (depthIn ws) env
+
+-- the variables from place d on are restored, and frame f is next
+pub record Restoring (ws fs : List ℕ) (f d : ℕ) (xs : List ℕ) : Type 0 where
+  pub same : length xs ≡ length ws
+  pub first : (k : ℕ) → k < 2 * baseIn ws → getD xs k 0 ≡ getD ws k 0
+  pub beyond : (k : ℕ) → 288 ≤ k → getD xs k 0 ≡ getD ws k 0
+  pub inside : f ≤ frameIn fs
+  pub fewer : d ≤ depthIn ws
+  pub reached : (table : List ℕ) (bound : ℕ) (ground env : List Symbolic) (ks : List Later) (owed frames : ℕ)
+      → Awaits table bound (baseIn ws) ground ws fs (frameIn fs) (depthIn ws) env ks owed frames → Reached table bound ground ws fs env f d xs
+
+module _ {ws fs : List ℕ} (can : Restorable ws fs) where
+  pub restoring-start : Restoring ws fs (frameIn fs) (depthIn ws) ws
+  restoring-start =
+      record {
+        same = refl;
+        first = λ k l. refl;
+        beyond = λ k l. refl;
+        inside = omega arith;
+        fewer = omega arith;
+        reached = λ table bound ground env ks owed frames a.
+            record { environment = env; later = ks; owed = owed; frames = frames; awaits = a; extends = there };
+      }
+
+  module _ {f d : ℕ} {xs : List ℕ} (s : Restoring ws fs f d xs) where
+    restoring-base : baseIn xs ≡ baseIn ws
+    restoring-base = s .beyond 1241 (omega arith)
+
+    -- what is known of the loop's own frames
+    restoring-reached : Reached (can .table) (can .bound) (can .ground) ws fs (can .environment) f d xs
+    restoring-reached = s .reached (can .table) (can .bound) (can .ground) (can .environment) (can .later) (can .owed) (can .frames) (can .awaits)
+
+    module _ (more : baseIn xs < d) {r : ℕ} {left : List ℕ} (o : RestoredOne fs f d xs r left) where
+      restoring-up : {table : List ℕ} {bound : ℕ} {ground env : List Symbolic} {ks : List Later} {owed frames : ℕ}
+          → Awaits table bound (baseIn ws) ground ws fs f d env ks owed frames → Upward table bound (baseIn ws) ground ws fs f d env xs r left
+      restoring-up a =
+          let e = restoring-base in
+          let i = s .fewer in
+          let n = can .narrow in
+          upward (omega arith) (omega (arith, s .same, can .lent)) (omega arith) (s .beyond) o a
+
+      restoring-one : Upward (can .table) (can .bound) (baseIn ws) (can .ground) ws fs f d (restoring-reached .environment) xs r left
+      restoring-one = restoring-up (restoring-reached .awaits)
+
+      pub restoring-less : upOf fs f / 4 < f
+      restoring-less = restoring-one .earlier
+
+      pub restoring-on : Restoring ws fs (upOf fs f / 4) r left
+      restoring-on =
+          let u = restoring-one in
+          let i = s .fewer in
+          let n = can .narrow in
+          let b = awaits-base (u .awaits) in
+          record {
+            same = u .same ∙ s .same;
+            first = λ k l. u .before k (omega arith) ∙ s .first k l;
+            beyond = λ k l. u .beyond k (omega arith) ∙ s .beyond k l;
+            inside = omega (arith, u .earlier, s .inside);
+            fewer = omega (arith, u .fewer);
+            reached = λ table bound ground env ks owed frames a.
+                let q = s .reached table bound ground env ks owed frames a in
+                let w = restoring-up (q .awaits) in
+                record {
+                  environment = w .environment;
+                  later = w .later;
+                  owed = w .owed;
+                  frames = w .frames;
+                  awaits = w .awaits;
+                  extends = extends-trans (w .extends)
+                      (extends-kept d (omega arith) (u .beyond) (same-grown λ k l. u .beyond k (omega arith)) (q .extends));
+                };
+          }
+
+    pub restoring-end : d ≤ baseIn xs → Restores ws fs xs
+    restoring-end h =
+        record {
+          same = s .same;
+          first = s .first;
+          beyond = s .beyond;
+          variables = λ table bound ground env ks owed frames vs a.
+              let q = s .reached table bound ground env ks owed frames a in
+              let b = awaits-base (q .awaits) in
+              let e = restoring-base in
+              let g = awaits-ground (omega arith) (q .awaits) in
+              let z : d ≡ baseIn ws = omega arith in
+              extends-variables (rw (g, z) (variables-kept (baseIn ws) (omega arith) (s .first) (same-grown (s .beyond)) vs)) (q .extends);
+        }

@@ -1,0 +1,65 @@
+-- The branch that an `if` takes, and the last operand of a node: one law for each answer of the code. Assumes nothing.
+use mathlib.Core.List.{List}
+use mathlib.Core.Path.{_≡_, refl}
+use Prim.Native.Nat.{ℕ, _≤_, _<_}
+use native.Mathlib.Omega.{arith}
+use lib.ListN.{length}
+use Rattle.script.specs.Code.Forms.{formOf}
+use Rattle.script.specs.declared.Refusal.{Refusal}
+use Rattle.rules.specs.Paths.{Path}
+use Rattle.rules.specs.Symbolic.{Symbolic}
+use Rattle.terms.specs.Terms.{Space}
+use Rattle.checker.specs.Code.Frames.{Waits}
+use Rattle.checker.specs.Code.Going.{unbound, movedBy, forkedIn, framesSize, Forks, Branched, to-first, to-second, to-both, to-none, Lasts}
+use Rattle.checker.specs.Code.Paths.{assumed}
+use Rattle.checker.specs.Code.Rules.{Two, Chosen, both, Chooses, Decidable}
+use Rattle.checker.specs.Code.State.{spaceSize}
+use Rattle.checker.specs.Code.State.Laws.{room-space}
+use Rattle.checker.specs.declared.operators.Step.{Step}
+use Rattle.checker.specs.declared.path.Branch.{Branch}
+use Rattle.checker.specs.declared.path.Branch.the-variants.{First, Second, Both, Neither}
+use Rattle.checker.specs.declared.steps.Move.{Move}
+use Rattle.checker.specs.declared.steps.Move.the-variants.{Value, Operand, Stopped}
+
+-- ---- the last operand
+
+pub lasts-body : {kind given n t p u q : ℕ} {ws left : List ℕ} → given ≡ 2 → left ≡ unbound ws → Lasts kind given n t p u q ws (Value u q) left
+lasts-body e l = record { body = λ _. (refl, l); other = λ d. absurd (d e) }
+
+pub lasts-other : {kind given n t p u q : ℕ} {ws left : List ℕ} {a : Step} {r : Move} → (given ≡ 2 → ⊥) → r ≡ movedBy a
+    → Two (formOf kind) n t p u q ws a left → Lasts kind given n t p u q ws r left
+lasts-other {a = a} d e w = record { body = λ x. absurd (d x); other = λ _. (a, e, w) }
+
+-- ---- the branch
+
+-- where both branches can be taken, the workspace is as it was
+both-left : {ws left : List ℕ} {n : ℕ} {v : Symbolic} {p : Path} → Chosen ws left n v p Both → left ≡ ws
+both-left (both e f g h i) = e
+
+module _ {n t q : ℕ} {ws left : List ℕ} {r : Branch} (d : Decidable ws t q) (e : r ≡ Both) (h : Chooses n t q ws r left) where
+  pub both-same : left ≡ ws
+  both-same = both-left (rw e at (h .chosen (d .valued .value) (d .path) (d .valued .means) (d .holds)))
+
+  pub both-lent : spaceSize ≤ length left
+  both-lent = rw both-same (d .room .lent)
+
+  pub both-space : Space left 1
+  both-space = rw both-same (room-space (d .room))
+
+-- a new frame is no fork
+pub waits-few : {n given x y : ℕ} {fs gs : List ℕ} → Waits n given x y fs gs → framesSize ≤ length fs → forkedIn fs < 64
+    → (framesSize ≤ length gs) × (forkedIn gs < 64)
+waits-few w l h = let j = w .others 2 (omega arith) λ a b. omega arith in (omega (arith, w .same), omega arith)
+
+module _ {b c n t q : ℕ} {ws fs left gs : List ℕ} {r : Branch} (w : Waits n 1 t q fs gs) (h : Chooses n t q ws r left) where
+  pub branched-first : r ≡ First → Branched b c n t q ws fs left gs (Operand b)
+  branched-first e = to-first w (rw e at h)
+
+  pub branched-second : r ≡ Second → Branched b c n t q ws fs left gs (Operand c)
+  branched-second e = to-second w (rw e at h)
+
+  pub branched-none : {x : Refusal} → r ≡ Neither x → Branched b c n t q ws fs left gs (Stopped x)
+  branched-none e = to-none w (rw e at h)
+
+  pub branched-both : {end hs : List ℕ} → r ≡ Both → Forks left gs hs → end ≡ assumed left 5 q → Branched b c n t q ws fs end hs (Operand b)
+  branched-both e f a = to-both w (rw e at h) f a

@@ -1,0 +1,158 @@
+// The steps of a path upwards: a value goes to the frame that waits for it, until an operand is to be executed next or no frame is left.
+ghost use mathlib.Core.Path.{_≡_};
+ghost use Prim.Native.Nat.{_+_, _*_, _≤_, _<_};
+ghost use lib.ListN.{length};
+ghost use Rattle.checker.specs.Code.Frames.{frameIn, Waitable};
+ghost use Rattle.checker.specs.Code.Going.{boundTo, unbound, movedBy, Branched, Lastable, Lasts, forkedIn, framesSize, Returnable, Backs, Climbs, Leafable, LeafArrives};
+ghost use Rattle.checker.specs.Code.Rules.{Decidable};
+ghost use Rattle.checker.specs.Code.State.{depthIn, spaceSize};
+ghost use Rattle.terms.specs.Terms.{symbolLimit};
+use crate::forks::fork;
+use crate::frames::FRAME;
+use crate::frames::leave;
+use crate::frames::wait;
+use crate::operators::Step;
+use crate::operators::leaf;
+use crate::operators::one;
+use crate::operators::two;
+use crate::path::Branch;
+use crate::path::DEPTH;
+use crate::path::assume;
+use crate::path::choose;
+use script::Refusal;
+use script::table::IF;
+use script::table::LET;
+use script::table::has_one;
+use script::table::node_at;
+use terms::CONJUNCTION;
+
+// What comes next on a path: a value's type and place, an operand to execute, or a refusal.
+pub enum Move {
+    Value(u32, u32),
+    Operand(u32),
+    Stopped(Refusal),
+}
+
+// The step of a rule.
+fn moved(step: Step) -> Move
+    ensures { λ r. ⌜ r ≡ movedBy step ⌝ }
+{
+    match step {
+        Step::Gave(t, p) => Move::Value(t, p),
+        Step::Stopped(why) => Move::Stopped(why),
+    }
+}
+
+// An `if` whose condition gave a value of type t at place p: the branch that is taken.
+fn branch(space: &mut [u32], frames: &mut [u32], b: u32, c: u32, t: u32, p: u32, n: u32) -> Move
+    requires { ⌜ Decidable (now space) t p ⌝ }
+    requires { ⌜ Waitable (now frames) ⌝ }
+    requires { ⌜ framesSize ≤ length (now frames) ⌝ }
+    requires { ⌜ forkedIn (now frames) < 64 ⌝ }
+    ensures { λ r. ⌜ Branched b c n t p (now (space .entry)) (now (frames .entry)) (now (space .exit)) (now (frames .exit)) r ⌝ }
+{
+    wait(frames, n, 1, t, p);
+    match choose(space, t, p, n) {
+        Branch::First => Move::Operand(b),
+        Branch::Second => Move::Operand(c),
+        Branch::Neither(why) => Move::Stopped(why),
+        Branch::Both => {
+            fork(space, frames);
+            assume(space, CONJUNCTION, p);
+            Move::Operand(b)
+        }
+    }
+}
+
+// A value of type t at place p becomes a variable.
+fn bind(space: &mut [u32], t: u32, p: u32)
+    requires { ⌜ spaceSize ≤ length (now space) ⌝ }
+    requires { ⌜ depthIn (now space) < symbolLimit ⌝ }
+    ensures { λ r. ⌜ now (space .exit) ≡ boundTo (now (space .entry)) t p ⌝ }
+{
+    let depth = space[DEPTH];
+    space[2 * (depth as usize)] = t;
+    space[2 * (depth as usize) + 1] = p;
+    space[DEPTH] = depth + 1;
+}
+
+// The last variable is none any more.
+fn unbind(space: &mut [u32])
+    requires { ⌜ spaceSize ≤ length (now space) ⌝ }
+    requires { ⌜ 1 ≤ depthIn (now space) ⌝ }
+    ensures { λ r. ⌜ now (space .exit) ≡ unbound (now (space .entry)) ⌝ }
+{
+    space[DEPTH] = space[DEPTH] - 1;
+}
+
+// Node n, whose last operand gave a value of type u at place q, and the first one of type t at place p.
+fn last(kind: u32, given: u32, t: u32, p: u32, u: u32, q: u32, space: &mut [u32], n: u32) -> Move
+    requires { ⌜ Lastable given (now space) t p u q ⌝ }
+    ensures { λ r. ⌜ Lasts kind given n t p u q (now (space .entry)) r (now (space .exit)) ⌝ }
+{
+    if given == 2 {
+        unbind(space);
+        return Move::Value(u, q);
+    }
+    moved(two(kind, t, p, u, q, space, n))
+}
+
+// The value of type t at place p goes to the frame that waits for it.
+fn back(table: &[u32], space: &mut [u32], frames: &mut [u32], t: u32, p: u32) -> Move
+    requires { ⌜ Returnable (now table) (now space) (now frames) t p ⌝ }
+    requires { ⌜ 1 ≤ frameIn (now frames) ⌝ }
+    ensures { λ r. ⌜ Backs (now (table .entry)) t p (now (space .entry)) (now (frames .entry)) r (now (space .exit)) (now (frames .exit)) ⌝ }
+{
+    let frame = leave(frames);
+    let n = frame.node;
+    let node = node_at(table, n as usize);
+    if frame.given != 0 {
+        return last(node.kind, frame.given, frame.x, frame.y, t, p, space, n);
+    }
+    if has_one(node.kind) {
+        return moved(one(node.kind, t, p, space, n));
+    }
+    if node.kind == IF {
+        return branch(space, frames, node.b, node.c, t, p, n);
+    }
+    if node.kind == LET {
+        wait(frames, n, 2, t, p);
+        bind(space, t, p);
+        return Move::Operand(node.b);
+    }
+    wait(frames, n, 1, t, p);
+    Move::Operand(node.b)
+}
+
+// The value of type t at place p goes up until an operand is next; a value that no frame waits for is the path's.
+pub fn climb(table: &[u32], space: &mut [u32], frames: &mut [u32], t: u32, p: u32) -> Move
+    requires { ⌜ Returnable (now table) (now space) (now frames) t p ⌝ }
+    ensures { λ r. ⌜ Climbs (now (table .entry)) t p (now (space .entry)) (now (frames .entry)) r (now (space .exit)) (now (frames .exit)) ⌝ }
+{
+    let mut u = t;
+    let mut q = p;
+    while frames[FRAME] != 0 {
+        match back(table, space, frames, u, q) {
+            Move::Value(w, r) => {
+                u = w;
+                q = r;
+            }
+            Move::Operand(m) => return Move::Operand(m),
+            Move::Stopped(why) => return Move::Stopped(why),
+        }
+    }
+    Move::Value(u, q)
+}
+
+// The leaf n on a path: its value goes up.
+pub fn leaf_up(table: &[u32], space: &mut [u32], frames: &mut [u32], n: u32) -> Move
+    requires { ⌜ Leafable (now table) (now space) (now frames) n ⌝ }
+    ensures { λ r. ⌜ LeafArrives (now (table .entry)) n (now (space .entry)) (now (frames .entry)) r (now (space .exit)) (now (frames .exit)) ⌝ }
+{
+    let node = node_at(table, n as usize);
+    let depth = space[DEPTH] as usize;
+    match leaf(node.kind, node.a, space, depth, n) {
+        Step::Stopped(why) => Move::Stopped(why),
+        Step::Gave(t, p) => climb(table, space, frames, t, p),
+    }
+}
