@@ -1,9 +1,7 @@
 // The forks of a path: what is kept where both branches of an `if` can be taken, and going back there. A fork is seven numbers: the frame of the `if`, and
 // the path's own numbers.
-ghost use mathlib.Core.Path.{_≡_};
 ghost use Prim.Native.Nat.{_+_, _*_, _-_, _%_, _≤_, _<_};
 ghost use lib.ListN.{length};
-ghost use Rattle.checker.specs.Code.Frames.{upOf};
 ghost use Rattle.checker.specs.Code.Going.{forkedIn, framesSize, Forks, Rewound, RestoredOne, Restorable, Restores, Resumable, Resumes};
 ghost use Rattle.checker.specs.Code.State.{spaceSize};
 use crate::frames::FORKED;

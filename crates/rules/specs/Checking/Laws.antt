@@ -1,6 +1,6 @@
 -- Every path's condition is satisfiable, at its start and wherever it ends, so that at an `if` one of the branches is always possible (`one-branch`), and
 -- a branch is followed exactly if it is. Every decision tree has a path. Assumes nothing.
-use mathlib.Core.Path.{_≡_, refl, sym, _∙_}
+use mathlib.Core.Path.{_≡_, refl, ap}
 use mathlib.Core.Bool.{Bool, true, false}
 use mathlib.Core.List.{List, [], _∷_, _++_, map}
 use mathlib.Core.Option.{Option, none, some}
@@ -14,8 +14,7 @@ use Rattle.script.specs.declared.Checked.{Checked}
 use Rattle.script.specs.declared.Checked.the-variants.{Accepted, Refused}
 use Rattle.script.specs.declared.Refusal.{Refusal}
 use Rattle.rules.specs.Checking.{check, exec}
-use Rattle.rules.specs.Paths.{Path, Paths, Leaf, ends, stops, forks, bind, start, assume, consistent, lookup, leaves}
-use Rattle.rules.specs.Paths.Next.{follow, leafOf, leavesFrom-start, leaves-next}
+use Rattle.rules.specs.Paths.{Path, Paths, Leaf, ended, stopped, ends, stops, forks, bind, start, assume, consistent, lookup, leaves}
 use Rattle.rules.specs.Satisfiable.{satisfiable, someChoice, different, atomsOf, holds, differentAtoms}
 use Rattle.rules.specs.Satisfiable.Laws.{one-branch}
 use Rattle.rules.specs.Symbolic.{Formula, negation, conjunction, Symbolic, aWord, aTruth, aReference, typeOf}
@@ -141,4 +140,7 @@ exec-possible limit (symBlock n e) env p h = exec-possible limit e env p h
 
 -- a decision tree has a first path
 pub first-path : (t : Paths) → (l : Leaf) × (ls : List Leaf) × (leaves t ≡ l ∷ ls)
-first-path t = (leafOf (follow t [] []), _, sym (leavesFrom-start t) ∙ leaves-next t [])
+unfolding leaves
+first-path (ends v p) = (ended v p, [], refl)
+first-path (stops r) = (stopped r, [], refl)
+first-path (forks t u) = let h = first-path t in (h .0, h .1 ++ leaves u, ap (λ (ls : List Leaf). ls ++ leaves u) (h .2))

@@ -10,7 +10,7 @@ use lib.ListN.{length}
 use Rattle.script.specs.Code.Forms.{some-operand}
 use Rattle.checker.specs.Code.Frames.{topIn}
 use Rattle.checker.specs.Code.Frames.Laws.{waits-none}
-use Rattle.checker.specs.Code.Going.Arriving.{arrives-leaf, up-node, up-space, up-earlier, up-checkable, up-noting, up-refused, up-room, up-returnable, up-climbing, up-stopping}
+use Rattle.checker.specs.Code.Going.Arriving.{up-node, up-space, up-earlier, up-checkable, up-noting, up-refused, up-room, up-returnable, up-climbing, up-stopping}
 use Rattle.checker.specs.Code.Going.Steps.{enters-formed, descends-other}
 use Rattle.checker.specs.Code.Going.Walking.{Walking, walking-start, walking-descendable, walking-enterable, walking-earlier, walking-less, walking-on, walking-stopped, walking-end, walking-ended, Turn, turn-start, turn-walkable, turn-none, turn-wrong, turn-last, turn-more, no-frames}
 use Rattle.checker.specs.Code.Paths.Start.{blank}
@@ -232,7 +232,7 @@ arrive-returns t c = c .before .before .before .before .block-up .ensures
 arrive-leaf-up-requires : (t : ℕ) → arrive-lts.Need-leaf-up-requires (arrive-calls t) (arrive-at t) arrive.Post
 arrive-leaf-up-requires t c κs =
     let s = c .before .before .before .before .before .before .before .before .pre in
-    let l = arrives-leaf _ (s .1 .1) (rw (c .before .before .before .before .node-at .ensures) at (c .before .before .if1 .left)) in
+    let l = waits-none _ 13 (s .1 .1) (rw (c .before .before .before .before .node-at .ensures) at (c .before .before .if1 .left)) in
     record { leaf = l; limit = _; enterable = s .1 .0 }
 
 arrive-returns-2 : (t : ℕ) → arrive-lts.Need-returns-2 (arrive-calls t) (arrive-at t) arrive.Post

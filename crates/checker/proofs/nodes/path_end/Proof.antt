@@ -1,7 +1,5 @@
 -- `checker::nodes::path_end` meets its contract: the log, the type, and the path after it. Assumes nothing.
 use borrow.Author.Needs.{needs}
-use mathlib.Core.Path.{sym, _∙_}
-use native.Mathlib.Omega.{arith}
 use Rattle.checker.specs.Code.Going.Ends.{path-inconsistent, path-other, path-last, path-more, path-resumable}
 use Rattle.checker.proofs.nodes.path_end.Statement.{statement}
 use Rattle.checker.proofs.nodes.path_end.Tie as tie

@@ -4,17 +4,6 @@ use Rattle.checker.specs.Code.Going.Back.{more-than-one, back-framed, ba
 use Rattle.script.specs.Code.Forms.{has-one}
 use Rattle.checker.proofs.steps.back.Statement.{statement}
 use Rattle.checker.proofs.steps.back.Tie as tie
-use Rattle.checker.proofs.steps.back.Reads as reads
-use Rattle.checker.proofs.steps.back.Lts as lts
-use Rattle.checker.proofs.frames.leave.Reads as leave-reads
-use Rattle.checker.proofs.frames.wait.Reads as wait-reads
-use Rattle.checker.proofs.operators.one.Reads as one-reads
-use Rattle.checker.proofs.steps.bind.Reads as bind-reads
-use Rattle.checker.proofs.steps.branch.Reads as branch-reads
-use Rattle.checker.proofs.steps.last.Reads as last-reads
-use Rattle.checker.proofs.steps.moved.Reads as moved-reads
-use Rattle.script.proofs.table.has_one.Reads as has-one-reads
-use Rattle.script.proofs.table.node_at.Reads as node-at-reads
 
 -- src/steps.rt:123:9
 leave-requires : tie.Need-leave-requires

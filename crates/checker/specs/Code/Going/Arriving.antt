@@ -1,32 +1,29 @@
 -- A node on a path that waits for no operand, a leaf or a typed block, and its value's way up. Assumes nothing.
-use mathlib.Core.Bool.{Bool, true, false, _&&_, false≢true}
-use mathlib.Core.List.{List, _∷_, _++_, map}
+use mathlib.Core.List.{List, _∷_, _++_}
 use mathlib.Core.Path.{_≡_, refl, sym, ap, _∙_}
 use Prim.Native.Nat.{ℕ, suc, _+_, _*_, _≤_, _<_}
 use native.Mathlib.Omega.{arith}
-use lib.Dec.{leb, eqb}
 use lib.ListN.{length, getD}
-use borrow.Author.Tests.{leb-false, eq-eqb, ne-eqb}
 use Rattle.script.specs.Code.Forms.{formOf, leaf-kinds, nodeIn, treeIn, some-operand, formed-less}
 use Rattle.script.specs.Rows.{nodeOperands}
-use Rattle.script.specs.Tree.{size}
 use Rattle.script.specs.declared.Checked.{Checked}
 use Rattle.script.specs.declared.Checked.the-variants.{Accepted, Refused}
 use Rattle.script.specs.declared.Refusal.{Refusal}
 use Rattle.rules.specs.Checking.{check, exec}
-use Rattle.rules.specs.Paths.{Path, Paths, bind, Leaf, stopped, leaves}
+use Rattle.rules.specs.Paths.{Paths, bind, Leaf, stopped, leaves}
 use Rattle.rules.specs.Symbolic.{Symbolic}
 use Rattle.rules.specs.SymbolicRules.{typedResult}
 use Rattle.terms.specs.Terms.{Grown}
-use Rattle.checker.specs.Code.Frames.{frameIn, topIn, waitsFor}
-use Rattle.checker.specs.Code.Going.{goOn, forkedIn, Onward, Stands, Entering, Returning, Enterable, Returnable, came-stopped, Climbs, Arrives, Leafable, LeafArrives}
+use Rattle.checker.specs.Code.Frames.{topIn}
+use Rattle.checker.specs.Code.Frames.Laws.{size-some}
+use Rattle.checker.specs.Code.Going.{goOn, forkedIn, Stands, Entering, Returning, Enterable, Returnable, came-stopped, Climbs, Arrives, Leafable, LeafArrives}
 use Rattle.checker.specs.Code.Going.Climbing.{stopped-not-operand, stopped-not-value}
 use Rattle.checker.specs.Code.Going.Keeping.{stands-base, stands-noting, stands-by, awaits-kept}
-use Rattle.checker.specs.Code.Going.Steps.{size-some, enters-formed, Gives, gives, gives-none, yields-gives}
+use Rattle.checker.specs.Code.Going.Steps.{enters-formed, Gives, gives, gives-none, yields-gives}
 use Rattle.checker.specs.Code.Notes.{Noting, Blocked}
 use Rattle.checker.specs.Code.Rules.{Checkable, Leaf as LeafRule, After}
 use Rattle.checker.specs.Code.Rules.Nodes.{shaped, first-of, leaf-exec, typed-exec}
-use Rattle.checker.specs.Code.State.{depthIn, typesOn, PathIn, State, Room}
+use Rattle.checker.specs.Code.State.{depthIn, typesOn, PathIn, Room}
 use Rattle.checker.specs.Code.State.Laws.{variables-kept, variables-types, path-rewound, room-less}
 use Rattle.checker.specs.declared.operators.Step.{Step}
 use Rattle.checker.specs.declared.operators.Step.the-variants.{Gave, Stopped}
@@ -53,15 +50,6 @@ module _ {limit : ℕ} {table : List ℕ} {bound base : ℕ} {ground : List Symb
   pub gives-stopped : {a : Step} {x : Refusal} → Gives limit table bound base ground left fs ls a → a ≡ Stopped x → (rest : List Leaf) × (ls ≡ stopped x ∷ rest)
   gives-stopped (gives r) e = absurd (let z : _≡_ {A = ℕ} 0 1 = cc in omega arith)
   gives-stopped (gives-none rest i) e = (rest, rw (sym (same-stop e)) i)
-
--- ---- which node it is
-
-pub arrives-leaf : (kind : ℕ) → waitsFor kind 13 ≡ false → (kind ≡ 13 → ⊥) → kind < 4
-arrives-leaf kind e d = by (leb 4 kind) refl (rw (ne-eqb kind 13 d) at e)
-  where
-    by : (b : Bool) → leb 4 kind ≡ b → (leb 4 kind && true) ≡ false → kind < 4
-    by true z f = absurd (false≢true (sym (rw z at f)))
-    by false z f = leb-false 4 kind z
 
 module _ {limit : ℕ} {table : List ℕ} {bound base : ℕ} {ground : List Symbolic} {ws fs : List ℕ} {n : ℕ} {ls : List Leaf}
     (q : Entering limit table bound base ground ws fs n ls) where

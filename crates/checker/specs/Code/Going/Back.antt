@@ -1,8 +1,8 @@
 -- A value that goes up by one frame, as the code takes it: each way out is one of the steps upwards. Assumes nothing.
 use mathlib.Core.Bool.{Bool, true, false}
 use mathlib.Core.List.{List}
-use mathlib.Core.Path.{_≡_, refl, sym, ap, _∙_}
-use Prim.Native.Nat.{ℕ, suc, _+_, _*_, _/_, _%_, _≤_, _<_}
+use mathlib.Core.Path.{_≡_, refl, sym, _∙_}
+use Prim.Native.Nat.{ℕ, _+_, _*_, _/_, _%_, _≤_, _<_}
 use native.Mathlib.Omega.{arith}
 use lib.Dec.{eqb}
 use lib.ListN.{length, set, length-set}
@@ -10,12 +10,10 @@ use lib.Seq.{getD-set-same, getD-set-other}
 use borrow.Author.Tests.{eqb-true, eqb-false}
 use Rattle.script.specs.Code.Forms.{formOf, nodeIn}
 use Rattle.script.specs.Rows.{nodeOperands}
-use Rattle.rules.specs.Paths.{Leaf}
-use Rattle.rules.specs.Symbolic.{Symbolic}
 use Rattle.checker.specs.Code.Frames.{frameIn, topIn, nodeOf, upOf, firstOf, secondOf, Waitable, Waits}
-use Rattle.checker.specs.Code.Going.{forkedIn, Returning, Returnable, Came, came-operand, boundTo, movedBy, Forks, Branched, to-first, to-second, to-both, to-none, Lasts, Lastable, Backs}
+use Rattle.checker.specs.Code.Going.{forkedIn, Returnable, came-operand, boundTo, movedBy, Forks, Branched, to-first, to-second, to-both, to-none, Lasts, Lastable, Backs}
 use Rattle.checker.specs.Code.Going.Climbing.{value-not-operand, stopped-not-operand, stopped-not-value}
-use Rattle.checker.specs.Code.Going.Upwards.{up, up-room, up-one, up-lastable, up-last, gives-came, up-next, next-few, next-waitable, next-plain, next-let, next-deep, next-branch, next-decidable, next-forked}
+use Rattle.checker.specs.Code.Going.Upwards.{up, up-room, up-one, up-lastable, up-last, gives-came, up-next, next-waitable, next-plain, next-let, next-deep, next-branch, next-decidable, next-forked}
 use Rattle.checker.specs.Code.Rules.{One, Decidable}
 use Rattle.checker.specs.Code.State.{depthIn, Room}
 use Rattle.checker.specs.declared.operators.Step.{Step}

@@ -1,37 +1,24 @@
 -- The end of a path: its log, its type, and the path that follows; and the loop over the paths. Assumes nothing.
 use mathlib.Core.Bool.{Bool, true, false, not, _||_, false≢true}
-use mathlib.Core.List.{List, [], _∷_, _++_, append-nil}
+use mathlib.Core.List.{List, [], _∷_, _++_}
 use mathlib.Core.Path.{_≡_, refl, sym, ap, _∙_}
-use Prim.Native.Nat.{ℕ, suc, _+_, _*_, _-_, _≤_, _<_}
-use native.Mathlib.Nat.{sub-zero}
+use Prim.Native.Nat.{ℕ, suc, _+_, _-_, _≤_}
 use native.Mathlib.Omega.{arith}
 use lib.Dec.{eqb}
-use lib.ListN.{length, getD, replicate}
-use borrow.Author.Tests.{eqb-true, eq-eqb, ne-eqb}
-use Rattle.script.specs.Code.Forms.{treeIn}
-use Rattle.script.specs.Rows.Laws.{same-anywhere}
+use borrow.Author.Tests.{eqb-true, eq-eqb}
 use Rattle.script.specs.Tests.{pick}
-use Rattle.script.specs.Tree.{size}
-use Rattle.script.specs.declared.Checked.the-variants.{Accepted, Refused}
-use Rattle.script.specs.declared.Refusal.{Refusal}
-use Rattle.script.specs.declared.Refusal.the-variants.{InconsistentLog, PathTypesDiffer, TooManyPaths}
-use Rattle.rules.specs.Checking.{exec}
-use Rattle.rules.specs.Paths.{Path, Paths, ends, bind, Leaf, ended, stopped, start, leaves, consistent, consistentAfter}
-use Rattle.rules.specs.Symbolic.{Symbolic, typeOf, symbols}
-use Rattle.rules.specs.SymbolicRules.{firstType, judge, verdict}
-use Rattle.checker.specs.Code.Frames.{frameIn, topIn}
-use Rattle.checker.specs.Code.Going.{Later, goOn, Awaits, no-frame, for-only, for-first, for-second, for-body, forkedIn, Left, none-left, one-left, Stands, Entering, Returning, Enterable, Came, came-value, came-operand, came-stopped, Resumable, Resumes, AtEnd, PathEnds, WalkOf, refused, lasted, went-on, Walks, Walkable}
+use Rattle.script.specs.declared.Checked.the-variants.{Accepted}
+use Rattle.script.specs.declared.Refusal.the-variants.{InconsistentLog, PathTypesDiffer}
+use Rattle.rules.specs.Paths.{ends, Leaf, ended, leaves, consistent}
+use Rattle.rules.specs.Symbolic.{Symbolic, typeOf}
+use Rattle.rules.specs.SymbolicRules.{firstType, judge}
+use Rattle.checker.specs.Code.Frames.{frameIn}
+use Rattle.checker.specs.Code.Going.{Later, goOn, Awaits, no-frame, for-only, for-first, for-second, for-body, forkedIn, Left, none-left, one-left, Returning, Resumable, Resumes, AtEnd, PathEnds, WalkOf, refused, lasted, went-on}
 use Rattle.checker.specs.Code.Log.{consistentOn}
 use Rattle.checker.specs.Code.Log.Laws.{consistent-is}
-use Rattle.checker.specs.Code.Notes.{baseIn}
-use Rattle.checker.specs.Code.Notes.Keeping.{bare-noting}
-use Rattle.checker.specs.Code.Rules.{Checkable, Started}
-use Rattle.checker.specs.Code.State.{nextIn, writesIn, startIn, depthIn, typesOn, Room}
+use Rattle.checker.specs.Code.State.{writesIn, startIn}
 use Rattle.checker.specs.Code.State.Laws.{means-type}
-use Rattle.checker.specs.declared.nodes.Walked.{Walked}
 use Rattle.checker.specs.declared.nodes.Walked.the-variants.{Wrong, Last, More}
-use Rattle.checker.specs.declared.steps.Move.{Move}
-use Rattle.checker.specs.declared.steps.Move.the-variants.{Value, Operand, Stopped}
 
 -- ---- the end of a path
 

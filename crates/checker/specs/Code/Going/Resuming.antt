@@ -1,25 +1,24 @@
 -- Going back to the last fork: the numbers of its path, its variables, and its false branch, which is next. Assumes nothing.
-use mathlib.Core.List.{List, _∷_, _++_}
-use mathlib.Core.Path.{_≡_, refl, sym, ap, subst, _∙_}
+use mathlib.Core.List.{List, _++_}
+use mathlib.Core.Path.{_≡_, refl, sym, ap, _∙_}
 use Prim.Native.Nat.{ℕ, suc, _+_, _*_, _-_, _≤_, _<_}
 use native.Mathlib.Omega.{arith}
 use lib.ListN.{length, getD}
 use Rattle.script.specs.Code.Forms.{nodeIn, treeIn}
 use Rattle.script.specs.Tree.{size}
-use Rattle.rules.specs.Checking.{exec}
-use Rattle.rules.specs.Paths.{Path, Paths, bind, Leaf, leaves}
+use Rattle.rules.specs.Paths.{Path, Leaf}
 use Rattle.rules.specs.Symbolic.{Symbolic, aTruth}
 use Rattle.terms.specs.Terms.{Space, Grown}
 use Rattle.checker.specs.Code.Frames.{frameIn, topIn, nodeOf, secondOf}
-use Rattle.checker.specs.Code.Going.{Later, goOn, Awaits, forkedIn, Forked, Onward, Forking, Left, none-left, one-left, Stands, Entering, Rewound, Restorable, Restores, Resumable, Resumes}
-use Rattle.checker.specs.Code.Going.Keeping.{awaits-kept, awaits-base, left-kept, stands-base, stands-ruled}
-use Rattle.checker.specs.Code.Going.Steps.{size-some}
+use Rattle.checker.specs.Code.Frames.Laws.{size-some}
+use Rattle.checker.specs.Code.Going.{Later, Awaits, forkedIn, Forked, Onward, Forking, Left, none-left, one-left, Stands, Entering, Rewound, Restorable, Restores, Resumable, Resumes}
+use Rattle.checker.specs.Code.Going.Keeping.{awaits-kept, left-kept, stands-base, stands-ruled}
 use Rattle.checker.specs.Code.Notes.{baseIn, Kept, Noting}
 use Rattle.checker.specs.Code.Notes.Keeping.{still-holding}
 use Rattle.checker.specs.Code.Paths.{assumed}
 use Rattle.checker.specs.Code.Paths.Conditions.{assumed-ruled, assumed-without}
 use Rattle.checker.specs.Code.Rules.{withoutGuard}
-use Rattle.checker.specs.Code.State.{depthIn, Means, Variables, PathIn, State, Room}
+use Rattle.checker.specs.Code.State.{depthIn, Means, Variables, PathIn, Room}
 use Rattle.checker.specs.Code.State.Laws.{means-kept, variables-kept, path-rewound, room-less, room-on, room-space}
 
 -- ---- the last fork

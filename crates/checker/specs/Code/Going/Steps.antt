@@ -1,43 +1,28 @@
 -- The steps of a path, downwards to a node that waits for no operand and upwards with a value: the leaves to come stay the same. Assumes nothing.
-use mathlib.Core.Bool.{Bool, true, false, not, _&&_, false≢true}
-use mathlib.Core.List.{List, [], _∷_, _++_}
-use mathlib.Core.Path.{_≡_, refl, sym, ap, subst, _∙_}
-use Prim.Native.Nat.{ℕ, suc, _+_, _*_, _/_, _%_, _≤_, _<_}
+use mathlib.Core.Bool.{Bool, true, false}
+use mathlib.Core.List.{List, _∷_, _++_}
+use mathlib.Core.Path.{_≡_, refl, sym, ap, _∙_}
+use Prim.Native.Nat.{ℕ, suc, _+_, _≤_, _<_}
 use native.Mathlib.Omega.{arith}
-use lib.Dec.{leb, eqb}
-use lib.ListN.{length, getD, set, length-set}
-use lib.Seq.{getD-set-same, getD-set-other}
-use borrow.Author.Tests.{leb-true, leb-false, eqb-true, eqb-false, eq-eqb}
-use Rattle.script.specs.Code.Forms.{formOf, leaf-kinds, nodeIn, treeIn, some-operand, formed-less}
+use lib.Dec.{eqb}
+use borrow.Author.Tests.{eqb-true, eqb-false}
+use Rattle.script.specs.Code.Forms.{formOf, nodeIn, treeIn, some-operand, formed-less}
 use Rattle.script.specs.Flat.{FormedNodes}
 use Rattle.script.specs.Rows.{nodeOperands}
-use Rattle.script.specs.Tree.{Expr, int, truth, var, unary, binary, ifElse, letIn, typedBlock, symBlock, size}
 use Rattle.script.specs.declared.Refusal.{Refusal}
 use Rattle.rules.specs.Checking.{exec}
 use Rattle.rules.specs.Paths.{Path, Paths, ends, stops, forks, bind, Leaf, stopped, leaves}
 use Rattle.rules.specs.Symbolic.{Symbolic}
-use Rattle.terms.specs.Terms.Laws.{grown-refl}
-use Rattle.checker.specs.Code.Frames.{frameIn, topIn, nodeOf, upOf, firstOf, secondOf, Waitable, Waits, waitsFor, Descendable, Descends, down-to, down-from}
-use Rattle.checker.specs.Code.Going.{Later, only, first, second, goOn, Slot, Awaits, for-only, for-first, forkedIn, Stands, Entering, Returning}
+use Rattle.checker.specs.Code.Frames.{topIn, Waits, waitsFor, Descendable, Descends, down-to, down-from}
+use Rattle.checker.specs.Code.Frames.Laws.{waits-inner, waits-other, size-some}
+use Rattle.checker.specs.Code.Going.{Later, only, first, goOn, for-only, for-first, forkedIn, Stands, Entering, Returning}
 use Rattle.checker.specs.Code.Going.Keeping.{waits-awaits, waits-slot, waits-forked, waits-stands, stands-ruled}
 use Rattle.checker.specs.Code.Rules.{oneExec, restExec, restSize, Ruled}
 use Rattle.checker.specs.Code.Rules.Nodes.{shaped, first-of, rest-of, one-exec, rest-exec-of}
-use Rattle.checker.specs.Code.State.{depthIn, State, Room, Yields, ending, stopping}
+use Rattle.checker.specs.Code.State.{Room, Yields, ending, stopping}
 use Rattle.checker.specs.Code.State.Laws.{room-less, room-on}
 use Rattle.checker.specs.declared.operators.Step.{Step}
 use Rattle.checker.specs.declared.operators.Step.the-variants.{Gave, Stopped}
-
-pub size-some : (e : Expr) → 1 ≤ size e
-unfolding size
-size-some (int n w) = omega arith
-size-some (truth n b) = omega arith
-size-some (var n k) = omega arith
-size-some (unary n o e) = omega arith
-size-some (binary n o e f) = omega arith
-size-some (ifElse n c e f) = omega arith
-size-some (letIn n e f) = omega arith
-size-some (typedBlock n e) = omega arith
-size-some (symBlock n e) = omega arith
 
 -- ---- one after the other
 
@@ -51,20 +36,6 @@ then-on (forks t u) f k g h = rw (then-on t f k g h, then-on u f k g h)
 
 one-less : (k : ℕ) → 1 ≤ k → (r : ℕ) × (k ≡ suc r)
 one-less (suc r) h = (r, refl)
-
-and-true : (a b : Bool) → (a && b) ≡ true → (a ≡ true) × (b ≡ true)
-and-true true b e = (refl, e)
-and-true false b e = absurd (false≢true e)
-
-not-true : (b : Bool) → not b ≡ true → b ≡ false
-not-true true e = absurd (false≢true e)
-not-true false e = refl
-
-pub waits-some : (kind : ℕ) → waitsFor kind 13 ≡ true → 4 ≤ kind
-waits-some kind e = leb-true 4 kind (and-true (leb 4 kind) (not (eqb kind 13)) e .0)
-
-pub waits-other : (kind : ℕ) → waitsFor kind 13 ≡ true → kind ≡ 13 → ⊥
-waits-other kind e = eqb-false kind 13 (not-true (eqb kind 13) (and-true (leb 4 kind) (not (eqb kind 13)) e .1))
 
 module _ {limit : ℕ} {table : List ℕ} {bound base : ℕ} {ground : List Symbolic} {ws fs : List ℕ} {m : ℕ} {ls : List Leaf}
     (q : Entering limit table bound base ground ws fs m ls) where
@@ -87,7 +58,7 @@ module _ {limit : ℕ} {table : List ℕ} {bound base : ℕ} {ground : List Symb
   enters-first e {gs} w = by (eqb (nodeOperands (nodeIn table m .kind)) 1) refl
     where
       some : 1 ≤ nodeOperands (nodeIn table m .kind)
-      some = some-operand enters-formed (waits-some (nodeIn table m .kind) e)
+      some = some-operand enters-formed (waits-inner (nodeIn table m .kind) 13 e)
 
       by : (b : Bool) → eqb (nodeOperands (nodeIn table m .kind)) 1 ≡ b → Entering limit table bound base ground ws gs (nodeIn table m .a) ls
       by true z =
@@ -110,7 +81,7 @@ module _ {limit : ℕ} {table : List ℕ} {bound base : ℕ} {ground : List Symb
                 q .is
                 ∙ ap (λ (x : Paths). leaves x ++ q .others)
                 (ap (λ (x : Paths). bind x (goOn limit table (q .later)))
-                (one-exec (shaped limit enters-formed) o (waits-other (nodeIn table m .kind) e) (q .environment) (q .path))
+                (one-exec (shaped limit enters-formed) o (waits-other (nodeIn table m .kind) 13 e) (q .environment) (q .path))
                 ∙ then-on (exec limit (treeIn table (nodeIn table m .a)) (q .environment) (q .path)) (oneExec (formOf (nodeIn table m .kind)) m)
                 (goOn limit table (only m ∷ q .later)) (goOn limit table (q .later)) λ v p. refl);
           }

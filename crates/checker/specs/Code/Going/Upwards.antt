@@ -1,8 +1,8 @@
 -- A value goes to the frame that waits for it: by the rule of its node, to the next operand, or out of the body of a `let`. Assumes nothing.
-use mathlib.Core.Bool.{true, false}
+use mathlib.Core.Bool.{true}
 use mathlib.Core.List.{List, [], _∷_, _++_, append-assoc}
 use mathlib.Core.Path.{_≡_, refl, sym, ap, subst, _∙_}
-use Prim.Native.Nat.{ℕ, zero, suc, _+_, _*_, _-_, _/_, _%_, _≤_, _<_}
+use Prim.Native.Nat.{ℕ, suc, _+_, _*_, _-_, _/_, _%_, _≤_, _<_}
 use native.Mathlib.Omega.{arith}
 use lib.ListN.{length, getD, set, length-set}
 use lib.Seq.{getD-set-same, getD-set-other}
@@ -20,24 +20,22 @@ use Rattle.rules.specs.Satisfiable.{satisfiable}
 use Rattle.terms.specs.Terms.{Grown}
 use Rattle.terms.specs.Terms.Laws.{grown-refl}
 use Rattle.checker.specs.Code.Frames.{frameIn, topIn, nodeOf, upOf, firstOf, secondOf, Waitable, Waits}
-use Rattle.checker.specs.Code.Going.{Later, only, first, second, goOn, Slot, Awaits, no-frame, for-only, for-first, for-second, for-body, forkedIn, Onward, Forked, Forking, Left, one-left, Stands, Entering, Returning, boundTo, unbound, movedBy, Forks, Branched, to-first, to-second, to-both, to-none, Lasts, Lastable, Came, came-value, came-operand, came-stopped}
-use Rattle.checker.specs.Code.Going.Keeping.{onward-trans, waits-onward, leave-onward, awaits-kept, left-kept, stands-base, stands-on, stands-ruled, waits-awaits, waits-slot, waits-forked, waits-stands, leave-stands}
-use Rattle.checker.specs.Code.Going.Steps.{size-some, then-on, Gives, gives, gives-none, yields-gives}
-use Rattle.checker.specs.Code.Notes.{baseIn, Kept}
-use Rattle.checker.specs.Code.Notes.Keeping.{still-holding}
+use Rattle.checker.specs.Code.Frames.Laws.{size-some}
+use Rattle.checker.specs.Code.Going.{Later, first, second, goOn, Awaits, no-frame, for-only, for-first, for-second, for-body, forkedIn, Onward, Forking, one-left, Stands, Entering, Returning, boundTo, unbound, movedBy, Forks, Branched, to-first, to-second, to-both, to-none, Lasts, Lastable, Came, came-value, came-operand, came-stopped}
+use Rattle.checker.specs.Code.Going.Keeping.{onward-trans, waits-onward, leave-onward, awaits-kept, stands-base, stands-on, stands-ruled, waits-awaits, waits-slot, waits-forked, waits-stands, leave-stands}
+use Rattle.checker.specs.Code.Going.Steps.{then-on, Gives, gives, gives-none, yields-gives}
 use Rattle.checker.specs.Code.Paths.{assumed}
 use Rattle.checker.specs.Code.Paths.Conditions.{assumed-ruled, assumed-with}
-use Rattle.checker.specs.Code.Rules.{oneExec, twoExec, restExec, restSize, withGuard, withoutGuard, Ruled, One, Two, Chosen, Chooses, Operable, Decidable}
+use Rattle.checker.specs.Code.Rules.{oneExec, twoExec, restExec, restSize, withGuard, withoutGuard, Ruled, One, Chosen, Operable, Decidable}
 use Rattle.checker.specs.Code.Rules.Chosen.{first as chosen-first, second as chosen-second, both as chosen-both, neither as chosen-neither}
 use Rattle.checker.specs.Code.Rules.Nodes.{Rest, Branches, shaped, rest-of, several-of, branches-of, if-rest-exec, if-two, two-rest-exec, let-form}
 use Rattle.checker.specs.Code.Rules.Types.{bound-other, let-bound}
-use Rattle.checker.specs.Code.State.{writesIn, depthIn, Means, truthRow, Variables, noVariable, oneMore, PathIn, State, Room, Unnoted, Valued}
+use Rattle.checker.specs.Code.State.{depthIn, Means, truthRow, Variables, noVariable, oneMore, PathIn, Room, Unnoted, Valued}
 use Rattle.checker.specs.Code.State.Laws.{means-kept, means-at, variables-kept, path-rewound, room-less, room-on}
 use Rattle.checker.specs.declared.operators.Step.{Step}
-use Rattle.checker.specs.declared.operators.Step.the-variants as step
 use Rattle.checker.specs.declared.path.Branch.the-variants.{First, Second, Both, Neither}
 use Rattle.checker.specs.declared.steps.Move.{Move}
-use Rattle.checker.specs.declared.steps.Move.the-variants.{Value, Operand, Stopped}
+use Rattle.checker.specs.declared.steps.Move.the-variants.{Operand}
 
 -- ---- other variables
 

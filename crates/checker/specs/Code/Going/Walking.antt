@@ -1,28 +1,29 @@
 -- A path from a node on to its end, and the loop over the paths of a `sym` in typed mode. Assumes nothing.
-use mathlib.Core.Bool.{Bool, true, false}
+use mathlib.Core.Bool.{Bool}
 use mathlib.Core.List.{List, [], _∷_, _++_, append-nil}
 use mathlib.Core.Path.{_≡_, refl, sym, ap, _∙_}
 use Prim.Native.Nat.{ℕ, suc, _+_, _-_, _≤_, _<_}
 use native.Mathlib.Nat.{sub-zero}
 use native.Mathlib.Omega.{arith}
 use lib.Dec.{eqb}
-use lib.ListN.{length, getD, replicate, length-replicate}
+use lib.ListN.{length, getD, replicate}
 use borrow.Author.Tests.{ne-eqb}
-use Rattle.script.specs.Code.Forms.{nodeIn, treeIn}
+use Rattle.script.specs.Code.Forms.{treeIn}
 use Rattle.script.specs.Rows.Laws.{same-anywhere}
 use Rattle.script.specs.Tests.{pick}
-use Rattle.script.specs.Tree.{size}
 use Rattle.script.specs.declared.Checked.the-variants.{Accepted, Refused}
 use Rattle.script.specs.declared.Refusal.{Refusal}
 use Rattle.script.specs.declared.Refusal.the-variants.{TooManyPaths}
 use Rattle.rules.specs.Checking.{exec}
-use Rattle.rules.specs.Paths.{Paths, ends, stops, forks, bind, Leaf, ended, stopped, start, leaves}
+use Rattle.rules.specs.Checking.Laws.{first-path}
+use Rattle.rules.specs.Paths.{Paths, bind, Leaf, start, leaves}
 use Rattle.rules.specs.Symbolic.{Symbolic, symbols}
 use Rattle.rules.specs.SymbolicRules.{firstType, judge, verdict}
-use Rattle.checker.specs.Code.Frames.{frameIn, topIn, waitsFor, Descendable, Descends}
+use Rattle.checker.specs.Code.Frames.{topIn, Descendable, Descends}
+use Rattle.checker.specs.Code.Frames.Laws.{size-some}
 use Rattle.checker.specs.Code.Going.{goOn, no-frame, none-left, Entering, Enterable, Arrives, AtEnd, PathEnds, WalkOf, refused, lasted, went-on, Walks, Walkable}
 use Rattle.checker.specs.Code.Going.Climbing.{came-returning, came-entering, came-none}
-use Rattle.checker.specs.Code.Going.Steps.{size-some, enters-descendable, enters-descends, descends-tops}
+use Rattle.checker.specs.Code.Going.Steps.{enters-descendable, enters-descends, descends-tops}
 use Rattle.checker.specs.Code.Notes.Keeping.{bare-noting}
 use Rattle.checker.specs.Code.Rules.{Checkable, Started}
 use Rattle.checker.specs.Code.Rules.Nodes.{bind-ends}
@@ -124,12 +125,6 @@ module _ {limit : ℕ} {table : List ℕ} {n m : ℕ} {ws fs left gs : List ℕ}
 
 -- ---- the loop over the paths
 
-leaves-some : (x : Paths) → (l : Leaf) × (rest : List Leaf) × (leaves x ≡ l ∷ rest)
-unfolding leaves
-leaves-some (ends v p) = (ended v p, [], refl)
-leaves-some (stops r) = (stopped r, [], refl)
-leaves-some (forks t u) = let h = leaves-some t in (h .0, h .1 ++ leaves u, ap (λ (ls : List Leaf). ls ++ leaves u) (h .2))
-
 -- another path follows
 record Further (limit : ℕ) (table : List ℕ) (bound base : ℕ) (ground : List Symbolic) (n T : ℕ) (left gs : List ℕ) (ls : List Leaf) (t m : ℕ) : Type 0 where
   after : List Leaf
@@ -184,7 +179,7 @@ module _ {table types : List ℕ} {depth limit n a : ℕ} {ws fs : List ℕ} {fo
   turn-none l =
       let z : limit - followed ≡ 0 = omega arith in
       let q = u .entering in
-      let s = leaves-some (bind (exec limit (treeIn table next) (q .environment) (q .path)) (goOn limit table (q .later))) in
+      let s = first-path (bind (exec limit (treeIn table next) (q .environment) (q .path)) (goOn limit table (q .later))) in
       let e : u .to-come ≡ s .0 ∷ (s .1 ++ q .others) = q .is ∙ ap (λ (ls : List Leaf). ls ++ q .others) (s .2) in
       sym (u .rest ∙ rw (z, e) refl)
 
