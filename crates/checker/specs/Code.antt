@@ -5,7 +5,6 @@ pub mod Going
 pub mod Log
 pub mod Notes
 pub mod Paths
-pub mod Rising
 pub mod Rules
 pub mod State
 pub mod Whole

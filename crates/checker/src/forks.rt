@@ -1,8 +1,8 @@
-// The forks of a path: what is kept where both branches of an `if` can be taken, and going back there. A fork is seven numbers: the frame of the `if`, and
-// the path's own numbers.
+// The forks of a path: what is kept where both branches of an `if` can be taken, and going back there. A fork has the frame of the `if` and the path's own
+// numbers, seven below 256 in two.
 ghost use Prim.Native.Nat.{_+_, _*_, _-_, _%_, _≤_, _<_};
 ghost use lib.ListN.{length};
-ghost use Rattle.checker.specs.Code.Going.{forkedIn, framesSize, Forks, Rewound, RestoredOne, Restorable, Restores, Resumable, Resumes};
+ghost use Rattle.checker.specs.Code.Going.{forkedIn, framesSize, Forkable, Forks, Rewound, RestoredOne, Restorable, Restores, Resumable, Resumes};
 ghost use Rattle.checker.specs.Code.State.{spaceSize};
 use crate::frames::FORKED;
 use crate::frames::FRAME;
@@ -21,27 +21,22 @@ use terms::COUNT;
 use terms::EXCLUSION;
 
 // How many numbers a fork has.
-const FORK: usize = 7;
+const FORK: usize = 2;
 
 // How many numbers frames and forks have: each fork has two frames of its own.
 pub const SIZE: usize = FRAMES + FORK * (Script::NODES / 2);
 
 // Keeps where the path is.
 pub fn fork(space: &[u32], frames: &mut [u32])
-    requires { ⌜ spaceSize ≤ length (now space) ⌝ }
-    requires { ⌜ framesSize ≤ length (now frames) ⌝ }
-    requires { ⌜ forkedIn (now frames) < 64 ⌝ }
+    requires { ⌜ Forkable (now space) (now frames) ⌝ }
     ensures { λ r. ⌜ Forks (now (space .entry)) (now (frames .entry)) (now (frames .exit)) ⌝ }
 {
     let count = frames[FORKED];
     let at = FRAMES + FORK * (count as usize);
-    frames[at] = frames[FRAME];
-    frames[at + 1] = space[COUNT];
-    frames[at + 2] = space[NEXT];
-    frames[at + 3] = space[CONDITION];
-    frames[at + 4] = space[WRITES];
-    frames[at + 5] = space[START];
-    frames[at + 6] = space[DEPTH];
+    let first = frames[FRAME] + 256 * (space[COUNT] + 256 * (space[NEXT] + 256 * space[CONDITION]));
+    let second = space[WRITES] + 256 * (space[START] + 256 * space[DEPTH]);
+    frames[at] = first;
+    frames[at + 1] = second;
     frames[FORKED] = count + 1;
 }
 
@@ -55,14 +50,16 @@ fn rewind(space: &mut [u32], frames: &mut [u32])
 {
     let count = frames[FORKED] - 1;
     let at = FRAMES + FORK * (count as usize);
-    space[COUNT] = frames[at + 1];
-    space[NEXT] = frames[at + 2];
-    space[CONDITION] = frames[at + 3];
-    space[WRITES] = frames[at + 4];
-    space[START] = frames[at + 5];
-    space[DEPTH] = frames[at + 6];
-    frames[FRAME] = frames[at];
-    frames[TOP] = frames[at];
+    let first = frames[at];
+    let second = frames[at + 1];
+    space[COUNT] = first / 256 % 256;
+    space[NEXT] = first / 65536 % 256;
+    space[CONDITION] = first / 16777216;
+    space[WRITES] = second % 256;
+    space[START] = second / 256 % 256;
+    space[DEPTH] = second / 65536;
+    frames[FRAME] = first % 256;
+    frames[TOP] = first % 256;
     frames[FORKED] = count;
 }
 

@@ -1,4 +1,4 @@
-// What waits while an operand of a node is checked or executed. A frame is four numbers: the node that waits, four times the frame that its own value goes to
+// What waits on a path while an operand of it is executed. A frame is four numbers: the node that waits, four times the frame that its own value goes to
 // and how many of its operands have given theirs, and what they gave. Frames are only added, so a path can come back to any of them; there is no frame 0.
 ghost use mathlib.Core.Path.{_≡_};
 ghost use Prim.Native.Nat.{_*_, _/_, _≤_, _<_};
@@ -16,9 +16,6 @@ pub const TOP: usize = 1;
 
 // Where the count of the forks stands that are left.
 pub const FORKED: usize = 2;
-
-// Where the count of the variables stands, in typed mode.
-pub const VARIABLES: usize = 3;
 
 // How many numbers the frames have.
 pub const FRAMES: usize = 4 * Script::NODES;
@@ -68,7 +65,7 @@ pub fn leave(frames: &mut [u32]) -> Frame
 }
 
 // Whether a node waits for its first operand: one that has such, and is no block of this kind.
-pub fn waits(kind: u32, block: u32) -> bool
+fn waits(kind: u32, block: u32) -> bool
     ensures { λ r. ⌜ r ≡ waitsFor kind block ⌝ }
 {
     if kind < LEAVES {

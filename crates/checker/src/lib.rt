@@ -16,7 +16,6 @@ mod nodes;
 mod notes;
 mod operators;
 mod path;
-mod rise;
 mod steps;
 mod types;
 

@@ -5,7 +5,7 @@ ghost use mathlib.Core.Bool.{false, _||_};
 ghost use mathlib.Core.Path.{_≡_};
 ghost use Prim.Native.Nat.{_<_};
 ghost use lib.Dec.{eqb};
-ghost use Rattle.script.specs.Code.Forms.{nodeIn, treeIn};
+ghost use Rattle.script.specs.Code.Forms.{formOf, nodeIn, treeIn};
 ghost use Rattle.rules.specs.Checking.{check, exec};
 ghost use Rattle.rules.specs.Paths.{start, leaves};
 ghost use Rattle.rules.specs.Symbolic.{symbols};
@@ -13,15 +13,12 @@ ghost use Rattle.rules.specs.SymbolicRules.{verdict};
 ghost use Rattle.checker.specs.Code.Frames.{waitsFor};
 ghost use Rattle.checker.specs.Code.Going.{Enterable, Arrives, AtEnd, PathEnds, Walkable, Walks};
 ghost use Rattle.checker.specs.Code.Notes.{Noting, Blocked};
-ghost use Rattle.checker.specs.Code.Rules.{Checkable, Judged};
+ghost use Rattle.checker.specs.Code.Rules.{Checkable, CheckableRest, restType, Judged};
 ghost use Rattle.checker.specs.Code.State.{typesOn};
 use crate::forks::SIZE;
 use crate::forks::resume;
 use crate::frames::FORKED;
-use crate::frames::FRAMES;
-use crate::frames::VARIABLES;
 use crate::frames::descend;
-use crate::frames::waits;
 use crate::log::consistent;
 use crate::notes::Known;
 use crate::notes::note;
@@ -31,16 +28,21 @@ use crate::operators::typed_result;
 use crate::path::DEPTH;
 use crate::path::SPACE;
 use crate::path::start;
-use crate::rise::Rise;
-use crate::rise::ascend;
 use crate::steps::Move;
 use crate::steps::climb;
 use crate::steps::leaf_up;
+use crate::types::bind_type;
+use crate::types::if_type;
 use crate::types::leaf_type;
+use crate::types::one_type;
+use crate::types::two_type;
 use script::Checked;
 use script::Refusal;
+use script::table::IF;
+use script::table::LEAVES;
 use script::table::SYM;
 use script::table::TYPED;
+use script::table::has_one;
 use script::table::node_at;
 
 // How a path ended: with a refusal of the `sym`, as the last path, or with another one after it, which goes on from a node; the type is the path's.
@@ -145,41 +147,58 @@ fn paths(table: &[u32], types: &[u32], depth: usize, limit: u32, n: u32, a: u32)
     Checked::Refused(Refusal::TooManyPaths(n))
 }
 
-// A node in typed mode that waits for no operand: a leaf or a `sym`.
-fn inner_type(table: &[u32], space: &[u32], depth: usize, limit: u32, n: u32) -> Checked
-    requires { ⌜ Checkable (now table) (now space) depth n ⌝ }
-    requires { ⌜ waitsFor (nodeIn (now table) n .kind) 14 ≡ false ⌝ }
-    ensures { λ r. ⌜ r ≡ check limit (treeIn (now (table .entry)) n) (typesOn (now (space .entry)) depth) ⌝ }
+// Goes on with node n in typed mode, once its first operand has type t.
+fn check_rest(table: &[u32], space: &mut [u32], depth: usize, limit: u32, n: u32, t: u32) -> Checked
+    requires { ⌜ CheckableRest (now table) (now space) depth n ⌝ }
+    ensures { λ r. ⌜ Judged (restType (formOf (nodeIn (now (table .entry)) n .kind)) limit n (treeIn (now (table .entry)) (nodeIn (now (table .entry)) n .b)) (treeIn (now (table .entry)) (nodeIn (now (table .entry)) n .c)) t (typesOn (now (space .entry)) depth)) depth (now (space .entry)) r (now (space .exit)) ⌝ }
 {
     let node = node_at(table, n as usize);
-    if node.kind == SYM {
-        return paths(table, space, depth, limit, n, node.a);
+    let inner = bind_type(space, depth, node.kind, t);
+    match check_node(table, space, inner, limit, node.b) {
+        Checked::Refused(why) => Checked::Refused(why),
+        Checked::Accepted(u) => {
+            if node.kind == IF {
+                return match check_node(table, space, depth, limit, node.c) {
+                    Checked::Refused(why) => Checked::Refused(why),
+                    Checked::Accepted(v) => if_type(t, u, v, n),
+                };
+            }
+            two_type(node.kind, t, u, n)
+        }
     }
-    leaf_type(node.kind, node.a, space, depth, n)
 }
 
-// Checks node n in typed mode: the environment is the types of the first `depth` variables. What waits for an operand is kept in frames.
+// Checks node n in typed mode: the environment is the types of the first `depth` variables. A first operand that is a leaf has its type at once.
 pub fn check_node(table: &[u32], space: &mut [u32], depth: usize, limit: u32, n: u32) -> Checked
     requires { ⌜ Checkable (now table) (now space) depth n ⌝ }
     ensures { λ r. ⌜ Judged (check limit (treeIn (now (table .entry)) n) (typesOn (now (space .entry)) depth)) depth (now (space .entry)) r (now (space .exit)) ⌝ }
 {
     let node = node_at(table, n as usize);
-    if !waits(node.kind, SYM) {
-        return inner_type(table, space, depth, limit, n);
+    if node.kind < LEAVES {
+        return leaf_type(node.kind, node.a, space, depth, n);
     }
-    let mut frames = [0u32; FRAMES];
-    frames[VARIABLES] = depth as u32;
-    let mut next = n;
-    loop {
-        let inner = descend(table, &mut frames, next, SYM);
-        let present = frames[VARIABLES] as usize;
-        match inner_type(table, space, present, limit, inner) {
-            Checked::Refused(why) => return Checked::Refused(why),
-            Checked::Accepted(t) => match ascend(table, space, &mut frames, t) {
-                Rise::Stopped(why) => return Checked::Refused(why),
-                Rise::Typed(u) => return Checked::Accepted(u),
-                Rise::Operand(m) => next = m,
-            },
+    if node.kind == SYM {
+        return paths(table, space, depth, limit, n, node.a);
+    }
+    let first = node_at(table, node.a as usize);
+    if first.kind < LEAVES {
+        return match leaf_type(first.kind, first.a, space, depth, node.a) {
+            Checked::Refused(why) => Checked::Refused(why),
+            Checked::Accepted(t) => {
+                if has_one(node.kind) {
+                    return one_type(node.kind, t, n);
+                }
+                check_rest(table, space, depth, limit, n, t)
+            }
+        };
+    }
+    match check_node(table, space, depth, limit, node.a) {
+        Checked::Refused(why) => Checked::Refused(why),
+        Checked::Accepted(t) => {
+            if has_one(node.kind) {
+                return one_type(node.kind, t, n);
+            }
+            check_rest(table, space, depth, limit, n, t)
         }
     }
 }

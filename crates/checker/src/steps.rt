@@ -49,6 +49,7 @@ fn branch(space: &mut [u32], frames: &mut [u32], b: u32, c: u32, t: u32, p: u32,
     requires { ⌜ Waitable (now frames) ⌝ }
     requires { ⌜ framesSize ≤ length (now frames) ⌝ }
     requires { ⌜ forkedIn (now frames) < 64 ⌝ }
+    requires { ⌜ depthIn (now space) ≤ symbolLimit ⌝ }
     ensures { λ r. ⌜ Branched b c n t p (now (space .entry)) (now (frames .entry)) (now (space .exit)) (now (frames .exit)) r ⌝ }
 {
     wait(frames, n, 1, t, p);

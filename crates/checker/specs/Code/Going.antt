@@ -14,7 +14,7 @@ pub mod Walking
 use mathlib.Core.Bool.{Bool, true}
 use mathlib.Core.List.{List, [], _∷_, _++_}
 use mathlib.Core.Path.{_≡_}
-use Prim.Native.Nat.{ℕ, suc, _+_, _*_, _-_, _%_, _≤_, _<_}
+use Prim.Native.Nat.{ℕ, suc, _+_, _*_, _-_, _/_, _%_, _≤_, _<_}
 use lib.ListN.{length, getD, set}
 use Rattle.script.specs.Code.Forms.{formOf, nodeIn, treeIn}
 use Rattle.script.specs.Flat.{FormedNodes}
@@ -91,20 +91,42 @@ abbrev pub forkedIn : List ℕ → ℕ
 forkedIn fs = getD fs 2 0
 
 abbrev pub framesSize : ℕ
-framesSize = 960
+framesSize = 640
 
 abbrev pub forkAt : ℕ → ℕ
-forkAt j = framesEnd + 7 * j
+forkAt j = framesEnd + 2 * j
+
+-- what fork j has, each number below 256: the frame of the `if`, and the path's own numbers
+abbrev pub savedFrame : List ℕ → ℕ → ℕ
+savedFrame fs j = getD fs (forkAt j) 0 % 256
+
+abbrev pub savedCount : List ℕ → ℕ → ℕ
+savedCount fs j = getD fs (forkAt j) 0 / 256 % 256
+
+abbrev pub savedNext : List ℕ → ℕ → ℕ
+savedNext fs j = getD fs (forkAt j) 0 / 65536 % 256
+
+abbrev pub savedCondition : List ℕ → ℕ → ℕ
+savedCondition fs j = getD fs (forkAt j) 0 / 16777216
+
+abbrev pub savedWrites : List ℕ → ℕ → ℕ
+savedWrites fs j = getD fs (forkAt j + 1) 0 % 256
+
+abbrev pub savedStart : List ℕ → ℕ → ℕ
+savedStart fs j = getD fs (forkAt j + 1) 0 / 256 % 256
+
+abbrev pub savedDepth : List ℕ → ℕ → ℕ
+savedDepth fs j = getD fs (forkAt j + 1) 0 / 65536
 
 -- fork j has the numbers of this path
 pub record Forked (xs gs : List ℕ) (j : ℕ) (fs : List ℕ) : Type 0 where
-  pub frame : getD fs (forkAt j) 0 ≡ frameIn gs
-  pub count : getD fs (forkAt j + 1) 0 ≡ countIn xs
-  pub next : getD fs (forkAt j + 2) 0 ≡ nextIn xs
-  pub condition : getD fs (forkAt j + 3) 0 ≡ conditionIn xs
-  pub writes : getD fs (forkAt j + 4) 0 ≡ writesIn xs
-  pub start : getD fs (forkAt j + 5) 0 ≡ startIn xs
-  pub depth : getD fs (forkAt j + 6) 0 ≡ depthIn xs
+  pub frame : savedFrame fs j ≡ frameIn gs
+  pub count : savedCount fs j ≡ countIn xs
+  pub next : savedNext fs j ≡ nextIn xs
+  pub condition : savedCondition fs j ≡ conditionIn xs
+  pub writes : savedWrites fs j ≡ writesIn xs
+  pub start : savedStart fs j ≡ startIn xs
+  pub depth : savedDepth fs j ≡ depthIn xs
 
 -- rows, writes, frames and forks are only added, and the first variables stay
 pub record Onward (base : ℕ) (xs gs ws fs : List ℕ) : Type 0 where
@@ -214,6 +236,19 @@ abbrev pub movedBy : Step → Move
 movedBy (Gave t q) = Value t q
 movedBy (step.Stopped x) = Stopped x
 
+-- the path's numbers are small enough for a fork, and there is room for one more
+pub record Forkable (ws fs : List ℕ) : Type 0 where
+  pub lent : spaceSize ≤ length ws
+  pub framed : framesSize ≤ length fs
+  pub few : forkedIn fs < 64
+  pub frame : frameIn fs < 256
+  pub count : countIn ws < 256
+  pub next : nextIn ws < 256
+  pub condition : conditionIn ws < 256
+  pub writes : writesIn ws < 256
+  pub start : startIn ws < 256
+  pub depth : depthIn ws < 256
+
 -- the path is kept as a fork
 pub record Forks (ws fs gs : List ℕ) : Type 0 where
   pub same : length gs ≡ length fs
@@ -242,16 +277,16 @@ pub record Lastable (given : ℕ) (ws : List ℕ) (t p u q : ℕ) : Type 0 where
 pub record Rewound (j : ℕ) (ws fs left gs : List ℕ) : Type 0 where
   pub same : length left ≡ length ws
   pub framed : length gs ≡ length fs
-  pub count : countIn left ≡ getD fs (forkAt j + 1) 0
-  pub next : nextIn left ≡ getD fs (forkAt j + 2) 0
-  pub condition : conditionIn left ≡ getD fs (forkAt j + 3) 0
-  pub writes : writesIn left ≡ getD fs (forkAt j + 4) 0
-  pub start : startIn left ≡ getD fs (forkAt j + 5) 0
-  pub depth : depthIn left ≡ getD fs (forkAt j + 6) 0
+  pub count : countIn left ≡ savedCount fs j
+  pub next : nextIn left ≡ savedNext fs j
+  pub condition : conditionIn left ≡ savedCondition fs j
+  pub writes : writesIn left ≡ savedWrites fs j
+  pub start : startIn left ≡ savedStart fs j
+  pub depth : depthIn left ≡ savedDepth fs j
   pub before : (k : ℕ) → k < 724 → (k ≡ 288 → ⊥) → getD left k 0 ≡ getD ws k 0
   pub beyond : (k : ℕ) → 729 ≤ k → getD left k 0 ≡ getD ws k 0
-  pub frame : frameIn gs ≡ getD fs (forkAt j) 0
-  pub top : topIn gs ≡ getD fs (forkAt j) 0
+  pub frame : frameIn gs ≡ savedFrame fs j
+  pub top : topIn gs ≡ savedFrame fs j
   pub forked : forkedIn gs ≡ j
   pub others : (k : ℕ) → 3 ≤ k → getD gs k 0 ≡ getD fs k 0
 

@@ -13,7 +13,7 @@ use Prim.Native.Nat.{ℕ, suc, _+_, _*_, _≤_, _<_}
 use lib.ListN.{length, getD, getElem?}
 use Rattle.script.specs.Code.Forms.{formOf, nodeIn, treeIn}
 use Rattle.script.specs.Flat.{FormedNodes}
-use Rattle.script.specs.Rows.{Form, intForm, varForm, ifForm, letForm, typedForm, symForm, truthForm, unaryForm, binaryForm}
+use Rattle.script.specs.Rows.{Form, intForm, varForm, ifForm, letForm, typedForm, symForm, truthForm, unaryForm, binaryForm, nodeOperands}
 use Rattle.script.specs.Tree.{Expr, size}
 use Rattle.script.specs.declared.Checked.{Checked}
 use Rattle.script.specs.declared.Checked.the-variants.{Accepted}
@@ -164,6 +164,14 @@ pub record Checkable (table ws : List ℕ) (depth n : ℕ) : Type 0 where
   pub lent : variablesEnd ≤ length ws
   pub variables : depth + size (treeIn table n) ≤ symbolLimit
   pub small : size (treeIn table n) ≤ nodeLimit
+
+-- what is left of it can
+pub record CheckableRest (table ws : List ℕ) (depth n : ℕ) : Type 0 where
+  pub formed : FormedNodes table (suc n)
+  pub several : 2 ≤ nodeOperands (nodeIn table n .kind)
+  pub lent : variablesEnd ≤ length ws
+  pub variables : depth + restSize table n ≤ symbolLimit
+  pub small : restSize table n ≤ nodeLimit
 
 -- only what stands behind the first variables changes, and nothing behind the environment
 pub record Aside (depth : ℕ) (ws left : List ℕ) : Type 0 where

@@ -1,4 +1,4 @@
--- `checker::forks::fork` meets its contract: its eight stores keep the path. Assumes nothing.
+-- `checker::forks::fork` meets its contract: its three stores keep the path. Assumes nothing.
 use borrow.Author.Needs.{needs}
 use native.Mathlib.Omega.{arith}
 use lib.ListN.{length-set}
@@ -9,7 +9,7 @@ use Rattle.checker.proofs.forks.fork.Tie as tie
 returns : tie.Need-returns
 returns c =
     let s = c .before .before .before .before .before .before .before .before in
-    kept-fork (s .args .space .now) (s .args .frames .now) (s .pre .1 .0) (s .pre .1 .1)
+    kept-fork (s .args .space .now) (s .args .frames .now) (s .pre)
 
 pub fork-spec : {M : Type 1} → statement M
 fork-spec =
@@ -25,28 +25,23 @@ fork-spec =
     (λ c. search needs)
     (λ c. search needs)
     (λ c. search needs)
-    (λ c. simp length-set (omega arith))
     (λ c. search needs)
     (λ c. search needs)
     (λ c. search needs)
-    (λ c. simp length-set (omega arith))
     (λ c. search needs)
     (λ c. search needs)
     (λ c. search needs)
-    (λ c. simp length-set (omega arith))
     (λ c. search needs)
     (λ c. search needs)
     (λ c. search needs)
-    (λ c. simp length-set (omega arith))
     (λ c. search needs)
     (λ c. search needs)
     (λ c. search needs)
-    (λ c. simp length-set (omega arith))
     (λ c. search needs)
     (λ c. search needs)
     (λ c. search needs)
     (λ c. simp length-set (omega arith))
     (λ c. search needs)
     (λ c. simp length-set (omega arith))
-    (λ c. simp length-set)
+    (λ c. search needs)
     returns)

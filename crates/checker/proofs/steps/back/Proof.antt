@@ -85,7 +85,7 @@ branch-requires c κs =
     let g = rw (l .0) at (c .before .before .before .before .before .before .if1 .left) in
     let o = more-than-one (rw (n, l .0) at (c .before .before .before .before .before .has-one .ensures)) (c .before .before .before .before .if2 .left) in
     let h = rw (n, l .0) at (c .before .before .if3 .taken) in
-    rw (l .1) (back-decidable (s .0) (s .1) g o h, (back-waitable (s .0) (s .1) g o, (back-framed (s .0) (s .1), back-forked (s .0) (s .1) g o h)))
+    rw (l .1) (back-decidable (s .0) (s .1) g o h, (back-waitable (s .0) (s .1) g o, (back-framed (s .0) (s .1), (back-forked (s .0) (s .1) g o h, s .0 .returning .stands .narrow))))
 
 -- src/steps.rt:133:9
 same-length-5 : tie.Need-same-length-5

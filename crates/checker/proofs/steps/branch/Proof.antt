@@ -1,13 +1,13 @@
 -- `checker::steps::branch` meets its contract: the branch that is taken, or the first one and a fork. Assumes nothing.
 use borrow.Author.Needs.{needs}
-use Rattle.checker.specs.Code.Going.Small.{both-lent, both-space, waits-few, branched-first, branched-second, branched-none, branched-both}
+use Rattle.checker.specs.Code.Going.Small.{both-lent, both-space, both-forkable, branched-first, branched-second, branched-none, branched-both}
 use Rattle.checker.proofs.steps.branch.Statement.{statement}
 use Rattle.checker.proofs.steps.branch.Tie as tie
 
 fork-requires : tie.Need-fork-requires
 fork-requires c κs =
     let p = c .before .before .before .before .before .before .before .before .before .before .before .before .before .before .pre in
-    (both-lent (p .0) (c .before .before .enum-told3 .given .1) (c .before .before .before .before .before .before .choose .ensures), waits-few (c .before .before .before .before .before .before .before .before .before .before .wait .ensures) (p .1 .1 .0) (p .1 .1 .1))
+    both-forkable (p .0) (c .before .before .enum-told3 .given .1) (c .before .before .before .before .before .before .choose .ensures) (p .1 .1 .1 .1) (c .before .before .before .before .before .before .before .before .before .before .wait .ensures) (p .1 .0) (p .1 .1 .0) (p .1 .1 .1 .0)
 
 assume-requires : tie.Need-assume-requires
 assume-requires c κs =

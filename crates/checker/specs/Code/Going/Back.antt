@@ -44,7 +44,7 @@ module _ {table ws fs : List ℕ} {t q : ℕ} (x : Returnable table ws fs t q) (
   pub back-lent : 512 ≤ length fs
   back-lent = omega (arith, x .returning .stands .framed)
 
-  pub back-framed : 960 ≤ length fs₁
+  pub back-framed : 640 ≤ length fs₁
   back-framed = omega (arith, x .returning .stands .framed, length-set fs 0 (upOf fs (frameIn fs) / 4))
 
   pub back-node : 4 * n + 3 < length table

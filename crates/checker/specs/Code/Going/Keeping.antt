@@ -142,16 +142,18 @@ awaits-base (for-body s l o m a) = let h = awaits-base a in omega arith
 
 -- ---- the forks left
 
-forked-kept : {xs gs fs hs : List ℕ} (j : ℕ) → ((k : ℕ) → 512 ≤ k → k < 512 + 7 * suc j → getD hs k 0 ≡ getD fs k 0) → Forked xs gs j fs → Forked xs gs j hs
+forked-kept : {xs gs fs hs : List ℕ} (j : ℕ) → ((k : ℕ) → 512 ≤ k → k < 512 + 2 * suc j → getD hs k 0 ≡ getD fs k 0) → Forked xs gs j fs → Forked xs gs j hs
 forked-kept j b f =
+    let x = b (512 + 2 * j) (omega arith) (omega arith) in
+    let y = b (512 + 2 * j + 1) (omega arith) (omega arith) in
     record {
-      frame = b (512 + 7 * j) (omega arith) (omega arith) ∙ f .frame;
-      count = b (512 + 7 * j + 1) (omega arith) (omega arith) ∙ f .count;
-      next = b (512 + 7 * j + 2) (omega arith) (omega arith) ∙ f .next;
-      condition = b (512 + 7 * j + 3) (omega arith) (omega arith) ∙ f .condition;
-      writes = b (512 + 7 * j + 4) (omega arith) (omega arith) ∙ f .writes;
-      start = b (512 + 7 * j + 5) (omega arith) (omega arith) ∙ f .start;
-      depth = b (512 + 7 * j + 6) (omega arith) (omega arith) ∙ f .depth;
+      frame = rw x (f .frame);
+      count = rw x (f .count);
+      next = rw x (f .next);
+      condition = rw x (f .condition);
+      writes = rw y (f .writes);
+      start = rw y (f .start);
+      depth = rw y (f .depth);
     }
 
 pub left-kept : {limit : ℕ} {table : List ℕ} {bound base : ℕ} {ground : List Symbolic} {ws fs left gs : List ℕ} {j : ℕ} {ls : List Leaf}

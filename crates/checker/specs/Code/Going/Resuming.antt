@@ -263,7 +263,7 @@ module _ {table ws fs : List ℕ} (x : Resumable table ws fs) where
   pub resume-lent : 1371 ≤ length ws
   resume-lent = x .stands .lent
 
-  pub resume-framed : 960 ≤ length fs
+  pub resume-framed : 640 ≤ length fs
   resume-framed = x .stands .framed
 
   pub resume-few : forkedIn fs ≤ 64

@@ -8,86 +8,75 @@ use lib.Seq.{getD-set-same, getD-set-other}
 use Rattle.rules.specs.Symbolic.{Symbolic}
 use Rattle.terms.specs.Terms.{countIn, Grown, symbolLimit}
 use Rattle.checker.specs.Code.Frames.{frameIn, upOf, firstOf, secondOf}
-use Rattle.checker.specs.Code.Going.{Later, Slot, Awaits, no-frame, for-only, for-first, for-second, for-body, forkedIn, framesSize, forkAt, Forks, Rewound, RestoredOne, Restorable, Restores}
+use Rattle.checker.specs.Code.Going.{Later, Slot, Awaits, no-frame, for-only, for-first, for-second, for-body, forkedIn, framesSize, forkAt, savedFrame, savedCount, savedNext, savedCondition, savedWrites, savedStart, savedDepth, Forkable, Forks, Rewound, RestoredOne, Restorable, Restores}
 use Rattle.checker.specs.Code.Going.Keeping.{awaits-base}
 use Rattle.checker.specs.Code.Notes.{baseIn}
 use Rattle.checker.specs.Code.State.{nextIn, conditionIn, writesIn, startIn, depthIn, spaceSize, Means, Variables, oneMore}
 use Rattle.checker.specs.Code.State.Laws.{means-at, variables-kept, same-grown}
 
+-- ---- several numbers below 256 in one
+
+lowest : (a b : ℕ) → a < 256 → (a + 256 * b) % 256 ≡ a
+lowest a b l = omega arith
+
+upper : (a b : ℕ) → a < 256 → (a + 256 * b) / 256 ≡ b
+upper a b l = omega arith
+
+upper-two : (a b c : ℕ) → a < 256 → b < 256 → (a + 256 * (b + 256 * c)) / 65536 ≡ c
+upper-two a b c l h = omega arith
+
+upper-three : (a b c d : ℕ) → a < 256 → b < 256 → c < 256 → (a + 256 * (b + 256 * (c + 256 * d))) / 16777216 ≡ d
+upper-three a b c d l h i = omega arith
+
 -- ---- keeping a fork
 
--- its seven numbers and the count of the forks, one store after the other
-module _ (ws fs : List ℕ) (framed : framesSize ≤ length fs) (few : forkedIn fs < 64) where
+-- its two numbers and the count of the forks, one store after the other
+module _ (ws fs : List ℕ) (can : Forkable ws fs) where
+  abbrev first : ℕ
+  first = frameIn fs + 256 * (countIn ws + 256 * (nextIn ws + 256 * conditionIn ws))
+
+  abbrev second : ℕ
+  second = writesIn ws + 256 * (startIn ws + 256 * depthIn ws)
+
   abbrev x1 : List ℕ
-  x1 = set fs (forkAt (forkedIn fs)) (frameIn fs)
+  x1 = set fs (forkAt (forkedIn fs)) first
 
   abbrev x2 : List ℕ
-  x2 = set x1 (forkAt (forkedIn fs) + 1) (countIn ws)
+  x2 = set x1 (forkAt (forkedIn fs) + 1) second
 
   abbrev x3 : List ℕ
-  x3 = set x2 (forkAt (forkedIn fs) + 2) (nextIn ws)
+  x3 = set x2 2 (forkedIn fs + 1)
 
-  abbrev x4 : List ℕ
-  x4 = set x3 (forkAt (forkedIn fs) + 3) (conditionIn ws)
+  first-is : getD x3 (forkAt (forkedIn fs)) 0 ≡ first
+  first-is =
+      getD-set-other x2 2 (forkAt (forkedIn fs)) (forkedIn fs + 1) 0 (λ e. omega arith)
+      ∙ getD-set-other x1 (forkAt (forkedIn fs) + 1) (forkAt (forkedIn fs)) second 0 (λ e. omega arith)
+      ∙ getD-set-same fs (forkAt (forkedIn fs)) first 0 (omega (arith, can .framed, can .few))
 
-  abbrev x5 : List ℕ
-  x5 = set x4 (forkAt (forkedIn fs) + 4) (writesIn ws)
+  second-is : getD x3 (forkAt (forkedIn fs) + 1) 0 ≡ second
+  second-is =
+      getD-set-other x2 2 (forkAt (forkedIn fs) + 1) (forkedIn fs + 1) 0 (λ e. omega arith)
+      ∙ getD-set-same x1 (forkAt (forkedIn fs) + 1) second 0 (simp length-set (omega (arith, can .framed, can .few)))
 
-  abbrev x6 : List ℕ
-  x6 = set x5 (forkAt (forkedIn fs) + 5) (startIn ws)
-
-  abbrev x7 : List ℕ
-  x7 = set x6 (forkAt (forkedIn fs) + 6) (depthIn ws)
-
-  abbrev x8 : List ℕ
-  x8 = set x7 2 (forkedIn fs + 1)
-
-  -- the first of them are not changed by the later ones
-  from7 : (k : ℕ) → (k ≡ 2 → ⊥) → getD x8 k 0 ≡ getD x7 k 0
-  from7 k n = getD-set-other x7 2 k (forkedIn fs + 1) 0 n
-
-  from6 : (k : ℕ) → (k ≡ 2 → ⊥) → k < forkAt (forkedIn fs) + 6 → getD x8 k 0 ≡ getD x6 k 0
-  from6 k n l = from7 k n ∙ getD-set-other x6 (forkAt (forkedIn fs) + 6) k (depthIn ws) 0 λ e. omega arith
-
-  from5 : (k : ℕ) → (k ≡ 2 → ⊥) → k < forkAt (forkedIn fs) + 5 → getD x8 k 0 ≡ getD x5 k 0
-  from5 k n l = from6 k n (omega arith) ∙ getD-set-other x5 (forkAt (forkedIn fs) + 5) k (startIn ws) 0 λ e. omega arith
-
-  from4 : (k : ℕ) → (k ≡ 2 → ⊥) → k < forkAt (forkedIn fs) + 4 → getD x8 k 0 ≡ getD x4 k 0
-  from4 k n l = from5 k n (omega arith) ∙ getD-set-other x4 (forkAt (forkedIn fs) + 4) k (writesIn ws) 0 λ e. omega arith
-
-  from3 : (k : ℕ) → (k ≡ 2 → ⊥) → k < forkAt (forkedIn fs) + 3 → getD x8 k 0 ≡ getD x3 k 0
-  from3 k n l = from4 k n (omega arith) ∙ getD-set-other x3 (forkAt (forkedIn fs) + 3) k (conditionIn ws) 0 λ e. omega arith
-
-  from2 : (k : ℕ) → (k ≡ 2 → ⊥) → k < forkAt (forkedIn fs) + 2 → getD x8 k 0 ≡ getD x2 k 0
-  from2 k n l = from3 k n (omega arith) ∙ getD-set-other x2 (forkAt (forkedIn fs) + 2) k (nextIn ws) 0 λ e. omega arith
-
-  from1 : (k : ℕ) → (k ≡ 2 → ⊥) → k < forkAt (forkedIn fs) + 1 → getD x8 k 0 ≡ getD x1 k 0
-  from1 k n l = from2 k n (omega arith) ∙ getD-set-other x1 (forkAt (forkedIn fs) + 1) k (countIn ws) 0 λ e. omega arith
-
-  from0 : (k : ℕ) → (k ≡ 2 → ⊥) → k < forkAt (forkedIn fs) → getD x8 k 0 ≡ getD fs k 0
-  from0 k n l = from1 k n (omega arith) ∙ getD-set-other fs (forkAt (forkedIn fs)) k (frameIn fs) 0 λ e. omega arith
-
-  pub kept-fork : Forks ws fs x8
+  pub kept-fork : Forks ws fs x3
   kept-fork =
       record {
         same = simp length-set;
-        forked = getD-set-same x7 2 (forkedIn fs + 1) 0 (simp length-set (omega arith)) ∙ omega arith;
+        forked = getD-set-same x2 2 (forkedIn fs + 1) 0 (simp length-set (omega (arith, can .framed))) ∙ omega arith;
         slot = record {
-          frame = from1 (forkAt (forkedIn fs)) (λ e. omega arith) (omega arith) ∙ getD-set-same fs (forkAt (forkedIn fs)) (frameIn fs) 0 (omega arith);
-          count = from2 (forkAt (forkedIn fs) + 1) (λ e. omega arith) (omega arith)
-              ∙ getD-set-same x1 (forkAt (forkedIn fs) + 1) (countIn ws) 0 (simp length-set (omega arith));
-          next = from3 (forkAt (forkedIn fs) + 2) (λ e. omega arith) (omega arith)
-              ∙ getD-set-same x2 (forkAt (forkedIn fs) + 2) (nextIn ws) 0 (simp length-set (omega arith));
-          condition = from4 (forkAt (forkedIn fs) + 3) (λ e. omega arith) (omega arith)
-              ∙ getD-set-same x3 (forkAt (forkedIn fs) + 3) (conditionIn ws) 0 (simp length-set (omega arith));
-          writes = from5 (forkAt (forkedIn fs) + 4) (λ e. omega arith) (omega arith)
-              ∙ getD-set-same x4 (forkAt (forkedIn fs) + 4) (writesIn ws) 0 (simp length-set (omega arith));
-          start = from6 (forkAt (forkedIn fs) + 5) (λ e. omega arith) (omega arith)
-              ∙ getD-set-same x5 (forkAt (forkedIn fs) + 5) (startIn ws) 0 (simp length-set (omega arith));
-          depth = from7 (forkAt (forkedIn fs) + 6) (λ e. omega arith)
-              ∙ getD-set-same x6 (forkAt (forkedIn fs) + 6) (depthIn ws) 0 (simp length-set (omega arith));
+          frame = rw first-is (lowest (frameIn fs) _ (can .frame));
+          count = rw (first-is, upper (frameIn fs) (countIn ws + 256 * (nextIn ws + 256 * conditionIn ws)) (can .frame))
+              (lowest (countIn ws) _ (can .count));
+          next = rw (first-is, upper-two (frameIn fs) (countIn ws) (nextIn ws + 256 * conditionIn ws) (can .frame) (can .count))
+              (lowest (nextIn ws) _ (can .next));
+          condition = rw first-is (upper-three (frameIn fs) (countIn ws) (nextIn ws) _ (can .frame) (can .count) (can .next));
+          writes = rw second-is (lowest (writesIn ws) _ (can .writes));
+          start = rw (second-is, upper (writesIn ws) (startIn ws + 256 * depthIn ws) (can .writes)) (lowest (startIn ws) _ (can .start));
+          depth = rw second-is (upper-two (writesIn ws) (startIn ws) _ (can .writes) (can .start));
         };
-        others = from0;
+        others = λ k n l.
+            getD-set-other x2 2 k (forkedIn fs + 1) 0 n ∙ getD-set-other x1 (forkAt (forkedIn fs) + 1) k second 0 (λ e. omega arith)
+            ∙ getD-set-other fs (forkAt (forkedIn fs)) k first 0 (λ e. omega arith);
       }
 
 -- ---- going back to a fork
@@ -95,78 +84,75 @@ module _ (ws fs : List ℕ) (framed : framesSize ≤ length fs) (few : forkedIn 
 -- six numbers in the workspace, in the order of their places, and the first three of the frames
 module _ (ws fs : List ℕ) (lent : spaceSize ≤ length ws) (framed : framesSize ≤ length fs) (j : ℕ) where
   abbrev y1 : List ℕ
-  y1 = set ws 288 (getD fs (forkAt j + 1) 0)
+  y1 = set ws 288 (savedCount fs j)
 
   abbrev y2 : List ℕ
-  y2 = set y1 724 (getD fs (forkAt j + 2) 0)
+  y2 = set y1 724 (savedNext fs j)
 
   abbrev y3 : List ℕ
-  y3 = set y2 725 (getD fs (forkAt j + 3) 0)
+  y3 = set y2 725 (savedCondition fs j)
 
   abbrev y4 : List ℕ
-  y4 = set y3 726 (getD fs (forkAt j + 4) 0)
+  y4 = set y3 726 (savedWrites fs j)
 
   abbrev y5 : List ℕ
-  y5 = set y4 727 (getD fs (forkAt j + 5) 0)
+  y5 = set y4 727 (savedStart fs j)
 
   abbrev y6 : List ℕ
-  y6 = set y5 728 (getD fs (forkAt j + 6) 0)
+  y6 = set y5 728 (savedDepth fs j)
 
   below5 : (k : ℕ) → k < 728 → getD y6 k 0 ≡ getD y5 k 0
-  below5 k l = getD-set-other y5 728 k (getD fs (forkAt j + 6) 0) 0 λ e. omega arith
+  below5 k l = getD-set-other y5 728 k (savedDepth fs j) 0 λ e. omega arith
 
   below4 : (k : ℕ) → k < 727 → getD y6 k 0 ≡ getD y4 k 0
-  below4 k l = below5 k (omega arith) ∙ getD-set-other y4 727 k (getD fs (forkAt j + 5) 0) 0 λ e. omega arith
+  below4 k l = below5 k (omega arith) ∙ getD-set-other y4 727 k (savedStart fs j) 0 λ e. omega arith
 
   below3 : (k : ℕ) → k < 726 → getD y6 k 0 ≡ getD y3 k 0
-  below3 k l = below4 k (omega arith) ∙ getD-set-other y3 726 k (getD fs (forkAt j + 4) 0) 0 λ e. omega arith
+  below3 k l = below4 k (omega arith) ∙ getD-set-other y3 726 k (savedWrites fs j) 0 λ e. omega arith
 
   below2 : (k : ℕ) → k < 725 → getD y6 k 0 ≡ getD y2 k 0
-  below2 k l = below3 k (omega arith) ∙ getD-set-other y2 725 k (getD fs (forkAt j + 3) 0) 0 λ e. omega arith
+  below2 k l = below3 k (omega arith) ∙ getD-set-other y2 725 k (savedCondition fs j) 0 λ e. omega arith
 
   below1 : (k : ℕ) → k < 724 → getD y6 k 0 ≡ getD y1 k 0
-  below1 k l = below2 k (omega arith) ∙ getD-set-other y1 724 k (getD fs (forkAt j + 2) 0) 0 λ e. omega arith
+  below1 k l = below2 k (omega arith) ∙ getD-set-other y1 724 k (savedNext fs j) 0 λ e. omega arith
 
   above : (k : ℕ) → 729 ≤ k → getD y6 k 0 ≡ getD ws k 0
   above k l =
-      getD-set-other y5 728 k (getD fs (forkAt j + 6) 0) 0 (λ e. omega arith)
-      ∙ getD-set-other y4 727 k (getD fs (forkAt j + 5) 0) 0 (λ e. omega arith)
-      ∙ getD-set-other y3 726 k (getD fs (forkAt j + 4) 0) 0 (λ e. omega arith)
-      ∙ getD-set-other y2 725 k (getD fs (forkAt j + 3) 0) 0 (λ e. omega arith)
-      ∙ getD-set-other y1 724 k (getD fs (forkAt j + 2) 0) 0 (λ e. omega arith)
-      ∙ getD-set-other ws 288 k (getD fs (forkAt j + 1) 0) 0 (λ e. omega arith)
+      getD-set-other y5 728 k (savedDepth fs j) 0 (λ e. omega arith)
+      ∙ getD-set-other y4 727 k (savedStart fs j) 0 (λ e. omega arith)
+      ∙ getD-set-other y3 726 k (savedWrites fs j) 0 (λ e. omega arith)
+      ∙ getD-set-other y2 725 k (savedCondition fs j) 0 (λ e. omega arith)
+      ∙ getD-set-other y1 724 k (savedNext fs j) 0 (λ e. omega arith)
+      ∙ getD-set-other ws 288 k (savedCount fs j) 0 (λ e. omega arith)
 
   abbrev z1 : List ℕ
-  z1 = set fs 0 (getD fs (forkAt j) 0)
+  z1 = set fs 0 (savedFrame fs j)
 
   abbrev z2 : List ℕ
-  z2 = set z1 1 (getD z1 (forkAt j) 0)
+  z2 = set z1 1 (savedFrame fs j)
 
   abbrev z3 : List ℕ
   z3 = set z2 2 j
-
-  z2-other : (k : ℕ) → 2 ≤ k → getD z2 k 0 ≡ getD fs k 0
-  z2-other k l = getD-set-other z1 1 k (getD z1 (forkAt j) 0) 0 (λ e. omega arith) ∙ getD-set-other fs 0 k (getD fs (forkAt j) 0) 0 λ e. omega arith
 
   pub gone-back : Rewound j ws fs y6 z3
   gone-back =
       record {
         same = simp length-set;
         framed = simp length-set;
-        count = below1 288 (omega arith) ∙ getD-set-same ws 288 (getD fs (forkAt j + 1) 0) 0 (omega arith);
-        next = below2 724 (omega arith) ∙ getD-set-same y1 724 (getD fs (forkAt j + 2) 0) 0 (simp length-set (omega arith));
-        condition = below3 725 (omega arith) ∙ getD-set-same y2 725 (getD fs (forkAt j + 3) 0) 0 (simp length-set (omega arith));
-        writes = below4 726 (omega arith) ∙ getD-set-same y3 726 (getD fs (forkAt j + 4) 0) 0 (simp length-set (omega arith));
-        start = below5 727 (omega arith) ∙ getD-set-same y4 727 (getD fs (forkAt j + 5) 0) 0 (simp length-set (omega arith));
-        depth = getD-set-same y5 728 (getD fs (forkAt j + 6) 0) 0 (simp length-set (omega arith));
-        before = λ k l n. below1 k l ∙ getD-set-other ws 288 k (getD fs (forkAt j + 1) 0) 0 n;
+        count = below1 288 (omega arith) ∙ getD-set-same ws 288 (savedCount fs j) 0 (omega arith);
+        next = below2 724 (omega arith) ∙ getD-set-same y1 724 (savedNext fs j) 0 (simp length-set (omega arith));
+        condition = below3 725 (omega arith) ∙ getD-set-same y2 725 (savedCondition fs j) 0 (simp length-set (omega arith));
+        writes = below4 726 (omega arith) ∙ getD-set-same y3 726 (savedWrites fs j) 0 (simp length-set (omega arith));
+        start = below5 727 (omega arith) ∙ getD-set-same y4 727 (savedStart fs j) 0 (simp length-set (omega arith));
+        depth = getD-set-same y5 728 (savedDepth fs j) 0 (simp length-set (omega arith));
+        before = λ k l n. below1 k l ∙ getD-set-other ws 288 k (savedCount fs j) 0 n;
         beyond = above;
-        frame = getD-set-other z2 2 0 j 0 (λ e. omega arith) ∙ getD-set-other z1 1 0 (getD z1 (forkAt j) 0) 0 (λ e. omega arith)
-            ∙ getD-set-same fs 0 (getD fs (forkAt j) 0) 0 (omega arith);
-        top = getD-set-other z2 2 1 j 0 (λ e. omega arith) ∙ getD-set-same z1 1 (getD z1 (forkAt j) 0) 0 (simp length-set (omega arith))
-            ∙ getD-set-other fs 0 (forkAt j) (getD fs (forkAt j) 0) 0 λ e. omega arith;
+        frame = getD-set-other z2 2 0 j 0 (λ e. omega arith) ∙ getD-set-other z1 1 0 (savedFrame fs j) 0 (λ e. omega arith)
+            ∙ getD-set-same fs 0 (savedFrame fs j) 0 (omega arith);
+        top = getD-set-other z2 2 1 j 0 (λ e. omega arith) ∙ getD-set-same z1 1 (savedFrame fs j) 0 (simp length-set (omega arith));
         forked = getD-set-same z2 2 j 0 (simp length-set (omega arith));
-        others = λ k l. getD-set-other z2 2 k j 0 (λ e. omega arith) ∙ z2-other k (omega arith);
+        others = λ k l. getD-set-other z2 2 k j 0 (λ e. omega arith) ∙ getD-set-other z1 1 k (savedFrame fs j) 0 (λ e. omega arith)
+            ∙ getD-set-other fs 0 k (savedFrame fs j) 0 λ e. omega arith;
       }
 
 -- ---- the variables that the frames have

@@ -8,13 +8,13 @@ use Rattle.script.specs.Code.Forms.{formOf}
 use Rattle.script.specs.declared.Refusal.{Refusal}
 use Rattle.rules.specs.Paths.{Path}
 use Rattle.rules.specs.Symbolic.{Symbolic}
-use Rattle.terms.specs.Terms.{Space}
-use Rattle.checker.specs.Code.Frames.{Waits}
-use Rattle.checker.specs.Code.Going.{unbound, movedBy, forkedIn, framesSize, Forks, Branched, to-first, to-second, to-both, to-none, Lasts}
+use Rattle.terms.specs.Terms.{Space, symbolLimit}
+use Rattle.checker.specs.Code.Frames.{Waitable, Waits}
+use Rattle.checker.specs.Code.Going.{unbound, movedBy, forkedIn, framesSize, Forkable, Forks, Branched, to-first, to-second, to-both, to-none, Lasts}
 use Rattle.checker.specs.Code.Paths.{assumed}
 use Rattle.checker.specs.Code.Rules.{Two, Chosen, both, Chooses, Decidable}
-use Rattle.checker.specs.Code.State.{spaceSize}
-use Rattle.checker.specs.Code.State.Laws.{room-space}
+use Rattle.checker.specs.Code.State.{depthIn, spaceSize}
+use Rattle.checker.specs.Code.State.Laws.{room-space, log-from}
 use Rattle.checker.specs.declared.operators.Step.{Step}
 use Rattle.checker.specs.declared.path.Branch.{Branch}
 use Rattle.checker.specs.declared.path.Branch.the-variants.{First, Second, Both, Neither}
@@ -46,10 +46,29 @@ module _ {n t q : ℕ} {ws left : List ℕ} {r : Branch} (d : Decidable ws t q) 
   pub both-space : Space left 1
   both-space = rw both-same (room-space (d .room))
 
--- a new frame is no fork
-pub waits-few : {n given x y : ℕ} {fs gs : List ℕ} → Waits n given x y fs gs → framesSize ≤ length fs → forkedIn fs < 64
-    → (framesSize ≤ length gs) × (forkedIn gs < 64)
-waits-few w l h = let j = w .others 2 (omega arith) λ a b. omega arith in (omega (arith, w .same), omega arith)
+-- the path's numbers are small enough for a fork, and a new frame is none
+pub both-forkable : {n t q given x y : ℕ} {ws left fs gs : List ℕ} {r : Branch} → Decidable ws t q → r ≡ Both → Chooses n t q ws r left → depthIn ws ≤ symbolLimit
+    → Waits n given x y fs gs → Waitable fs → framesSize ≤ length fs → forkedIn fs < 64 → Forkable left gs
+both-forkable {ws = ws} {gs = gs} d e h narrow w can l f = rw (both-same d e h) now
+  where
+    now : Forkable ws gs
+    now =
+        let r = d .room in
+        let i = d .holds .inside in
+        let s = log-from (d .holds .log) in
+        let j = w .others 2 (omega arith) λ a b. omega arith in
+        record {
+          lent = r .lent;
+          framed = omega (arith, w .same);
+          few = omega arith;
+          frame = omega (arith, w .frame, can .few);
+          count = omega (arith, r .rows);
+          next = omega (arith, r .symbols);
+          condition = omega (arith, i, r .rows);
+          writes = omega (arith, r .writes);
+          start = omega (arith, s, r .writes);
+          depth = omega arith;
+        }
 
 module _ {b c n t q : ℕ} {ws fs left gs : List ℕ} {r : Branch} (w : Waits n 1 t q fs gs) (h : Chooses n t q ws r left) where
   pub branched-first : r ≡ First → Branched b c n t q ws fs left gs (Operand b)

@@ -153,7 +153,7 @@ module _ {limit : ℕ} {table : List ℕ} {bound base : ℕ} {ground : List Symb
 -- after so many paths, the rest of the verdict is that of the leaves to come from node `next` on
 pub record Turn (table types : List ℕ) (depth limit n a : ℕ) (ws fs : List ℕ) (followed kind next : ℕ) : Type 0 where
   pub whole : length ws ≡ 1371
-  pub framed : length fs ≡ 960
+  pub framed : length fs ≡ 640
   pub above : suc a ≤ n
   pub to-come : List Leaf
   pub entering : Entering limit table (suc a) depth (symbols 0 (typesOn types depth)) ws fs next to-come
@@ -218,7 +218,7 @@ module _ {table types : List ℕ} {depth limit n a : ℕ} {ws fs : List ℕ} {fo
 
 -- ---- the start
 
-pub turn-start : {table types : List ℕ} {depth limit n a : ℕ} {ws fs : List ℕ} → length ws ≡ 1371 → length fs ≡ 960 → ((k : ℕ) → getD fs k 0 ≡ 0) → a < n
+pub turn-start : {table types : List ℕ} {depth limit n a : ℕ} {ws fs : List ℕ} → length ws ≡ 1371 → length fs ≡ 640 → ((k : ℕ) → getD fs k 0 ≡ 0) → a < n
     → Checkable table types depth a → Started depth (typesOn types depth) ws → Turn table types depth limit n a ws fs 0 0 a
 unfolding goOn
 turn-start {table} {types} {depth} {limit} {n} {a} {ws} {fs} whole framed zeros above q s =
@@ -269,5 +269,5 @@ turn-start {table} {types} {depth} {limit} {n} {a} {ws} {fs} whole framed zeros 
       type = refl;
     }
 
-pub no-frames : (k : ℕ) → getD (replicate {A = ℕ} 960 0) k 0 ≡ 0
-no-frames k = same-anywhere 960 0 k
+pub no-frames : (k : ℕ) → getD (replicate {A = ℕ} 640 0) k 0 ≡ 0
+no-frames k = same-anywhere 640 0 k

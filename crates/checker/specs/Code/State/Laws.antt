@@ -123,6 +123,10 @@ log-kept b g (aWrite {k = k} r m n) =
     (means-at g (b (729 + 4 * k) (omega arith) (omega arith)) (b (729 + 4 * k + 1) (omega arith) (omega arith)) m)
     (means-at g (b (729 + 4 * k + 2) (omega arith) (omega arith)) (b (729 + 4 * k + 3) (omega arith) (omega arith)) n)
 
+pub log-from : {ws : List ℕ} {begin k : ℕ} {l : List Write} → Log ws begin k l → begin ≤ k
+log-from noWrite = omega arith
+log-from (aWrite r m n) = let h = log-from r in omega arith
+
 -- the condition is where it was; next symbol and log are as said
 pub path-moved : {ws left : List ℕ} {p : Path} {n : ℕ} {l : List Write} → Grown ws left → Distinct left → conditionIn left ≡ conditionIn ws → nextIn left ≡ n
     → Log left (startIn left) (writesIn left) l → PathIn ws p → PathIn left (record { next = n; condition = p .condition; log = l })

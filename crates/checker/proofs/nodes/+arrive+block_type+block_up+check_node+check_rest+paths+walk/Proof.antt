@@ -1,64 +1,61 @@
--- The checker meets its contracts: `check_node`, `inner_type`, `paths`, `walk`, `arrive`, `block_up` and `block_type` of `checker::nodes`, which call each
--- other; a node's number falls on the way round. In the answers s is the start's measure and `requires`, node what was read, i and w what holds at a turn of
--- a loop, d the way down to the inner node, j its type, b what a block came to. Assumes nothing.
+-- The checker meets its contracts: `check_node`, `check_rest`, `paths`, `walk`, `arrive`, `block_up` and `block_type` of `checker::nodes`, which call each
+-- other; a node's number falls on the way round. In the answers s is the start's measure and `requires`, q the `requires`, node what was read, h that it has an operand,
+-- d what that one came to, or the way down to the inner node, w what holds at a turn of the loop, b what was bound, or what a block came to. Assumes nothing.
 use borrow.Author.Needs.{needs}
-use borrow.Author.Tests.{not-true}
 use mathlib.Core.Path.{_≡_, refl, sym, _∙_}
 use Prim.Native.Nat.{_+_, _*_, _-_}
 use native.Mathlib.Omega.{arith}
 use lib.ListN.{length}
-use Rattle.script.specs.Code.Forms.{some-operand}
+use Rattle.script.specs.Code.Forms.{has-one, has-more, some-operand}
 use Rattle.checker.specs.Code.Frames.{topIn}
 use Rattle.checker.specs.Code.Frames.Laws.{waits-none}
 use Rattle.checker.specs.Code.Going.Arriving.{up-node, up-space, up-earlier, up-checkable, up-noting, up-refused, up-room, up-returnable, up-climbing, up-stopping}
 use Rattle.checker.specs.Code.Going.Steps.{enters-formed, descends-other}
 use Rattle.checker.specs.Code.Going.Walking.{Walking, walking-start, walking-descendable, walking-enterable, walking-earlier, walking-less, walking-on, walking-stopped, walking-end, walking-ended, Turn, turn-start, turn-walkable, turn-none, turn-wrong, turn-last, turn-more, no-frames}
 use Rattle.checker.specs.Code.Paths.Start.{blank}
-use Rattle.checker.specs.Code.Rising.{callOf, Entering}
-use Rattle.checker.specs.Code.Rising.Down.{entering-checkable, entering-descendable, inner-returns, inner-refused, goes-down}
-use Rattle.checker.specs.Code.Rising.Start.{starting, judged}
-use Rattle.checker.specs.Code.Rising.Answers.{risen-typed, risen-operand, risen-refused}
-use Rattle.checker.specs.Code.Rules.{Aside}
 use Rattle.checker.specs.Code.Rules.Blocks.{block-small, block-recallables, block-recalled, judged-lent, block-judged, block-noted}
-use Rattle.checker.specs.Code.Rules.Typed.{aside-refl, aside-trans, first-earlier, first-checkable, leaf-checked, sym-checked}
+use Rattle.checker.specs.Code.Rules.Typed.{leaf-judged, first-earlier, first-checkable, sym-judged, one-judged, rest-checkable, rest-judged, first-refused, bind-room, second-earlier, second-checkable, third-earlier, third-checkable, if-judged, third-refused, two-judged, second-refused}
 use Prim.Native.Nat.{ℕ, _<_}
 use borrow.Fn.Kinds.{In}
 use borrow.Fn.PlainCycle.{Measures, is, falls, and}
 use Rattle.checker.proofs.nodes.arrive.Reads as arrive
 use Rattle.checker.proofs.nodes.arrive.Kinds as arrive-kinds
-use Rattle.checker.proofs.nodes.+arrive+block_type+block_up+check_node+inner_type+paths+walk.Lts-arrive as arrive-lts
+use Rattle.checker.proofs.nodes.+arrive+block_type+block_up+check_node+check_rest+paths+walk.Lts-arrive as arrive-lts
 use Rattle.checker.proofs.nodes.block_type.Reads as block-type
 use Rattle.checker.proofs.nodes.block_type.Kinds as block-type-kinds
-use Rattle.checker.proofs.nodes.+arrive+block_type+block_up+check_node+inner_type+paths+walk.Lts-block_type as block-type-lts
+use Rattle.checker.proofs.nodes.+arrive+block_type+block_up+check_node+check_rest+paths+walk.Lts-block_type as block-type-lts
 use Rattle.checker.proofs.nodes.block_up.Reads as block-up
 use Rattle.checker.proofs.nodes.block_up.Kinds as block-up-kinds
-use Rattle.checker.proofs.nodes.+arrive+block_type+block_up+check_node+inner_type+paths+walk.Lts-block_up as block-up-lts
+use Rattle.checker.proofs.nodes.+arrive+block_type+block_up+check_node+check_rest+paths+walk.Lts-block_up as block-up-lts
 use Rattle.checker.proofs.nodes.check_node.Reads as check-node
 use Rattle.checker.proofs.nodes.check_node.Kinds as check-node-kinds
-use Rattle.checker.proofs.nodes.+arrive+block_type+block_up+check_node+inner_type+paths+walk.Lts-check_node as check-node-lts
-use Rattle.checker.proofs.nodes.inner_type.Reads as inner-type
-use Rattle.checker.proofs.nodes.inner_type.Kinds as inner-type-kinds
-use Rattle.checker.proofs.nodes.+arrive+block_type+block_up+check_node+inner_type+paths+walk.Lts-inner_type as inner-type-lts
+use Rattle.checker.proofs.nodes.+arrive+block_type+block_up+check_node+check_rest+paths+walk.Lts-check_node as check-node-lts
+use Rattle.checker.proofs.nodes.check_rest.Reads as check-rest
+use Rattle.checker.proofs.nodes.check_rest.Kinds as check-rest-kinds
+use Rattle.checker.proofs.nodes.+arrive+block_type+block_up+check_node+check_rest+paths+walk.Lts-check_rest as check-rest-lts
 use Rattle.checker.proofs.nodes.paths.Reads as paths
 use Rattle.checker.proofs.nodes.paths.Kinds as paths-kinds
-use Rattle.checker.proofs.nodes.+arrive+block_type+block_up+check_node+inner_type+paths+walk.Lts-paths as paths-lts
+use Rattle.checker.proofs.nodes.+arrive+block_type+block_up+check_node+check_rest+paths+walk.Lts-paths as paths-lts
 use Rattle.checker.proofs.nodes.walk.Reads as walk
 use Rattle.checker.proofs.nodes.walk.Kinds as walk-kinds
-use Rattle.checker.proofs.nodes.+arrive+block_type+block_up+check_node+inner_type+paths+walk.Lts-walk as walk-lts
+use Rattle.checker.proofs.nodes.+arrive+block_type+block_up+check_node+check_rest+paths+walk.Lts-walk as walk-lts
 use Rattle.checker.proofs.frames.descend.Reads as descend-reads
-use Rattle.checker.proofs.frames.waits.Reads as waits-reads
 use Rattle.checker.proofs.nodes.path_end.Reads as path-end-reads
 use Rattle.checker.proofs.notes.note.Reads as note-reads
 use Rattle.checker.proofs.notes.recall.Reads as recall-reads
 use Rattle.checker.proofs.operators.typed_result.Reads as typed-result-reads
 use Rattle.checker.proofs.path.start.Reads as start-reads
-use Rattle.checker.proofs.rise.ascend.Reads as ascend-reads
 use Rattle.checker.proofs.steps.climb.Reads as climb-reads
 use Rattle.checker.proofs.steps.leaf_up.Reads as leaf-up-reads
+use Rattle.checker.proofs.types.bind_type.Reads as bind-type-reads
+use Rattle.checker.proofs.types.if_type.Reads as if-type-reads
 use Rattle.checker.proofs.types.leaf_type.Reads as leaf-type-reads
+use Rattle.checker.proofs.types.one_type.Reads as one-type-reads
+use Rattle.checker.proofs.types.two_type.Reads as two-type-reads
+use Rattle.script.proofs.table.has_one.Reads as has-one-reads
 use Rattle.script.proofs.table.node_at.Reads as node-at-reads
-use Rattle.checker.proofs.nodes.+arrive+block_type+block_up+check_node+inner_type+paths+walk.{statement}
-use Rattle.checker.proofs.nodes.+arrive+block_type+block_up+check_node+inner_type+paths+walk.Tie.{close}
+use Rattle.checker.proofs.nodes.+arrive+block_type+block_up+check_node+check_rest+paths+walk.{statement}
+use Rattle.checker.proofs.nodes.+arrive+block_type+block_up+check_node+check_rest+paths+walk.Tie.{close}
 
 abbrev μ-arrive : Measures 3 arrive-kinds.ps ℕ
 μ-arrive κs a = 4 * a .1 .1 .1 .1 .0 + 3
@@ -72,8 +69,8 @@ abbrev μ-block-up : Measures 3 block-up-kinds.ps ℕ
 abbrev μ-check-node : Measures 2 check-node-kinds.ps ℕ
 μ-check-node κs a = 4 * a .1 .1 .1 .1 .0 + 3
 
-abbrev μ-inner-type : Measures 2 inner-type-kinds.ps ℕ
-μ-inner-type κs a = 4 * a .1 .1 .1 .1 .0 + 2
+abbrev μ-check-rest : Measures 2 check-rest-kinds.ps ℕ
+μ-check-rest κs a = 4 * a .1 .1 .1 .1 .0 + 2
 
 abbrev μ-paths : Measures 2 paths-kinds.ps ℕ
 μ-paths κs a = 4 * a .1 .1 .1 .1 .0 + 1
@@ -105,11 +102,11 @@ check-node-at t = and 2 check-node-kinds.ps (is 2 check-node-kinds.ps μ-check-n
 abbrev check-node-below : ℕ → In 2 check-node-kinds.ps
 check-node-below t = and 2 check-node-kinds.ps (falls 2 check-node-kinds.ps _<_ μ-check-node t) check-node.Pre
 
-abbrev inner-type-at : ℕ → In 2 inner-type-kinds.ps
-inner-type-at t = and 2 inner-type-kinds.ps (is 2 inner-type-kinds.ps μ-inner-type t) inner-type.Pre
+abbrev check-rest-at : ℕ → In 2 check-rest-kinds.ps
+check-rest-at t = and 2 check-rest-kinds.ps (is 2 check-rest-kinds.ps μ-check-rest t) check-rest.Pre
 
-abbrev inner-type-below : ℕ → In 2 inner-type-kinds.ps
-inner-type-below t = and 2 inner-type-kinds.ps (falls 2 inner-type-kinds.ps _<_ μ-inner-type t) inner-type.Pre
+abbrev check-rest-below : ℕ → In 2 check-rest-kinds.ps
+check-rest-below t = and 2 check-rest-kinds.ps (falls 2 check-rest-kinds.ps _<_ μ-check-rest t) check-rest.Pre
 
 abbrev paths-at : ℕ → In 2 paths-kinds.ps
 paths-at t = and 2 paths-kinds.ps (is 2 paths-kinds.ps μ-paths t) paths.Pre
@@ -159,24 +156,32 @@ abbrev check-node-calls : ℕ → check-node-lts.Claims
 check-node-calls t = (
   node-at-reads.Asked,
   node-at-reads.Learnt,
-  waits-reads.Asked,
-  waits-reads.Learnt,
-  inner-type-below t,
-  inner-type.Post,
-  descend-reads.Asked,
-  descend-reads.Learnt,
-  ascend-reads.Asked,
-  ascend-reads.Learnt,
-)
-
-abbrev inner-type-calls : ℕ → inner-type-lts.Claims
-inner-type-calls t = (
-  node-at-reads.Asked,
-  node-at-reads.Learnt,
-  paths-below t,
-  paths.Post,
   leaf-type-reads.Asked,
   leaf-type-reads.Learnt,
+  paths-below t,
+  paths.Post,
+  has-one-reads.Asked,
+  has-one-reads.Learnt,
+  one-type-reads.Asked,
+  one-type-reads.Learnt,
+  check-rest-below t,
+  check-rest.Post,
+  check-node-below t,
+  check-node.Post,
+)
+
+abbrev check-rest-calls : ℕ → check-rest-lts.Claims
+check-rest-calls t = (
+  node-at-reads.Asked,
+  node-at-reads.Learnt,
+  bind-type-reads.Asked,
+  bind-type-reads.Learnt,
+  check-node-below t,
+  check-node.Post,
+  if-type-reads.Asked,
+  if-type-reads.Learnt,
+  two-type-reads.Asked,
+  two-type-reads.Learnt,
 )
 
 abbrev paths-calls : ℕ → paths-lts.Claims
@@ -196,13 +201,6 @@ walk-calls t = (
   path-end-reads.Asked,
   path-end-reads.Learnt,
 )
-
-abbrev check-node-Inv-loop : check-node-lts.InvT-loop
-check-node-Inv-loop table space₀ depth limit n frames₀ next₀ space frames next =
-    (length frames ≡ 512) × Entering (callOf limit table space₀ depth n) table space frames next × Aside depth space₀ space
-
-abbrev check-node-μ-loop : check-node-lts.MeasureT-loop
-check-node-μ-loop table space₀ depth limit n frames₀ next₀ space frames next = 128 - topIn frames
 
 abbrev paths-Inv-loop : paths-lts.InvT-loop
 paths-Inv-loop table types depth limit n a space₀ frames₀ followed₀ wanted₀ next₀ space frames followed wanted next =
@@ -307,117 +305,199 @@ block-up-returns-3 t c =
     let b = rw (c .before .before .before .before .before .before .before .before .before .before .before .before .before .before .before .before .before .before .before .before .before .before .node-at .ensures) at (c .before .before .before .before .before .before .before .before .before .before .before .before .before .before .before .before .before .before .before .block-type .ensures) in
     up-climbing (s .1 .0) (s .1 .1) b (c .before .before .before .before .before .before .before .before .before .before .before .before .before .before .before .t .given .1) (c .before .before .before .before .before .before .before .before .before .before .before .before .typed-result .ensures) (c .before .before .before .before .before .before .before .before .u .given .1) (c .before .before .before .before .climb .ensures)
 
-check-node-node-at-requires : (t : ℕ) → check-node-lts.Need-node-at-requires (check-node-calls t) (check-node-at t) check-node.Post check-node-Inv-loop check-node-μ-loop
-check-node-node-at-requires t c κs = omega (arith, (c .before .before) .pre .1 .formed .room)
+check-node-node-at-requires : (t : ℕ) → check-node-lts.Need-node-at-requires (check-node-calls t) (check-node-at t) check-node.Post
+check-node-node-at-requires t c κs = omega (arith, c .before .before .pre .1 .formed .room)
 
-check-node-inner-type-requires : (t : ℕ) → check-node-lts.Need-inner-type-requires (check-node-calls t) (check-node-at t) check-node.Post check-node-Inv-loop check-node-μ-loop
-check-node-inner-type-requires t c κs =
-    let s = (c .before .before .before .before .before .before) .pre in
-    let w = sym (rw (c .before .before .before .node-at .ensures) at (c .before .before .waits .ensures)) ∙ not-true _ (c .before .if1 .taken) in
-    (omega (arith, s .0), (s .1, w))
-
-check-node-returns : (t : ℕ) → check-node-lts.Need-returns (check-node-calls t) (check-node-at t) check-node.Post check-node-Inv-loop check-node-μ-loop
-check-node-returns t c = record { answer = c .inner-type .ensures; aside = aside-refl _ _ }
-
-check-node-cast-frames : (t : ℕ) → check-node-lts.Need-cast-frames (check-node-calls t) (check-node-at t) check-node.Post check-node-Inv-loop check-node-μ-loop
-check-node-cast-frames t c = record { fits = omega (arith, (c .before .before .before .before .before) .pre .1 .variables) }
-
-check-node-loop-holds : (t : ℕ) → check-node-lts.Need-loop-holds (check-node-calls t) (check-node-at t) check-node.Post check-node-Inv-loop check-node-μ-loop
-check-node-loop-holds t c = (refl, starting _ ((c .before .before .before .before .before) .pre .1), aside-refl _ _)
-
-check-node-slice-aggregate-descend : (t : ℕ) → check-node-lts.Need-slice-aggregate-descend (check-node-calls t) (check-node-at t) check-node.Post check-node-Inv-loop check-node-μ-loop
-check-node-slice-aggregate-descend t c = sym (c .before .loop .inv .0)
-
-check-node-descend-requires : (t : ℕ) → check-node-lts.Need-descend-requires (check-node-calls t) (check-node-at t) check-node.Post check-node-Inv-loop check-node-μ-loop
-check-node-descend-requires t c κs = entering-descendable (c .before .loop .inv .1)
-
-check-node-cast-present : (t : ℕ) → check-node-lts.Need-cast-present (check-node-calls t) (check-node-at t) check-node.Post check-node-Inv-loop check-node-μ-loop
-check-node-cast-present t c =
-    let d = goes-down (c .before .before .before .loop .inv .1) (c .before .descend .ensures) in
-    record { fits = omega (arith, d .entering .variables, d .entering .present .variables) }
-
-check-node-inner-type-requires-2 : (t : ℕ) → check-node-lts.Need-inner-type-requires-2 (check-node-calls t) (check-node-at t) check-node.Post check-node-Inv-loop check-node-μ-loop
-check-node-inner-type-requires-2 t c κs =
-    let s = (c .before .before .before .before .before .before .before .before .before .before) .pre in
-    let d = goes-down (c .before .before .before .before .loop .inv .1) (c .before .before .descend .ensures) in
-    (omega (arith, d .entering .below, s .0), (entering-checkable (d .entering), d .inner))
-
-check-node-same-length-2 : (t : ℕ) → check-node-lts.Need-same-length-2 (check-node-calls t) (check-node-at t) check-node.Post check-node-Inv-loop check-node-μ-loop
-check-node-same-length-2 t c = c .before .before .before .before .before .before .before .before .loop .inv .2 .same
-
-check-node-returns-2 : (t : ℕ) → check-node-lts.Need-returns-2 (check-node-calls t) (check-node-at t) check-node.Post check-node-Inv-loop check-node-μ-loop
-check-node-returns-2 t c =
-    let d = goes-down (c .before .before .before .before .before .before .before .before .loop .inv .1) (c .before .before .before .before .before .before .descend .ensures) in
-    judged (inner-refused (d .entering) (c .before .before .before .inner-type2 .ensures) (c .before .why .given .1)) (c .before .before .before .before .before .before .before .before .loop .inv .2)
-
-check-node-slice-aggregate-ascend : (t : ℕ) → check-node-lts.Need-slice-aggregate-ascend (check-node-calls t) (check-node-at t) check-node.Post check-node-Inv-loop check-node-μ-loop
-check-node-slice-aggregate-ascend t c = sym (c .before .before .before .before .before .before .before .before .descend .kept .1 .0 ∙ c .before .before .before .before .before .before .before .before .before .before .loop .inv .0)
-
-check-node-ascend-requires : (t : ℕ) → check-node-lts.Need-ascend-requires (check-node-calls t) (check-node-at t) check-node.Post check-node-Inv-loop check-node-μ-loop
-check-node-ascend-requires t c κs =
-    let d = goes-down (c .before .before .before .before .before .before .before .before .before .before .loop .inv .1) (c .before .before .before .before .before .before .before .before .descend .ensures) in
-    record { call = _; returning = inner-returns (d .entering) (c .before .before .before .before .before .inner-type2 .ensures) (c .before .before .before .t .given .1) }
-
-check-node-same-length-3 : (t : ℕ) → check-node-lts.Need-same-length-3 (check-node-calls t) (check-node-at t) check-node.Post check-node-Inv-loop check-node-μ-loop
-check-node-same-length-3 t c = c .before .before .before .before .before .before .ascend .kept .1 .0 ∙ c .before .before .before .before .before .before .before .before .before .before .before .before .before .before .before .before .before .loop .inv .2 .same
-
-check-node-returns-3 : (t : ℕ) → check-node-lts.Need-returns-3 (check-node-calls t) (check-node-at t) check-node.Post check-node-Inv-loop check-node-μ-loop
-check-node-returns-3 t c =
-    let d = goes-down (c .before .before .before .before .before .before .before .before .before .before .before .before .before .before .before .before .before .loop .inv .1) (c .before .before .before .before .before .before .before .before .before .before .before .before .before .before .before .descend .ensures) in
-    let u = c .before .before .before .before .before .before .ascend .ensures _ (inner-returns (d .entering) (c .before .before .before .before .before .before .before .before .before .before .before .before .inner-type2 .ensures) (c .before .before .before .before .before .before .before .before .before .before .t .given .1)) in
-    judged (risen-refused (u .risen) (c .before .why2 .given .1)) (aside-trans (omega arith) (c .before .before .before .before .before .before .before .before .before .before .before .before .before .before .before .before .before .loop .inv .2) (u .aside))
-
-check-node-same-length-4 : (t : ℕ) → check-node-lts.Need-same-length-4 (check-node-calls t) (check-node-at t) check-node.Post check-node-Inv-loop check-node-μ-loop
-check-node-same-length-4 t c = c .before .before .before .before .before .before .ascend .kept .1 .0 ∙ c .before .before .before .before .before .before .before .before .before .before .before .before .before .before .before .before .before .loop .inv .2 .same
-
-check-node-returns-4 : (t : ℕ) → check-node-lts.Need-returns-4 (check-node-calls t) (check-node-at t) check-node.Post check-node-Inv-loop check-node-μ-loop
-check-node-returns-4 t c =
-    let d = goes-down (c .before .before .before .before .before .before .before .before .before .before .before .before .before .before .before .before .before .loop .inv .1) (c .before .before .before .before .before .before .before .before .before .before .before .before .before .before .before .descend .ensures) in
-    let u = c .before .before .before .before .before .before .ascend .ensures _ (inner-returns (d .entering) (c .before .before .before .before .before .before .before .before .before .before .before .before .inner-type2 .ensures) (c .before .before .before .before .before .before .before .before .before .before .t .given .1)) in
-    judged (risen-typed (u .risen) (c .before .u .given .1)) (aside-trans (omega arith) (c .before .before .before .before .before .before .before .before .before .before .before .before .before .before .before .before .before .loop .inv .2) (u .aside))
-
-check-node-loop-less : (t : ℕ) → check-node-lts.Need-loop-less (check-node-calls t) (check-node-at t) check-node.Post check-node-Inv-loop check-node-μ-loop
-check-node-loop-less t c =
-    let d = goes-down (c .before .before .before .before .before .before .before .before .before .before .before .before .before .before .before .before .before .loop .inv .1) (c .before .before .before .before .before .before .before .before .before .before .before .before .before .before .before .descend .ensures) in
-    let u = c .before .before .before .before .before .before .ascend .ensures _ (inner-returns (d .entering) (c .before .before .before .before .before .before .before .before .before .before .before .before .inner-type2 .ensures) (c .before .before .before .before .before .before .before .before .before .before .t .given .1)) in
-    let r = risen-operand (u .risen) (c .before .m .given .1) in
-    omega (arith, r .grown, d .grown, r .entering .room)
-
-check-node-loop-again : (t : ℕ) → check-node-lts.Need-loop-again (check-node-calls t) (check-node-at t) check-node.Post check-node-Inv-loop check-node-μ-loop
-check-node-loop-again t c =
-    let d = goes-down (c .before .before .before .before .before .before .before .before .before .before .before .before .before .before .before .before .before .loop .inv .1) (c .before .before .before .before .before .before .before .before .before .before .before .before .before .before .before .descend .ensures) in
-    let u = c .before .before .before .before .before .before .ascend .ensures _ (inner-returns (d .entering) (c .before .before .before .before .before .before .before .before .before .before .before .before .inner-type2 .ensures) (c .before .before .before .before .before .before .before .before .before .before .t .given .1)) in (
-      c .before .before .before .before .before .before .ascend .kept .1 .1 .0 ∙ c .before .before .before .before .before .before .before .before .before .before .before .before .before .before .before .descend .kept .1 .0 ∙ c .before .before .before .before .before .before .before .before .before .before .before .before .before .before .before .before .before .loop .inv .0,
-      risen-operand (u .risen) (c .before .m .given .1) .entering,
-      aside-trans (omega arith) (c .before .before .before .before .before .before .before .before .before .before .before .before .before .before .before .before .before .loop .inv .2) (u .aside),
-    )
-
-inner-type-node-at-requires : (t : ℕ) → inner-type-lts.Need-node-at-requires (inner-type-calls t) (inner-type-at t) inner-type.Post
-inner-type-node-at-requires t c κs = omega (arith, (c .before .before) .pre .1 .0 .formed .room)
-
-inner-type-paths-requires : (t : ℕ) → inner-type-lts.Need-paths-requires (inner-type-calls t) (inner-type-at t) inner-type.Post
-inner-type-paths-requires t c κs =
-    let s = c .before .before .before .before .before .pre in
-    let node = c .before .before .node-at .ensures in
-    let k = rw node at (c .if1 .taken) in
-    let h = some-operand (s .1 .0 .formed) (omega arith) in
-    rw node (omega (arith, s .0), (first-checkable (s .1 .0) h, first-earlier (s .1 .0) h))
-
-inner-type-returns : (t : ℕ) → inner-type-lts.Need-returns (inner-type-calls t) (inner-type-at t) inner-type.Post
-inner-type-returns t c =
-    let node = c .before .before .before .node-at .ensures in
-    sym-checked ((c .before .before .before .before .before .before) .pre .1 .0) _ (rw node at (c .before .if1 .taken)) (rw node at (c .paths .ensures))
-
-inner-type-leaf-type-requires : (t : ℕ) → inner-type-lts.Need-leaf-type-requires (inner-type-calls t) (inner-type-at t) inner-type.Post
-inner-type-leaf-type-requires t c κs =
-    let q = (c .before .before .before .before .before) .pre .1 .0 in
+check-node-leaf-type-requires : (t : ℕ) → check-node-lts.Need-leaf-type-requires (check-node-calls t) (check-node-at t) check-node.Post
+check-node-leaf-type-requires t c κs =
+    let q = c .before .before .before .before .before .before .pre .1 in
     omega (arith, q .variables, q .lent)
 
-inner-type-returns-2 : (t : ℕ) → inner-type-lts.Need-returns-2 (inner-type-calls t) (inner-type-at t) inner-type.Post
-inner-type-returns-2 t c =
-    let s = (c .before .before .before .before .before .before) .pre in
-    let node = c .before .before .before .node-at .ensures in
-    leaf-checked (s .1 .0) _ (waits-none _ 14 (s .1 .1) (rw node at (c .before .if1 .left))) (rw node at (c .leaf-type .ensures))
+check-node-returns : (t : ℕ) → check-node-lts.Need-returns (check-node-calls t) (check-node-at t) check-node.Post
+check-node-returns t c =
+    let s = c .before .before .before .before .before .before .before .pre in
+    let q = s .1 in
+    let node = c .before .before .before .before .node-at .ensures in
+    leaf-judged q _ (rw node at (c .before .before .if1 .taken)) (rw node at (c .leaf-type .ensures))
+
+check-node-paths-requires : (t : ℕ) → check-node-lts.Need-paths-requires (check-node-calls t) (check-node-at t) check-node.Post
+check-node-paths-requires t c κs =
+    let s = c .before .before .before .before .before .before .before .before .pre in
+    let q = s .1 in
+    let node = c .before .before .before .before .before .node-at .ensures in
+    let h = some-operand (q .formed) (rw node at (c .before .before .before .if1 .left)) in
+    rw node (omega (arith, s .0), (first-checkable q h, first-earlier q h))
+
+check-node-returns-2 : (t : ℕ) → check-node-lts.Need-returns-2 (check-node-calls t) (check-node-at t) check-node.Post
+check-node-returns-2 t c =
+    let s = c .before .before .before .before .before .before .before .before .before .pre in
+    let q = s .1 in
+    let node = c .before .before .before .before .before .before .node-at .ensures in
+    sym-judged q _ (rw node at (c .before .before .if2 .taken)) (rw node at (c .paths .ensures))
+
+check-node-node-at-requires-2 : (t : ℕ) → check-node-lts.Need-node-at-requires-2 (check-node-calls t) (check-node-at t) check-node.Post
+check-node-node-at-requires-2 t c κs =
+    let s = c .before .before .before .before .before .before .before .before .pre in
+    let q = s .1 in
+    let node = c .before .before .before .before .before .node-at .ensures in
+    let h = some-operand (q .formed) (rw node at (c .before .before .before .if1 .left)) in
+    rw node (omega (arith, first-earlier q h, q .formed .room))
+
+check-node-leaf-type-requires-2 : (t : ℕ) → check-node-lts.Need-leaf-type-requires-2 (check-node-calls t) (check-node-at t) check-node.Post
+check-node-leaf-type-requires-2 t c κs =
+    let q = c .before .before .before .before .before .before .before .before .before .before .before .before .pre .1 in
+    omega (arith, q .variables, q .lent)
+
+check-node-returns-3 : (t : ℕ) → check-node-lts.Need-returns-3 (check-node-calls t) (check-node-at t) check-node.Post
+check-node-returns-3 t c =
+    let s = c .before .before .before .before .before .before .before .before .before .before .before .before .before .before .before .before .before .before .before .pre in
+    let q = s .1 in
+    let node = c .before .before .before .before .before .before .before .before .before .before .before .before .before .before .before .before .node-at .ensures in
+    let h = some-operand (q .formed) (rw node at (c .before .before .before .before .before .before .before .before .before .before .before .before .before .before .if1 .left)) in
+    let d = leaf-judged (first-checkable q h) (c .before .before .before .before .before .before .before .before .before .before .before .before .before .before .before .before .before .before .before .args .limit) (rw (c .before .before .before .before .before .before .before .before .before .before .node-at2 .ensures, node) at (c .before .before .before .before .before .before .before .before .if3 .taken)) (rw (c .before .before .before .before .before .before .before .before .before .before .node-at2 .ensures, node) at (c .before .before .before .before .before .before .leaf-type2 .ensures)) in
+    let z = has-one _ (rw node at (c .before .before .has-one .ensures)) (c .before .if4 .taken) in
+    one-judged q h _ d (c .before .before .before .before .t .given .1) z (rw node at (c .before .before .before .before .before .before .before .before .before .before .before .before .if2 .left)) (rw node at (c .one-type .ensures))
+
+check-node-check-rest-requires : (t : ℕ) → check-node-lts.Need-check-rest-requires (check-node-calls t) (check-node-at t) check-node.Post
+check-node-check-rest-requires t c κs =
+    let s = c .before .before .before .before .before .before .before .before .before .before .before .before .before .before .before .before .before .before .before .pre in
+    let q = s .1 in
+    let node = c .before .before .before .before .before .before .before .before .before .before .before .before .before .before .before .before .node-at .ensures in
+    let h = some-operand (q .formed) (rw node at (c .before .before .before .before .before .before .before .before .before .before .before .before .before .before .if1 .left)) in
+    let d = leaf-judged (first-checkable q h) (c .before .before .before .before .before .before .before .before .before .before .before .before .before .before .before .before .before .before .before .args .limit) (rw (c .before .before .before .before .before .before .before .before .before .before .node-at2 .ensures, node) at (c .before .before .before .before .before .before .before .before .if3 .taken)) (rw (c .before .before .before .before .before .before .before .before .before .before .node-at2 .ensures, node) at (c .before .before .before .before .before .before .leaf-type2 .ensures)) in
+    let m = has-more _ h (rw node at (c .before .before .has-one .ensures)) (c .before .if4 .left) in
+    (omega (arith, s .0), rest-checkable q h _ d (c .before .before .before .before .t .given .1) m)
+
+check-node-returns-4 : (t : ℕ) → check-node-lts.Need-returns-4 (check-node-calls t) (check-node-at t) check-node.Post
+check-node-returns-4 t c =
+    let s = c .before .before .before .before .before .before .before .before .before .before .before .before .before .before .before .before .pre in
+    let q = s .1 in
+    let node = c .before .before .before .before .before .before .before .before .before .before .before .before .before .node-at .ensures in
+    let h = some-operand (q .formed) (rw node at (c .before .before .before .before .before .before .before .before .before .before .before .if1 .left)) in
+    let d = leaf-judged (first-checkable q h) (c .before .before .before .before .before .before .before .before .before .before .before .before .before .before .before .before .args .limit) (rw (c .before .before .before .before .before .before .before .node-at2 .ensures, node) at (c .before .before .before .before .before .if3 .taken)) (rw (c .before .before .before .before .before .before .before .node-at2 .ensures, node) at (c .before .before .before .leaf-type2 .ensures)) in
+    first-refused q h _ d (c .before .why .given .1) (rw node at (c .before .before .before .before .before .before .before .before .before .if2 .left))
+
+check-node-returns-5 : (t : ℕ) → check-node-lts.Need-returns-5 (check-node-calls t) (check-node-at t) check-node.Post
+check-node-returns-5 t c =
+    let s = c .before .before .before .before .before .before .before .before .before .before .before .before .before .before .before .before .before .before .before .before .before .before .pre in
+    let q = s .1 in
+    let node = c .before .before .before .before .before .before .before .before .before .before .before .before .before .before .before .before .before .before .before .node-at .ensures in
+    let h = some-operand (q .formed) (rw node at (c .before .before .before .before .before .before .before .before .before .before .before .before .before .before .before .before .before .if1 .left)) in
+    let d = leaf-judged (first-checkable q h) (c .before .before .before .before .before .before .before .before .before .before .before .before .before .before .before .before .before .before .before .before .before .before .args .limit) (rw (c .before .before .before .before .before .before .before .before .before .before .before .before .before .node-at2 .ensures, node) at (c .before .before .before .before .before .before .before .before .before .before .before .if3 .taken)) (rw (c .before .before .before .before .before .before .before .before .before .before .before .before .before .node-at2 .ensures, node) at (c .before .before .before .before .before .before .before .before .before .leaf-type2 .ensures)) in
+    let m = has-more _ h (rw node at (c .before .before .before .before .before .has-one .ensures)) (c .before .before .before .before .if4 .left) in
+    rest-judged q h _ d (c .before .before .before .before .before .before .before .t .given .1) m (c .before .before .check-rest .ensures)
+
+check-node-check-node-requires : (t : ℕ) → check-node-lts.Need-check-node-requires (check-node-calls t) (check-node-at t) check-node.Post
+check-node-check-node-requires t c κs =
+    let s = c .before .before .before .before .before .before .before .before .before .before .before .before .pre in
+    let q = s .1 in
+    let node = c .before .before .before .before .before .before .before .before .before .node-at .ensures in
+    let h = some-operand (q .formed) (rw node at (c .before .before .before .before .before .before .before .if1 .left)) in
+    rw node (omega (arith, first-earlier q h, s .0), first-checkable q h)
+
+check-node-returns-6 : (t : ℕ) → check-node-lts.Need-returns-6 (check-node-calls t) (check-node-at t) check-node.Post
+check-node-returns-6 t c =
+    let s = c .before .before .before .before .before .before .before .before .before .before .before .before .before .before .before .before .before .before .before .before .before .pre in
+    let q = s .1 in
+    let node = c .before .before .before .before .before .before .before .before .before .before .before .before .before .before .before .before .before .before .node-at .ensures in
+    let h = some-operand (q .formed) (rw node at (c .before .before .before .before .before .before .before .before .before .before .before .before .before .before .before .before .if1 .left)) in
+    let d = rw node at (c .before .before .before .before .before .before .before .before .check-node .ensures) in
+    let z = has-one _ (rw node at (c .before .before .has-one2 .ensures)) (c .before .if5 .taken) in
+    one-judged q h _ d (c .before .before .before .before .t2 .given .1) z (rw node at (c .before .before .before .before .before .before .before .before .before .before .before .before .before .before .if2 .left)) (rw node at (c .one-type2 .ensures))
+
+check-node-check-rest-requires-2 : (t : ℕ) → check-node-lts.Need-check-rest-requires-2 (check-node-calls t) (check-node-at t) check-node.Post
+check-node-check-rest-requires-2 t c κs =
+    let s = c .before .before .before .before .before .before .before .before .before .before .before .before .before .before .before .before .before .before .before .before .before .pre in
+    let q = s .1 in
+    let node = c .before .before .before .before .before .before .before .before .before .before .before .before .before .before .before .before .before .before .node-at .ensures in
+    let h = some-operand (q .formed) (rw node at (c .before .before .before .before .before .before .before .before .before .before .before .before .before .before .before .before .if1 .left)) in
+    let d = rw node at (c .before .before .before .before .before .before .before .before .check-node .ensures) in
+    let m = has-more _ h (rw node at (c .before .before .has-one2 .ensures)) (c .before .if5 .left) in
+    (omega (arith, s .0), rest-checkable q h _ d (c .before .before .before .before .t2 .given .1) m)
+
+check-node-returns-7 : (t : ℕ) → check-node-lts.Need-returns-7 (check-node-calls t) (check-node-at t) check-node.Post
+check-node-returns-7 t c =
+    let s = c .before .before .before .before .before .before .before .before .before .before .before .before .before .before .before .before .before .before .pre in
+    let q = s .1 in
+    let node = c .before .before .before .before .before .before .before .before .before .before .before .before .before .before .before .node-at .ensures in
+    let h = some-operand (q .formed) (rw node at (c .before .before .before .before .before .before .before .before .before .before .before .before .before .if1 .left)) in
+    let d = rw node at (c .before .before .before .before .before .check-node .ensures) in
+    first-refused q h _ d (c .before .why2 .given .1) (rw node at (c .before .before .before .before .before .before .before .before .before .before .before .if2 .left))
+
+check-node-returns-8 : (t : ℕ) → check-node-lts.Need-returns-8 (check-node-calls t) (check-node-at t) check-node.Post
+check-node-returns-8 t c =
+    let s = c .before .before .before .before .before .before .before .before .before .before .before .before .before .before .before .before .before .before .before .before .before .before .before .before .pre in
+    let q = s .1 in
+    let node = c .before .before .before .before .before .before .before .before .before .before .before .before .before .before .before .before .before .before .before .before .before .node-at .ensures in
+    let h = some-operand (q .formed) (rw node at (c .before .before .before .before .before .before .before .before .before .before .before .before .before .before .before .before .before .before .before .if1 .left)) in
+    let d = rw node at (c .before .before .before .before .before .before .before .before .before .before .before .check-node .ensures) in
+    let m = has-more _ h (rw node at (c .before .before .before .before .before .has-one2 .ensures)) (c .before .before .before .before .if5 .left) in
+    rest-judged q h _ d (c .before .before .before .before .before .before .before .t2 .given .1) m (c .before .before .check-rest2 .ensures)
+
+check-rest-node-at-requires : (t : ℕ) → check-rest-lts.Need-node-at-requires (check-rest-calls t) (check-rest-at t) check-rest.Post
+check-rest-node-at-requires t c κs = omega (arith, c .before .before .pre .1 .formed .room)
+
+check-rest-bind-type-requires : (t : ℕ) → check-rest-lts.Need-bind-type-requires (check-rest-calls t) (check-rest-at t) check-rest.Post
+check-rest-bind-type-requires t c κs =
+    let s = c .before .before .before .before .pre in
+    let q = s .1 in
+    (bind-room q, q .lent)
+
+check-rest-check-node-requires : (t : ℕ) → check-rest-lts.Need-check-node-requires (check-rest-calls t) (check-rest-at t) check-rest.Post
+check-rest-check-node-requires t c κs =
+    let s = c .before .before .before .before .before .before .before .before .pre in
+    let q = s .1 in
+    let node = c .before .before .before .before .before .node-at .ensures in
+    let b = rw node at (c .before .before .before .bind-type .ensures) in
+    rw node (omega (arith, second-earlier q, s .0), second-checkable q b)
+
+check-rest-check-node-requires-2 : (t : ℕ) → check-rest-lts.Need-check-node-requires-2 (check-rest-calls t) (check-rest-at t) check-rest.Post
+check-rest-check-node-requires-2 t c κs =
+    let s = c .before .before .before .before .before .before .before .before .before .before .before .before .before .before .before .before .before .pre in
+    let q = s .1 in
+    let node = c .before .before .before .before .before .before .before .before .before .before .before .before .before .before .node-at .ensures in
+    let b = rw node at (c .before .before .before .before .before .before .before .before .before .before .before .before .bind-type .ensures) in
+    let d = rw node at (c .before .before .before .before .before .before .before .before .check-node .ensures) in
+    let h = rw node at (c .before .if1 .taken) in
+    rw node (omega (arith, third-earlier q b _ d h, s .0), third-checkable q b _ d h)
+
+check-rest-returns : (t : ℕ) → check-rest-lts.Need-returns (check-rest-calls t) (check-rest-at t) check-rest.Post
+check-rest-returns t c =
+    let s = c .before .before .before .before .before .before .before .before .before .before .before .before .before .before .before .before .before .before .before .before .before .before .before .pre in
+    let q = s .1 in
+    let node = c .before .before .before .before .before .before .before .before .before .before .before .before .before .before .before .before .before .before .before .before .node-at .ensures in
+    let b = rw node at (c .before .before .before .before .before .before .before .before .before .before .before .before .before .before .before .before .before .before .bind-type .ensures) in
+    let d = rw node at (c .before .before .before .before .before .before .before .before .before .before .before .before .before .before .check-node .ensures) in
+    let h = rw node at (c .before .before .before .before .before .before .before .if1 .taken) in
+    third-refused q b _ d h (c .before .before .before .before .before .before .before .before .before .before .u .given .1) (rw node at (c .before .before .before .before .before .check-node2 .ensures)) (c .before .why2 .given .1)
+
+check-rest-returns-2 : (t : ℕ) → check-rest-lts.Need-returns-2 (check-rest-calls t) (check-rest-at t) check-rest.Post
+check-rest-returns-2 t c =
+    let s = c .before .before .before .before .before .before .before .before .before .before .before .before .before .before .before .before .before .before .before .before .before .before .before .before .pre in
+    let q = s .1 in
+    let node = c .before .before .before .before .before .before .before .before .before .before .before .before .before .before .before .before .before .before .before .before .before .node-at .ensures in
+    let b = rw node at (c .before .before .before .before .before .before .before .before .before .before .before .before .before .before .before .before .before .before .before .bind-type .ensures) in
+    let d = rw node at (c .before .before .before .before .before .before .before .before .before .before .before .before .before .before .before .check-node .ensures) in
+    let h = rw node at (c .before .before .before .before .before .before .before .before .if1 .taken) in
+    if-judged q b _ d h (c .before .before .before .before .before .before .before .before .before .before .before .u .given .1) (rw node at (c .before .before .before .before .before .before .check-node2 .ensures)) (c .before .before .v .given .1) (c .if-type .ensures)
+
+check-rest-returns-3 : (t : ℕ) → check-rest-lts.Need-returns-3 (check-rest-calls t) (check-rest-at t) check-rest.Post
+check-rest-returns-3 t c =
+    let s = c .before .before .before .before .before .before .before .before .before .before .before .before .before .before .pre in
+    let q = s .1 in
+    let node = c .before .before .before .before .before .before .before .before .before .before .before .node-at .ensures in
+    let b = rw node at (c .before .before .before .before .before .before .before .before .before .bind-type .ensures) in
+    let d = rw node at (c .before .before .before .before .before .check-node .ensures) in
+    second-refused q b _ d (c .before .why .given .1)
+
+check-rest-returns-4 : (t : ℕ) → check-rest-lts.Need-returns-4 (check-rest-calls t) (check-rest-at t) check-rest.Post
+check-rest-returns-4 t c =
+    let s = c .before .before .before .before .before .before .before .before .before .before .before .before .before .before .before .before .before .pre in
+    let q = s .1 in
+    let node = c .before .before .before .before .before .before .before .before .before .before .before .before .before .before .node-at .ensures in
+    let b = rw node at (c .before .before .before .before .before .before .before .before .before .before .before .before .bind-type .ensures) in
+    let d = rw node at (c .before .before .before .before .before .before .before .before .check-node .ensures) in
+    two-judged q b _ d (rw node at (c .before .if1 .left)) (c .before .before .before .before .u .given .1) (rw node at (c .two-type .ensures))
 
 paths-slice-aggregate-start : (t : ℕ) → paths-lts.Need-slice-aggregate-start (paths-calls t) (paths-at t) paths.Post paths-Inv-loop paths-μ-loop
 paths-slice-aggregate-start t c = refl
@@ -498,9 +578,9 @@ walk-loop-less t c = walking-less (c .before .before .before .before .before .be
 walk-loop-again : (t : ℕ) → walk-lts.Need-loop-again (walk-calls t) (walk-at t) walk.Post walk-Inv-loop walk-μ-loop
 walk-loop-again t c = walking-on (c .before .before .before .before .before .before .before .before .before .before .before .before .before .before .loop .inv) (c .before .before .before .before .before .before .before .before .before .before .before .before .descend .ensures) (c .before .before .before .before .before .before .before .arrive .ensures) (c .before .k .given .1) (c .before .before .before .before .before .before .before .arrive .kept .1 .0) (c .before .before .before .before .before .before .before .arrive .kept .1 .1 .0 ∙ c .before .before .before .before .before .before .before .before .before .before .before .before .descend .kept .1 .0)
 
-pub +arrive+block-type+block-up+check-node+inner-type+paths+walk-spec : {M : Type 1} → statement M
-+arrive+block-type+block-up+check-node+inner-type+paths+walk-spec =
-    close μ-arrive μ-block-type μ-block-up μ-check-node μ-inner-type μ-paths μ-walk
+pub +arrive+block-type+block-up+check-node+check-rest+paths+walk-spec : {M : Type 1} → statement M
++arrive+block-type+block-up+check-node+check-rest+paths+walk-spec =
+    close μ-arrive μ-block-type μ-block-up μ-check-node μ-check-rest μ-paths μ-walk
     (λ t. arrive-lts.spec (arrive-calls t) (arrive-at t) arrive.Post
     (arrive-node-at-requires t)
     (arrive-block-up-requires t)
@@ -543,41 +623,59 @@ pub +arrive+block-type+block-up+check-node+inner-type+paths+walk-spec : {M : Typ
     (λ c. search needs)
     (λ c. search needs)
     (block-up-returns-3 t))
-    (λ t. check-node-lts.spec (check-node-calls t) (check-node-at t) check-node.Post check-node-Inv-loop check-node-μ-loop
+    (λ t. check-node-lts.spec (check-node-calls t) (check-node-at t) check-node.Post
     (check-node-node-at-requires t)
-    (λ c κs. search needs)
-    (check-node-inner-type-requires t)
+    (check-node-leaf-type-requires t)
     (λ c. search needs)
     (check-node-returns t)
-    (check-node-cast-frames t)
+    (check-node-paths-requires t)
     (λ c. search needs)
-    (check-node-loop-holds t)
-    (check-node-slice-aggregate-descend t)
-    (check-node-descend-requires t)
-    (λ c. search needs)
-    (check-node-cast-present t)
-    (check-node-inner-type-requires-2 t)
-    (λ c. search needs)
-    (check-node-same-length-2 t)
     (check-node-returns-2 t)
     (λ c. search needs)
-    (check-node-slice-aggregate-ascend t)
-    (check-node-ascend-requires t)
+    (check-node-node-at-requires-2 t)
+    (check-node-leaf-type-requires-2 t)
     (λ c. search needs)
-    (check-node-same-length-3 t)
+    (λ c. search needs)
+    (λ c κs. search needs)
+    (λ c κs. search needs)
+    (λ c. search needs)
     (check-node-returns-3 t)
+    (check-node-check-rest-requires t)
     (λ c. search needs)
-    (check-node-same-length-4 t)
     (check-node-returns-4 t)
     (λ c. search needs)
-    (check-node-loop-less t)
-    (check-node-loop-again t))
-    (λ t. inner-type-lts.spec (inner-type-calls t) (inner-type-at t) inner-type.Post
-    (inner-type-node-at-requires t)
-    (inner-type-paths-requires t)
-    (inner-type-returns t)
-    (inner-type-leaf-type-requires t)
-    (inner-type-returns-2 t))
+    (check-node-returns-5 t)
+    (check-node-check-node-requires t)
+    (λ c. search needs)
+    (λ c. search needs)
+    (λ c κs. search needs)
+    (λ c κs. search needs)
+    (λ c. search needs)
+    (check-node-returns-6 t)
+    (check-node-check-rest-requires-2 t)
+    (λ c. search needs)
+    (check-node-returns-7 t)
+    (λ c. search needs)
+    (check-node-returns-8 t))
+    (λ t. check-rest-lts.spec (check-rest-calls t) (check-rest-at t) check-rest.Post
+    (check-rest-node-at-requires t)
+    (check-rest-bind-type-requires t)
+    (check-rest-check-node-requires t)
+    (λ c. search needs)
+    (λ c. search needs)
+    (check-rest-check-node-requires-2 t)
+    (λ c. search needs)
+    (λ c. search needs)
+    (λ c κs. search needs)
+    (λ c. search needs)
+    (check-rest-returns t)
+    (λ c. search needs)
+    (check-rest-returns-2 t)
+    (λ c κs. search needs)
+    (λ c. search needs)
+    (check-rest-returns-3 t)
+    (λ c. search needs)
+    (check-rest-returns-4 t))
     (λ t. paths-lts.spec (paths-calls t) (paths-at t) paths.Post paths-Inv-loop paths-μ-loop
     (paths-slice-aggregate-start t)
     (paths-start-requires t)
