@@ -1,5 +1,6 @@
 // The checker: the typed rules and the symbolic rules over a table. `check` is the whole call; `nodes` checks and executes nodes, `types` has the type rules,
-// `operators` the symbolic ones, `log` the writes of a path, `path` the rest of its state, `notes` what is kept of typed blocks from path to path.
+// `operators` the symbolic ones, `log` the writes of a path, `path` the rest of its state, `frames` what waits on it, `steps` the way of a value up, `forks`
+// what is kept at a fork, `notes` what is kept of typed blocks from path to path.
 ghost use mathlib.Core.Option.{none};
 ghost use mathlib.Core.Path.{_≡_};
 ghost use Prim.Native.Nat.{_*_, _≤_};

@@ -1,6 +1,6 @@
 // The typed rules and the symbolic rules by the table: each node is checked or executed after its operands, whose numbers are smaller. A typed block in a
-// symbolic block hands over to the typed rules, on the same workspace, unless a note has its type; a `sym` in typed mode follows its paths in a workspace of
-// its own.
+// symbolic block hands over to the typed rules, on the same workspace, unless a note has its type; a `sym` in typed mode follows its paths in a workspace and
+// frames of its own.
 ghost use mathlib.Core.Bool.{false, _||_};
 ghost use mathlib.Core.Path.{_≡_};
 ghost use Prim.Native.Nat.{_<_};
