@@ -4,6 +4,7 @@ pub mod Arriving
 pub mod Back
 pub mod Climbing
 pub mod Ends
+pub mod Following
 pub mod Keeping
 pub mod Resuming
 pub mod Rewinding

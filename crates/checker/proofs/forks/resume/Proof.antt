@@ -13,9 +13,6 @@ rewind-requires c κs =
 restore-requires : tie.Need-restore-requires
 restore-requires c κs = rewound-restorable (c .before .before .before .before .before .before .before .before .before .before .before .before .pre) (c .before .before .before .before .before .before .rewind .ensures)
 
-slice-read-at : tie.Need-slice-read-at
-slice-read-at c = search needs
-
 cast-at : tie.Need-cast-at
 cast-at c =
     let i = rewound-restorable (c .before .before .before .before .before .before .before .before .before .before .before .before .before .before .before .before .pre) (c .before .before .before .before .before .before .before .before .before .before .rewind .ensures) in
@@ -60,12 +57,6 @@ cast-node-at c = record { fits = omega (arith, branch-few (c .before .before .be
 node-at-requires : tie.Need-node-at-requires
 node-at-requires c κs = branch-node (c .before .before .before .before .before .before .before .before .before .before .before .before .before .before .before .before .before .before .before .before .before .before .pre) (c .before .before .before .before .before .before .before .before .before .before .before .before .before .before .before .before .rewind .ensures) (c .before .before .before .before .before .before .before .before .before .restore .ensures)
 
-same-length : tie.Need-same-length
-same-length c = search needs
-
-same-length-2 : tie.Need-same-length-2
-same-length-2 c = search needs
-
 returns : tie.Need-returns
 returns c = rw (c .node-at .ensures) (resumed (c .before .before .before .before .before .before .before .before .before .before .before .before .before .before .before .before .before .before .before .before .before .before .before .pre) (c .before .before .before .before .before .before .before .before .before .before .before .before .before .before .before .before .before .rewind .ensures) (c .before .before .before .before .before .before .before .before .before .before .restore .ensures) (c .before .before .before .before .assume .ensures))
 
@@ -75,7 +66,7 @@ resume-spec =
     (tie.spec
     rewind-requires
     restore-requires
-    slice-read-at
+    (λ c. search needs)
     cast-at
     mul-at
     add-assume
@@ -86,6 +77,6 @@ resume-spec =
     slice-read-node-at
     cast-node-at
     node-at-requires
-    same-length
-    same-length-2
+    (λ c. search needs)
+    (λ c. search needs)
     returns)

@@ -2,10 +2,9 @@
 -- other; a node's number falls on the way round. In the answers s is the start's measure and `requires`, q the `requires`, node what was read, h that it has an operand,
 -- d what that one came to, or the way down to the inner node, w what holds at a turn of the loop, b what was bound, or what a block came to. Assumes nothing.
 use borrow.Author.Needs.{needs}
-use mathlib.Core.Path.{_≡_, refl, sym, _∙_}
+use mathlib.Core.Path.{refl, sym, _∙_}
 use Prim.Native.Nat.{_+_, _*_, _-_}
 use native.Mathlib.Omega.{arith}
-use lib.ListN.{length}
 use Rattle.script.specs.Code.Forms.{has-one, has-more, some-operand}
 use Rattle.checker.specs.Code.Frames.{topIn}
 use Rattle.checker.specs.Code.Frames.Laws.{waits-none}

@@ -4,41 +4,17 @@ use Rattle.checker.specs.Code.Going.Ends.{path-inconsistent, path-other,
 use Rattle.checker.proofs.nodes.path_end.Statement.{statement}
 use Rattle.checker.proofs.nodes.path_end.Tie as tie
 
-consistent-requires : tie.Need-consistent-requires
-consistent-requires c κs = search needs
-
-same-length : tie.Need-same-length
-same-length c = search needs
-
 returns : tie.Need-returns
 returns c = path-inconsistent (c .before .before .before .before .before .before .pre) (c .before .consistent .ensures) (c .if1 .taken)
 
-right-type-requires : tie.Need-right-type-requires
-right-type-requires c κs = search needs
-
-same-length-2 : tie.Need-same-length-2
-same-length-2 c = search needs
-
 returns-2 : tie.Need-returns-2
 returns-2 c = path-other (c .before .before .before .before .before .before .before .before .pre) (c .before .before .before .consistent .ensures) (c .before .before .if1 .left) (c .before .right-type .ensures) (c .if2 .taken)
-
-slice-read-if3 : tie.Need-slice-read-if3
-slice-read-if3 c = search needs
-
-same-length-3 : tie.Need-same-length-3
-same-length-3 c = search needs
 
 returns-3 : tie.Need-returns-3
 returns-3 c = path-last (c .before .before .before .before .before .before .before .before .before .before .pre) (c .before .before .before .before .before .consistent .ensures) (c .before .before .before .before .if1 .left) (c .before .before .before .right-type .ensures) (c .before .before .if2 .left) (c .if3 .taken)
 
 resume-requires : tie.Need-resume-requires
 resume-requires c κs = path-resumable (c .before .before .before .before .before .before .before .before .before .before .before .before .pre) (c .before .before .if3 .left)
-
-same-length-4 : tie.Need-same-length-4
-same-length-4 c = search needs
-
-same-length-5 : tie.Need-same-length-5
-same-length-5 c = search needs
 
 returns-4 : tie.Need-returns-4
 returns-4 c = path-more (c .before .before .before .before .before .before .before .before .before .before .before .before .before .before .before .before .before .pre) (c .before .before .before .before .before .before .before .before .before .before .before .before .consistent .ensures) (c .before .before .before .before .before .before .before .before .before .before .before .if1 .left) (c .before .before .before .before .before .before .before .before .before .before .right-type .ensures) (c .before .before .before .before .before .before .before .before .before .if2 .left) (c .before .before .before .before .resume .ensures)
@@ -47,16 +23,16 @@ pub path-end-spec : {M : Type 1} → statement M
 path-end-spec =
     tie.close
     (tie.spec
-    consistent-requires
-    same-length
+    (λ c κs. search needs)
+    (λ c. search needs)
     returns
-    right-type-requires
-    same-length-2
+    (λ c κs. search needs)
+    (λ c. search needs)
     returns-2
-    slice-read-if3
-    same-length-3
+    (λ c. search needs)
+    (λ c. search needs)
     returns-3
     resume-requires
-    same-length-4
-    same-length-5
+    (λ c. search needs)
+    (λ c. search needs)
     returns-4)

@@ -1,3 +1,5 @@
+-- `checker::steps::back` meets its contract: by the frame that it goes to, a value is taken by a rule, waits for the next operand, or is a body's. In the
+-- answers s is the `requires`, l what the frame has, n its node, g that no operand had given yet, o that there are several. Assumes nothing.
 use borrow.Author.Needs.{needs}
 use native.Mathlib.Omega.{arith}
 use Rattle.checker.specs.Code.Going.Back.{more-than-one, back-framed, back-lent, back-inside, back-node, back-lastable, back-last, back-room, back-one, back-waitable, back-plain, back-deep, back-let, back-decidable, back-forked, back-branch}
@@ -5,39 +7,23 @@ use Rattle.script.specs.Code.Forms.{has-one}
 use Rattle.checker.proofs.steps.back.Statement.{statement}
 use Rattle.checker.proofs.steps.back.Tie as tie
 
--- src/steps.rt:123:9
 leave-requires : tie.Need-leave-requires
 leave-requires c κs =
     let s = c .before .before .before .before .pre in
     (back-lent (s .0) (s .1), back-inside (s .0) (s .1))
 
--- src/steps.rt:125:31
-cast-node-at : tie.Need-cast-node-at
-cast-node-at c = search needs
-
--- src/steps.rt:125:9
 node-at-requires : tie.Need-node-at-requires
 node-at-requires c κs =
     let s = c .before .before .before .before .before .before .before .pre in
     let l = c .before .before .leave .ensures in
     rw (l .0) (back-node (s .0) (s .1))
 
--- src/steps.rt:127:9
 last-requires : tie.Need-last-requires
 last-requires c κs =
     let s = c .before .before .before .before .before .before .before .before .before .before .before .pre in
     let l = c .before .before .before .before .before .before .leave .ensures in
     rw (l .0) (back-lastable (s .0) (s .1) (rw (l .0) at (c .before .if1 .taken)))
 
--- src/steps.rt:127:9
-same-length : tie.Need-same-length
-same-length c = search needs
-
--- src/steps.rt:127:9
-same-length-2 : tie.Need-same-length-2
-same-length-2 c = search needs
-
--- src/steps.rt:127:9
 returns : tie.Need-returns
 returns c =
     let s = c .before .before .before .before .before .before .before .before .before .before .before .before .before .before .pre in
@@ -45,29 +31,11 @@ returns c =
     let n = c .before .before .before .before .before .before .node-at .ensures in
     rw (l .1) (back-last (s .0) (s .1) (rw (l .0) at (c .before .before .before .before .if1 .taken)) (rw (n, l .0) at (c .before .before .last .ensures)))
 
--- src/steps.rt:129:8
-has-one-requires : tie.Need-has-one-requires
-has-one-requires c κs = search needs
-
--- src/steps.rt:130:22
 one-requires : tie.Need-one-requires
 one-requires c κs =
     let s = c .before .before .before .before .before .before .before .before .before .before .before .before .before .pre in
     back-room (s .0) (s .1)
 
--- src/steps.rt:130:9
-moved-requires : tie.Need-moved-requires
-moved-requires c κs = search needs
-
--- src/steps.rt:130:9
-same-length-3 : tie.Need-same-length-3
-same-length-3 c = search needs
-
--- src/steps.rt:130:9
-same-length-4 : tie.Need-same-length-4
-same-length-4 c = search needs
-
--- src/steps.rt:130:9
 returns-2 : tie.Need-returns-2
 returns-2 c =
     let s = c .before .before .before .before .before .before .before .before .before .before .before .before .before .before .before .before .before .pre in
@@ -76,7 +44,6 @@ returns-2 c =
     let g = rw (l .0) at (c .before .before .before .before .before .before .before .if1 .left) in
     rw (l .1, c .moved .ensures) (back-one (s .0) (s .1) g (has-one _ (rw (n, l .0) at (c .before .before .before .before .before .before .has-one .ensures)) (c .before .before .before .before .before .if2 .taken)) (rw (n, l .0) at (c .before .before .before .one .ensures)))
 
--- src/steps.rt:133:9
 branch-requires : tie.Need-branch-requires
 branch-requires c κs =
     let s = c .before .before .before .before .before .before .before .before .before .before .before .before .before .before .before .before .pre in
@@ -87,15 +54,6 @@ branch-requires c κs =
     let h = rw (n, l .0) at (c .before .before .if3 .taken) in
     rw (l .1) (back-decidable (s .0) (s .1) g o h, (back-waitable (s .0) (s .1) g o, (back-framed (s .0) (s .1), (back-forked (s .0) (s .1) g o h, s .0 .returning .stands .narrow))))
 
--- src/steps.rt:133:9
-same-length-5 : tie.Need-same-length-5
-same-length-5 c = search needs
-
--- src/steps.rt:133:9
-same-length-6 : tie.Need-same-length-6
-same-length-6 c = search needs
-
--- src/steps.rt:133:9
 returns-3 : tie.Need-returns-3
 returns-3 c =
     let s = c .before .before .before .before .before .before .before .before .before .before .before .before .before .before .before .before .before .before .before .before .before .pre in
@@ -106,7 +64,6 @@ returns-3 c =
     let h = rw (n, l .0) at (c .before .before .before .before .before .before .before .if3 .taken) in
     back-branch (s .0) (s .1) g o h (rw (n, l .0, l .1) at (c .before .before .before .before .branch .ensures))
 
--- src/steps.rt:136:9
 wait-requires : tie.Need-wait-requires
 wait-requires c κs =
     let s = c .before .before .before .before .before .before .before .before .before .before .before .before .before .before .before .before .before .pre in
@@ -116,7 +73,6 @@ wait-requires c κs =
     let o = more-than-one (rw (n, l .0) at (c .before .before .before .before .before .before .has-one .ensures)) (c .before .before .before .before .before .if2 .left) in
     rw (l .1) (back-waitable (s .0) (s .1) g o, omega arith)
 
--- src/steps.rt:137:9
 bind-requires : tie.Need-bind-requires
 bind-requires c κs =
     let s = c .before .before .before .before .before .before .before .before .before .before .before .before .before .before .before .before .before .before .before .before .before .pre in
@@ -126,15 +82,6 @@ bind-requires c κs =
     let o = more-than-one (rw (n, l .0) at (c .before .before .before .before .before .before .before .before .before .before .has-one .ensures)) (c .before .before .before .before .before .before .before .before .before .if2 .left) in
     (s .0 .returning .stands .lent, back-deep (s .0) (s .1) g o)
 
--- src/steps.rt:138:9
-same-length-7 : tie.Need-same-length-7
-same-length-7 c = search needs
-
--- src/steps.rt:138:9
-same-length-8 : tie.Need-same-length-8
-same-length-8 c = search needs
-
--- src/steps.rt:138:9
 returns-4 : tie.Need-returns-4
 returns-4 c =
     let s = c .before .before .before .before .before .before .before .before .before .before .before .before .before .before .before .before .before .before .before .before .before .before .before .before .pre in
@@ -145,7 +92,6 @@ returns-4 c =
     let h = rw (n, l .0) at (c .before .before .before .before .before .before .before .before .if4 .taken) in
     rw (n, l .0, c .before .before .bind .ensures) (back-let (s .0) (s .1) g o h (rw (l .0, l .1) at (c .before .before .before .before .before .before .wait .ensures)))
 
--- src/steps.rt:140:5
 wait-requires-2 : tie.Need-wait-requires-2
 wait-requires-2 c κs =
     let s = c .before .before .before .before .before .before .before .before .before .before .before .before .before .before .before .before .before .pre in
@@ -155,11 +101,6 @@ wait-requires-2 c κs =
     let o = more-than-one (rw (n, l .0) at (c .before .before .before .before .before .before .has-one .ensures)) (c .before .before .before .before .before .if2 .left) in
     rw (l .1) (back-waitable (s .0) (s .1) g o, omega arith)
 
--- src/steps.rt:118:1
-same-length-9 : tie.Need-same-length-9
-same-length-9 c = search needs
-
--- src/steps.rt:118:1
 returns-5 : tie.Need-returns-5
 returns-5 c =
     let s = c .before .before .before .before .before .before .before .before .before .before .before .before .before .before .before .before .before .before .before .before .pre in
@@ -174,27 +115,27 @@ back-spec =
     tie.close
     (tie.spec
     leave-requires
-    cast-node-at
+    (λ c. search needs)
     node-at-requires
     last-requires
-    same-length
-    same-length-2
+    (λ c. search needs)
+    (λ c. search needs)
     returns
-    has-one-requires
+    (λ c κs. search needs)
     one-requires
-    moved-requires
-    same-length-3
-    same-length-4
+    (λ c κs. search needs)
+    (λ c. search needs)
+    (λ c. search needs)
     returns-2
     branch-requires
-    same-length-5
-    same-length-6
+    (λ c. search needs)
+    (λ c. search needs)
     returns-3
     wait-requires
     bind-requires
-    same-length-7
-    same-length-8
+    (λ c. search needs)
+    (λ c. search needs)
     returns-4
     wait-requires-2
-    same-length-9
+    (λ c. search needs)
     returns-5)

@@ -13,7 +13,8 @@ use Rattle.script.specs.Rows.{nodeOperands}
 use Rattle.checker.specs.Code.Frames.{frameIn, topIn, nodeOf, upOf, firstOf, secondOf, Waitable, Waits}
 use Rattle.checker.specs.Code.Going.{forkedIn, Returnable, came-operand, boundTo, movedBy, Forks, Branched, to-first, to-second, to-both, to-none, Lasts, Lastable, Backs}
 use Rattle.checker.specs.Code.Going.Climbing.{value-not-operand, stopped-not-operand, stopped-not-value}
-use Rattle.checker.specs.Code.Going.Upwards.{up, up-room, up-one, up-lastable, up-last, gives-came, up-next, next-waitable, next-plain, next-let, next-deep, next-branch, next-decidable, next-forked}
+use Rattle.checker.specs.Code.Going.Following.{next-waitable, next-plain, next-let, next-deep, next-branch, next-decidable, next-forked}
+use Rattle.checker.specs.Code.Going.Upwards.{up, up-room, up-one, up-lastable, up-last, gives-came, up-next}
 use Rattle.checker.specs.Code.Rules.{One, Decidable}
 use Rattle.checker.specs.Code.State.{depthIn, Room}
 use Rattle.checker.specs.declared.operators.Step.{Step}
