@@ -183,13 +183,13 @@ fn random_table(seed: u64, index: u64) -> Table {
             1 => table.entries = random.below(19),
             2 => table.lent.truncate(random.between(14, 16)),
             5 => {
-                // `sym` over the root, several times
+                // `sym` over the root, several times, within the 130 places that the program has
                 for _ in 0..random.between(1, 6) {
-                    table.numbers.truncate(4 * table.nodes);
-                    table.numbers.resize(4 * table.nodes, 0);
-                    let root = table.nodes.saturating_sub(1) as u32;
+                    let nodes = table.nodes.min(129);
+                    table.numbers.resize(4 * nodes, 0);
+                    let root = nodes.saturating_sub(1) as u32;
                     table.numbers.extend([14, root, 0, 0]);
-                    table.nodes = (table.nodes + 1).min(129);
+                    table.nodes = (nodes + 1).min(129);
                 }
             }
             3 | 4 => {
