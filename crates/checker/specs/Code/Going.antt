@@ -2,13 +2,13 @@
 -- along a path promise: that these leaves stay the same. Assumes nothing.
 pub mod Arriving
 pub mod Back
+pub mod Branching
 pub mod Climbing
 pub mod Ends
 pub mod Following
 pub mod Keeping
 pub mod Resuming
 pub mod Rewinding
-pub mod Small
 pub mod Steps
 pub mod Upwards
 pub mod Walking

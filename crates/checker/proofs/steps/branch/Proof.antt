@@ -1,6 +1,6 @@
 -- `checker::steps::branch` meets its contract: the branch that is taken, or the first one and a fork. Assumes nothing.
 use borrow.Author.Needs.{needs}
-use Rattle.checker.specs.Code.Going.Small.{both-lent, both-space, both-forkable, branched-first, branched-second, branched-none, branched-both}
+use Rattle.checker.specs.Code.Going.Branching.{both-lent, both-space, both-forkable, branched-first, branched-second, branched-none, branched-both}
 use Rattle.checker.proofs.steps.branch.Statement.{statement}
 use Rattle.checker.proofs.steps.branch.Tie as tie
 

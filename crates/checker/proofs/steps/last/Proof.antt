@@ -1,6 +1,6 @@
 -- `checker::steps::last` meets its contract: the body of a `let`, or the rule of two operands. Assumes nothing.
 use borrow.Author.Needs.{needs}
-use Rattle.checker.specs.Code.Going.Small.{lasts-body, lasts-other}
+use Rattle.checker.specs.Code.Going.Branching.{lasts-body, lasts-other}
 use Rattle.checker.proofs.steps.last.Statement.{statement}
 use Rattle.checker.proofs.steps.last.Tie as tie
 

@@ -24,7 +24,7 @@ use Rattle.checker.specs.Code.Notes.{Noting, Blocked}
 use Rattle.checker.specs.Code.Rules.{Checkable, Leaf as LeafRule, After}
 use Rattle.checker.specs.Code.Rules.Nodes.{shaped, first-of, leaf-exec, typed-exec}
 use Rattle.checker.specs.Code.State.{depthIn, typesOn, PathIn, Room}
-use Rattle.checker.specs.Code.State.Laws.{variables-kept, variables-types, path-rewound, room-less}
+use Rattle.checker.specs.Code.State.Laws.{room-same, variables-kept, variables-types, path-rewound, room-less}
 use Rattle.checker.specs.declared.operators.Step.{Step}
 use Rattle.checker.specs.declared.operators.Step.the-variants.{Gave, Stopped}
 use Rattle.checker.specs.declared.steps.Move.{Move}
@@ -124,12 +124,7 @@ module _ {limit : ℕ} {table : List ℕ} {bound base : ℕ} {ground : List Symb
 
       block-room : {rows : ℕ} → Room ws rows → Room left rows
       block-room x =
-          record {
-            lent = omega (arith, x .lent, b .same);
-            rows = omega (arith, x .rows, place 288 (omega arith) (omega arith));
-            symbols = omega (arith, x .symbols, place 724 (omega arith) (omega arith));
-            writes = omega (arith, x .writes, place 726 (omega arith) (omega arith));
-          }
+          room-same (b .same) (place 288 (omega arith) (omega arith)) (place 724 (omega arith) (omega arith)) (place 726 (omega arith) (omega arith)) x
 
       block-stands : Stands limit table bound base ground left fs (q .environment) (q .path) (q .later) (q .owed) (q .frames) (q .others)
       block-stands =

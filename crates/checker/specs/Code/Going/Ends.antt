@@ -5,7 +5,7 @@ use mathlib.Core.Path.{_≡_, refl, sym, ap, _∙_}
 use Prim.Native.Nat.{ℕ, suc, _+_, _-_, _≤_}
 use native.Mathlib.Omega.{arith}
 use lib.Dec.{eqb}
-use borrow.Author.Tests.{eqb-true, eq-eqb}
+use borrow.Author.Tests.{not-true, not-false, eqb-true, eq-eqb}
 use Rattle.script.specs.Tests.{pick}
 use Rattle.script.specs.declared.Checked.the-variants.{Accepted}
 use Rattle.script.specs.declared.Refusal.the-variants.{InconsistentLog, PathTypesDiffer}
@@ -114,29 +114,21 @@ module _ {limit : ℕ} {table : List ℕ} {bound base : ℕ} {ground : List Symb
 
 -- ---- as the code ends a path
 
-not-false : (b : Bool) → not b ≡ true → b ≡ false
-not-false true e = absurd (false≢true e)
-not-false false e = refl
-
-not-true : (b : Bool) → not b ≡ false → b ≡ true
-not-true true e = refl
-not-true false e = absurd (false≢true (sym e))
-
 module _ {table ws fs : List ℕ} {t n : ℕ} {isFirst : Bool} {kind : ℕ} (x : AtEnd table ws fs t) {a : Bool} (c : a ≡ consistentOn ws (startIn ws) 0 (writesIn ws - startIn ws)) where
   pub path-inconsistent : not a ≡ true → PathEnds table n t isFirst kind ws fs (Wrong (InconsistentLog n)) ws fs
   path-inconsistent e =
-      record { ends = λ limit bound base q ground ls r. end-inconsistent r (x .none) n isFirst kind (sym c ∙ not-false a e) }
+      record { ends = λ limit bound base q ground ls r. end-inconsistent r (x .none) n isFirst kind (sym c ∙ not-true a e) }
 
   module _ (e : not a ≡ false) {b : Bool} (w : b ≡ (isFirst || eqb t kind)) where
     pub path-other : not b ≡ true → PathEnds table n t isFirst kind ws fs (Wrong (PathTypesDiffer n)) ws fs
-    path-other d = record { ends = λ limit bound base q ground ls r. end-other r (x .none) n isFirst kind (sym c ∙ not-true a e) (sym w ∙ not-false b d) }
+    path-other d = record { ends = λ limit bound base q ground ls r. end-other r (x .none) n isFirst kind (sym c ∙ not-false a e) (sym w ∙ not-true b d) }
 
     module _ (d : not b ≡ false) where
       pub path-last : forkedIn fs ≡ 0 → PathEnds table n t isFirst kind ws fs (Last t) ws fs
-      path-last z = record { ends = λ limit bound base q ground ls r. end-last r (x .none) n isFirst kind (sym c ∙ not-true a e) (sym w ∙ not-true b d) z }
+      path-last z = record { ends = λ limit bound base q ground ls r. end-last r (x .none) n isFirst kind (sym c ∙ not-false a e) (sym w ∙ not-false b d) z }
 
       pub path-more : {m : ℕ} {left gs : List ℕ} → Resumes table ws fs m left gs → PathEnds table n t isFirst kind ws fs (More t m) left gs
-      path-more u = record { ends = λ limit bound base q ground ls r. end-more r (x .none) n isFirst kind (sym c ∙ not-true a e) (sym w ∙ not-true b d) u }
+      path-more u = record { ends = λ limit bound base q ground ls r. end-more r (x .none) n isFirst kind (sym c ∙ not-false a e) (sym w ∙ not-false b d) u }
 
 pub path-resumable : {table ws fs : List ℕ} {t : ℕ} → AtEnd table ws fs t → (forkedIn fs ≡ 0 → ⊥) → Resumable table ws fs
 path-resumable x z = end-resumable (x .returnable .returning) (x .none) (omega arith)

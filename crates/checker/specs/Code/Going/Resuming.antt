@@ -19,7 +19,7 @@ use Rattle.checker.specs.Code.Paths.{assumed}
 use Rattle.checker.specs.Code.Paths.Conditions.{assumed-ruled, assumed-without}
 use Rattle.checker.specs.Code.Rules.{withoutGuard}
 use Rattle.checker.specs.Code.State.{depthIn, Means, Variables, PathIn, Room}
-use Rattle.checker.specs.Code.State.Laws.{means-kept, variables-kept, path-rewound, room-less, room-on, room-space}
+use Rattle.checker.specs.Code.State.Laws.{room-same, means-kept, variables-kept, path-rewound, room-less, room-on, room-space}
 
 -- ---- the last fork
 
@@ -224,12 +224,8 @@ module _ {limit : ℕ} {table : List ℕ} {bound base : ℕ} {ground : List Symb
 
     resume-room : {rows : ℕ} → Room xs rows → Room ws₂ rows
     resume-room x =
-        record {
-          lent = omega (arith, s .lent, w .same, v .same);
-          rows = omega (arith, x .rows, count-is, place 288 (omega arith));
-          symbols = omega (arith, x .symbols, w .next, last .slot .next, place 724 (omega arith));
-          writes = omega (arith, x .writes, writes-is, place 726 (omega arith));
-        }
+        room-same (v .same ∙ w .same ∙ last .onward .same) (place 288 (omega arith) ∙ count-is) (place 724 (omega arith) ∙ w .next ∙ last .slot .next)
+        (place 726 (omega arith) ∙ writes-is) x
 
     guard-room : Room ws₂ 1
     guard-room = resume-room (room-less (omega arith) (f .room))

@@ -17,7 +17,7 @@ use Rattle.checker.specs.Code.Going.Steps.{Gives, gives, gives-none, yie
 use Rattle.checker.specs.Code.Rules.{oneExec, twoExec, restExec, restSize, One, Operable}
 use Rattle.checker.specs.Code.Rules.Nodes.{let-form}
 use Rattle.checker.specs.Code.State.{depthIn, Means, Variables, noVariable, oneMore, PathIn, Room, Unnoted, Valued}
-use Rattle.checker.specs.Code.State.Laws.{means-kept, variables-kept, path-rewound, room-less}
+use Rattle.checker.specs.Code.State.Laws.{room-same, means-kept, variables-kept, path-rewound, room-less}
 use Rattle.checker.specs.declared.operators.Step.{Step}
 use Rattle.checker.specs.declared.steps.Move.{Move}
 
@@ -61,12 +61,8 @@ module _ {base : ℕ} {ws left : List ℕ} (d : Shifted base ws left) where
 
   pub shifted-room : {rows : ℕ} → Room ws rows → Room left rows
   shifted-room x =
-      record {
-        lent = omega (arith, x .lent, d .same);
-        rows = omega (arith, x .rows, d .beyond 288 (omega arith) λ z. omega arith);
-        symbols = omega (arith, x .symbols, d .beyond 724 (omega arith) λ z. omega arith);
-        writes = omega (arith, x .writes, d .beyond 726 (omega arith) λ z. omega arith);
-      }
+      room-same (d .same) (d .beyond 288 (omega arith) λ z. omega arith) (d .beyond 724 (omega arith) λ z. omega arith)
+      (d .beyond 726 (omega arith) λ z. omega arith) x
 
   pub shifted-unnoted : Unnoted ws left
   shifted-unnoted = record { each = λ k l h. d .beyond k (omega arith) λ z. omega arith }

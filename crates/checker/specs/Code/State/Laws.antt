@@ -226,6 +226,17 @@ room-less h r =
       writes = omega (arith, r .writes, h);
     }
 
+-- where as much is used
+pub room-same : {ws left : List ℕ} {more : ℕ} → length left ≡ length ws → countIn left ≡ countIn ws → nextIn left ≡ nextIn ws → writesIn left ≡ writesIn ws
+    → Room ws more → Room left more
+room-same same rows symbols writes r =
+    record {
+      lent = omega (arith, r .lent, same);
+      rows = omega (arith, r .rows, rows);
+      symbols = omega (arith, r .symbols, symbols);
+      writes = omega (arith, r .writes, writes);
+    }
+
 pub room-on : {ws left : List ℕ} {depth m n : ℕ} → Room ws (m + n) → Went ws left depth m → Room left n
 room-on r w =
     record {
