@@ -16,6 +16,13 @@ branchesOf true true = Both
 branchesOf true false = OnlyTrue
 branchesOf false b = OnlyFalse
 
+-- the other branch is impossible
+abbrev pub onlyOne : Decision → Bool
+onlyOne TooMany = false
+onlyOne Both = false
+onlyOne OnlyTrue = true
+onlyOne OnlyFalse = true
+
 unfoldable pub decisionOf : Formula → Formula → Decision
 decisionOf f g =
     pick (leb (length (differentAtoms (conjunction f g))) atomLimit)

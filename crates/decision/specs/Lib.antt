@@ -6,4 +6,5 @@ pub mod Marks
 pub mod Atoms
 pub mod Listed
 pub mod Words
+pub mod Known
 pub mod Promise

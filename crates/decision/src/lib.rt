@@ -5,9 +5,9 @@ ghost use mathlib.Core.Bool.{_&&_};
 ghost use mathlib.Core.Path.{_≡_};
 ghost use Prim.Native.Nat.{_+_, _<_, _≤_};
 ghost use lib.ListN.{length, getD, take};
-ghost use Rattle.decision.specs.Decision.{branchesOf};
-ghost use Rattle.decision.specs.Code.{above as after, Room, Low, operandBelow, reached, markRow, marked, seenAfter, Visited, countsOf, spreadOf, patternOf, rowWord, Stepped, words as wordsOf, blocksOf, conditionWord, nonZero, searched};
-ghost use Rattle.decision.specs.Promise.{Decides};
+ghost use Rattle.decision.specs.Decision.{branchesOf, onlyOne};
+ghost use Rattle.decision.specs.Code.{above as after, Room, Low, operandBelow, reached, markRow, marked, seenAfter, Visited, countsOf, spreadOf, patternOf, rowWord, Stepped, words as wordsOf, blocksOf, conditionWord, nonZero, searched, decided};
+ghost use Rattle.decision.specs.Promise.{Decidable, Decides};
 ghost use Rattle.terms.specs.Terms.{rowLimit, rowsEnd};
 use terms::CONJUNCTION;
 use terms::CONSTANT;
@@ -293,6 +293,18 @@ fn branches_of(yes: u64, no: u64) -> Decision
     Decision::Both
 }
 
+// One branch is taken, and the other is impossible.
+fn only_one(decision: Decision) -> bool
+    ensures { λ r. ⌜ r ≡ onlyOne decision ⌝ }
+{
+    match decision {
+        Decision::TooMany => false,
+        Decision::Both => false,
+        Decision::OnlyTrue => true,
+        Decision::OnlyFalse => true,
+    }
+}
+
 // Both branches have an assignment.
 fn both_found(yes: u64, no: u64) -> bool
     ensures { λ r. ⌜ r ≡ nonZero yes && nonZero no ⌝ }
@@ -349,10 +361,10 @@ fn search(
 }
 
 // Which of 'condition and guard' and 'condition and not guard' is satisfiable, where the condition is: by the guard alone, if they share no atom.
-pub fn decide(space: &[u32], condition: u32, guard: u32) -> Decision
+fn decide_rows(space: &[u32], condition: u32, guard: u32) -> Decision
     requires { ⌜ rowsEnd ≤ length (now space) ⌝ }
     requires { ⌜ (condition < rowLimit) × (guard < rowLimit) ⌝ }
-    ensures { λ r. ⌜ Decides (now (space .entry)) condition guard r ⌝ }
+    ensures { λ r. ⌜ r ≡ decided (now (space .entry)) condition guard ⌝ }
 {
     let c = condition as usize;
     let g = guard as usize;
@@ -384,4 +396,18 @@ pub fn decide(space: &[u32], condition: u32, guard: u32) -> Decision
         blocks_of(counts.all),
         &mut words,
     )
+}
+
+// Which of 'condition and guard' and 'condition and not guard' is satisfiable, where the condition is. From place `at` on stands what is known of the
+// condition.
+pub fn decide(space: &mut [u32], at: usize, condition: u32, guard: u32) -> Decision
+    requires { ⌜ Decidable (now space) at condition guard ⌝ }
+    ensures { λ r. ⌜ Decides (now (space .entry)) at condition guard r (now (space .exit)) ⌝ }
+{
+    let decision = decide_rows(space, condition, guard);
+    if only_one(decision) {
+        space[at] = 0;
+        return decision;
+    }
+    decision
 }

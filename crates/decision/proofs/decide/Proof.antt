@@ -1,70 +1,33 @@
--- `decision::decide` meets its contract: the parts, one after the other. Assumes nothing.
+-- `decision::decide` meets its contract. Assumes nothing.
+use mathlib.Core.Path.{refl, sym, _∙_}
 use borrow.Author.Needs.{needs}
 use native.Mathlib.Omega.{arith}
-use Rattle.decision.specs.Code.{Room, startMarks}
-use Rattle.decision.specs.Code.Whole.{Prepared, room-start, room-marked, room-guard, decided-many, decided-alone, decided-both}
-use Rattle.decision.specs.Promise.{promised}
+use Rattle.decision.specs.Promise.{promised-same, promised-forgot}
 use Rattle.decision.proofs.decide.Statement.{statement}
 use Rattle.decision.proofs.decide.Tie as tie
 
--- the room for the marks at first, and for what is marked
-begun : (c : tie.After-marks) → Room (c .before .before .before .args .space .now) (c .before .above .result) (startMarks (c .before .before .before .args .condition) (c .before .before .before .args .guard))
-begun c =
-    let a = c .before .before .before .args in
-    let p = c .before .before .before .pre in
-    room-start (a .space .now) (a .condition) (a .guard) (c .before .above .result) (c .before .above .ensures) (p .0) (p .1 .0) (p .1 .1)
+decide-rows-requires : tie.Need-decide-rows-requires
+decide-rows-requires c κs = let p = c .before .before .pre in (omega (arith, p .behind, p .lent), (p .low, p .high))
 
-room : (c : tie.After-mark-all) → Room (c .before .before .before .before .args .space .now) (c .before .before .above .result) (c .mark-all .last .1 .1 .0)
-room c = room-marked _ (begun (c .before)) (c .mark-all .ensures .1)
-
--- what the parts give
-parts : (c : tie.After-mark-all) → Prepared (c .before .before .before .before .args .space .now) (c .before .before .before .before .args .condition) (c .before .before .before .before .args .guard) (c .before .before .above .result) (c .mark-all .last .1 .1 .0) (c .mark-all .result)
-parts c = record { up = c .before .before .above .ensures; marks = c .mark-all .ensures .1; counts = c .mark-all .ensures .0 }
+slice-write-space : tie.Need-slice-write-space
+slice-write-space c = omega (arith, c .before .before .before .before .before .pre .lent)
 
 returns : tie.Need-returns
 returns c =
-    let a = c .before .before .before .before .before .before .before .args in
-    promised (decided-many (a .space .now) (a .condition) (a .guard) (parts (c .before .before .before)) (c .if1 .taken))
-
-search-requires : tie.Need-search-requires
-search-requires c κs =
-    let a = c .before .before .before .before .before .before .before .before .before .before .before .before .args in
-    let p = c .before .before .before .before .before .before .before .before .before .before .before .before .pre .1 in
-    ((p .1, p .1), (room-guard (a .condition) (a .guard) (room (c .before .before .before .before .before .before .before .before)) (c .before .before .before .before .before .before .before .before .before .before .above .ensures), omega arith))
+    promised-forgot (c .before .before .before .before .before .pre) (sym (c .before .only-one .ensures) ∙ c .if1 .taken) refl (c .before .before .decide-rows .ensures)
 
 returns-2 : tie.Need-returns-2
-returns-2 c =
-    let a = c .before .before .before .before .before .before .before .before .before .before .before .before .before .before .args in
-    promised (decided-alone (a .space .now) (a .condition) (a .guard) (parts (c .before .before .before .before .before .before .before .before .before .before)) (c .before .before .before .blocks-of .result) (c .before .search .result) (c .before .before .before .before .before .before .before .if1 .left) (c .before .before .before .before .before .if2 .taken) (c .before .before .before .blocks-of .ensures) (c .before .search .ensures))
-
-search-requires-2 : tie.Need-search-requires-2
-search-requires-2 c κs =
-    let e = c .before .before .before .before .before .before .before .before .before .before .above .ensures in
-    (c .before .before .before .before .before .before .before .before .before .before .before .before .pre .1, (rw e at (room (c .before .before .before .before .before .before .before .before)), omega arith))
-
-returns-3 : tie.Need-returns-3
-returns-3 c =
-    let a = c .before .before .before .before .before .before .before .before .before .before .before .before .before .before .args in
-    promised (decided-both (a .space .now) (a .condition) (a .guard) (parts (c .before .before .before .before .before .before .before .before .before .before)) (c .before .before .before .blocks-of2 .result) (c .before .search2 .result) (c .before .before .before .before .before .before .before .if1 .left) (c .before .before .before .before .before .if2 .left) (c .before .before .before .blocks-of2 .ensures) (c .before .search2 .ensures))
+returns-2 c = promised-same (sym (c .before .only-one .ensures) ∙ c .if1 .left) (c .before .before .decide-rows .ensures)
 
 pub decide-spec : {M : Type 1} → statement M
 decide-spec =
     tie.close
     (tie.spec
-    (λ c. search needs)
-    (λ c. search needs)
-    (λ c. search needs)
+    decide-rows-requires
     (λ c κs. search needs)
     (λ c. search needs)
-    (λ c κs. begun c)
+    slice-write-space
+    (λ c. search needs)
     returns
     (λ c. search needs)
-    (λ c κs. search needs)
-    (λ c. search needs)
-    search-requires
-    returns-2
-    (λ c. search needs)
-    (λ c κs. search needs)
-    (λ c. search needs)
-    search-requires-2
-    returns-3)
+    returns-2)
