@@ -62,6 +62,28 @@ pub enum Inner {
         blocks: usize,
         inside: usize,
     },
+    /// Forks on so many guards, then so many on the same guards again, each with one branch only;
+    /// these name a guard by its variable, or are written anew.
+    Forced {
+        guards: Guards,
+        forks: usize,
+        again: usize,
+        anew: bool,
+    },
+}
+
+/// The guards that come again: six truths over the truth entries, none of which follows from the
+/// others.
+#[derive(Clone, Copy, Debug)]
+pub enum Guards {
+    /// Entries.
+    Plain,
+    /// Two entries each, and then one.
+    Pairs,
+    /// The equality of two entries.
+    Equal,
+    /// The equality of an entry and that of two others, the last of which is the next one's first.
+    Linked,
 }
 
 /// What the conditions of an inner block ask.
@@ -104,6 +126,14 @@ impl Making {
         self.open += 1;
         self.variables += 1;
         self.variables - 1
+    }
+
+    /// The variable of a value, which is bound if it is none itself.
+    fn name(&mut self, value: &str) -> String {
+        match value.starts_with('v') {
+            true => value.to_string(),
+            false => format!("v{}", self.bind(value)),
+        }
     }
 
     fn end(mut self, last: &str) -> String {
@@ -184,6 +214,12 @@ impl Inner {
                 blocks,
                 inside,
             } => beside(&mut making, &mut mentions, forks, blocks, inside),
+            Inner::Forced {
+                guards,
+                forks,
+                again,
+                anew,
+            } => forced(&mut making, &mut mentions, guards, (forks, again), anew),
         };
         while let Some(variable) = mentions.0.pop() {
             making.bind(&format!("v{variable}"));
@@ -236,6 +272,41 @@ fn beside(
     let condition = cheap(inside.saturating_sub(1));
     for _ in 0..blocks {
         making.bind(&format!("(typed (sym (if {condition} 1 2)))"));
+    }
+}
+
+/// Forks on so many guards, then so many on the same guards again, in turn.
+fn forced(
+    making: &mut Making,
+    mentions: &mut Mentions,
+    guards: Guards,
+    (forks, again): (usize, usize),
+    anew: bool,
+) {
+    let written: Vec<String> = (0..forks).map(|k| guards.guard(k)).collect();
+    let named: Vec<String> = written.iter().map(|guard| making.name(guard)).collect();
+    for guard in &named {
+        fork(making, mentions, guard);
+    }
+    let later = if anew { &written } else { &named };
+    for guard in later.iter().cycle().take(again) {
+        fork(making, mentions, guard);
+    }
+}
+
+impl Guards {
+    /// The k-th of the six.
+    fn guard(&self, k: usize) -> String {
+        let (a, b, c) = (2 * k, 2 * k + 1, (2 * k + 2) % 10);
+        match (self, k) {
+            (Guards::Plain, _) => format!("v{k}"),
+            (Guards::Pairs, 0..4) => format!("(and v{a} v{b})"),
+            (Guards::Pairs, _) => format!("v{}", k + 4),
+            (Guards::Equal, 0..5) => format!("(eq v{a} v{b})"),
+            (Guards::Equal, _) => "(eq v1 v2)".to_string(),
+            (Guards::Linked, 0..5) => format!("(eq v{a} (eq v{b} v{c}))"),
+            (Guards::Linked, _) => "(eq v1 v5)".to_string(),
+        }
     }
 }
 
@@ -294,4 +365,44 @@ pub fn script(outer: &Outer, inner: &Inner) -> Option<Candidate> {
         _ => format!("{inner:?} in {outer:?}"),
     };
     Candidate::spelled(from, ENTRIES, &inner.close(making, mentions))
+}
+
+#[cfg(test)]
+mod tests {
+    use super::*;
+    use conformance::spelling::spelled;
+
+    /// Two guards and one of them again, in no other block.
+    fn forced(guards: Guards, anew: bool) -> Vec<u8> {
+        let outer = Outer {
+            blocks: 0,
+            cheap: 0,
+            bound: 0,
+            binds: Binds::Words,
+        };
+        let inner = Inner::Forced {
+            guards,
+            forks: 2,
+            again: 1,
+            anew,
+        };
+        script(&outer, &inner).expect("a script").text()
+    }
+
+    #[test]
+    fn guards_come_again_by_their_variables_or_anew() {
+        let pairs = |last: &str| {
+            let forks = format!("(let (if v16 1 2) (let (if v17 1 2) (let (if {last} 1 2) 3)))");
+            let script = format!("(sym (let (and v0 v1) (let (and v2 v3) {forks})))");
+            spelled(ENTRIES, &script).text
+        };
+        assert_eq!(forced(Guards::Pairs, false), pairs("v16"));
+        assert_eq!(forced(Guards::Pairs, true), pairs("(and v0 v1)"));
+    }
+
+    #[test]
+    fn entries_are_guards_that_are_not_bound() {
+        let script = "(sym (let (if v0 1 2) (let (if v1 1 2) (let (if v0 1 2) 3))))";
+        assert_eq!(forced(Guards::Plain, false), spelled(ENTRIES, script).text);
+    }
 }

@@ -1,7 +1,7 @@
 //! The members of the families that the search tries.
 
 use crate::candidates::Candidate;
-use crate::families::{script, Atoms, Binds, Inner, Outer};
+use crate::families::{script, Atoms, Binds, Guards, Inner, Outer};
 
 /// The outer blocks of the families: none, or one to three with 16 to 64 paths each.
 fn outers() -> Vec<Outer> {
@@ -64,6 +64,24 @@ fn inners() -> Vec<Inner> {
                 forks,
                 blocks,
                 inside,
+            }));
+        }
+    }
+    for (guards, anew) in [
+        (Guards::Plain, false),
+        (Guards::Pairs, false),
+        (Guards::Pairs, true),
+        (Guards::Equal, false),
+        (Guards::Equal, true),
+        (Guards::Linked, false),
+        (Guards::Linked, true),
+    ] {
+        for forks in [4, 5, 6] {
+            inners.extend([4, 8, 12, 16, 19].map(|again| Inner::Forced {
+                guards,
+                forks,
+                again,
+                anew,
             }));
         }
     }

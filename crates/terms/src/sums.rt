@@ -84,7 +84,7 @@ fn gather(numbers: &mut [u32], row: Row, w: u32)
     }
 }
 
-// Passes over the rows below `top`, from the last down.
+// Passes over the rows below `top`, from the last down. A row of weight 0 changes nothing, and is not read.
 fn pass(space: &[u32], top: usize, weights: &mut [u32], numbers: &mut [u32])
     requires { ⌜ Room (now space) top (now weights) (now numbers) ⌝ }
     ensures { λ _. ⌜ now (numbers .exit) ≡ passed (now (space .entry)) top (now (weights .entry)) (now (numbers .entry)) ⌝ }
@@ -92,10 +92,12 @@ fn pass(space: &[u32], top: usize, weights: &mut [u32], numbers: &mut [u32])
     let mut i = top;
     while 0 < i {
         i -= 1;
-        let row = row_at(space, i);
         let w = weights[i];
-        spread(weights, row, i, w);
-        gather(numbers, row, w);
+        if w != 0 {
+            let row = row_at(space, i);
+            spread(weights, row, i, w);
+            gather(numbers, row, w);
+        }
     }
 }
 

@@ -3,10 +3,11 @@ use mathlib.Core.Bool.{Bool, true, false, not}
 use mathlib.Core.List.{List}
 use mathlib.Core.Path.{_≡_, refl, sym, ap, _∙_}
 use Prim.Native.Nat.{ℕ, zero, suc, _+_, _*_, _%_, _^_, _≤_, _<_}
-use native.Mathlib.Nat.{mul-le-mul-left, mul-lt-mul-of-pos-right, lt-of-le-of-lt, le-of-lt}
+use native.Mathlib.Nat.{mul-le-mul-left, mul-lt-mul-of-pos-right, lt-of-le-of-lt, le-of-lt, zero-mul}
 use native.Mathlib.Omega.{arith}
 use lib.Dec.{eqb, ltb, lit<}
-use lib.ListN.{length, getD, replicate, length-set, length-replicate}
+use lib.ListN.{length, getD, set, replicate, length-set, length-replicate}
+use lib.Seq.{set-getD}
 use borrow.Author.Tests.{eqb-true, ltb-true, ltb-false, eq-eqb, ne-eqb, lt-ltb, le-ltb}
 use Rattle.script.specs.Tests.{pick}
 use Rattle.script.specs.Tests.Laws.{both-true, true-both}
@@ -131,6 +132,35 @@ module _ (xs : List ℕ) (row : Row) (w : ℕ) where
       go false true = simp length-set
       go false false = refl
 
+-- ---- a weight of 0 changes nothing
+
+-- every number is below 2^32
+pub record Reduced (xs : List ℕ) : Type 0 where
+  pub below : (k : ℕ) → getD xs k 0 < 2 ^ 32
+
+added-zero : (xs : List ℕ) (at : ℕ) → Reduced xs → added xs at 0 ≡ xs
+added-zero xs at h = ap (set xs at) (same (getD xs at 0) (h .below at)) ∙ set-getD xs at 0
+  where
+    same : (v : ℕ) → v < 2 ^ 32 → (v + 0) % 2 ^ 32 ≡ v
+    same v l = omega arith
+
+pub spread-zero : (xs : List ℕ) (row : Row) (i : ℕ) → Reduced xs → spread xs row i 0 ≡ xs
+unfolding spread
+spread-zero xs row i h = go (joins row 2 i)
+  where
+    go : (t : Bool) → pick t (added (added xs (row .a) 0) (row .b) 0) xs ≡ xs
+    go true = ap (λ (l : List ℕ). added l (row .b) 0) (added-zero xs (row .a) h) ∙ added-zero xs (row .b) h
+    go false = refl
+
+pub gather-zero : (xs : List ℕ) (row : Row) → Reduced xs → gather xs row 0 ≡ xs
+unfolding gather
+gather-zero xs row h = go (eqb (row .op) 0) (isSymbol row)
+  where
+    go : (t u : Bool) → pick t (added xs 0 (0 * row .a % 2 ^ 32)) (pick u (added xs (row .a + 1) 0) xs) ≡ xs
+    go true u = rw (zero-mul (row .a)) (added-zero xs 0 h)
+    go false true = added-zero xs (row .a + 1) h
+    go false false = refl
+
 -- ---- the pass
 
 -- after the rows from i on
@@ -138,10 +168,11 @@ pub record Passing (ws : List ℕ) (top : ℕ) (weights₀ numbers₀ : List ℕ
   pub within : i ≤ top
   pub weighted : length weights ≡ length weights₀
   pub placed : length numbers ≡ length numbers₀
+  pub reduced : Reduced numbers
   pub rest : passed ws i weights numbers ≡ passed ws top weights₀ numbers₀
 
-pub passing-start : (ws : List ℕ) (top : ℕ) (weights numbers : List ℕ) → Passing ws top weights numbers top weights numbers
-passing-start ws top weights numbers = record { within = omega arith; weighted = refl; placed = refl; rest = refl }
+pub passing-start : (ws : List ℕ) (top : ℕ) (weights numbers : List ℕ) → Reduced numbers → Passing ws top weights numbers top weights numbers
+passing-start ws top weights numbers h = record { within = omega arith; weighted = refl; placed = refl; reduced = h; rest = refl }
 
 passed-next : (ws : List ℕ) (i j : ℕ) (weights numbers : List ℕ) → i ≡ suc j
     → passed ws i weights numbers
@@ -151,14 +182,23 @@ passed-next ws i j weights numbers e = rw e refl
 
 pub passing-next : {ws : List ℕ} {top : ℕ} {weights₀ numbers₀ : List ℕ} {i : ℕ} {weights numbers : List ℕ} (j : ℕ) (row : Row) (xs ys : List ℕ)
     → Passing ws top weights₀ numbers₀ i weights numbers → i ≡ suc j → row ≡ rowIn ws j
-    → xs ≡ spread weights row j (getD weights j 0) → ys ≡ gather numbers row (getD weights j 0)
+    → xs ≡ spread weights row j (getD weights j 0) → ys ≡ gather numbers row (getD weights j 0) → Reduced ys
     → Passing ws top weights₀ numbers₀ j xs ys
-passing-next {ws} {i = i} {weights = weights} {numbers = numbers} j row xs ys p e r s g = record {
+passing-next {ws} {i = i} {weights = weights} {numbers = numbers} j row xs ys p e r s g h = record {
   within = omega arith;
   weighted = ap length s ∙ spread-length weights row j (getD weights j 0) ∙ p .weighted;
   placed = ap length g ∙ gather-length numbers row (getD weights j 0) ∙ p .placed;
+  reduced = h;
   rest = rw (s, g, r) (sym (passed-next ws i j weights numbers e) ∙ p .rest);
 }
+
+-- a row of weight 0 is left out
+pub passing-skip : {ws : List ℕ} {top : ℕ} {weights₀ numbers₀ : List ℕ} {i : ℕ} {weights numbers : List ℕ} (j : ℕ)
+    → Passing ws top weights₀ numbers₀ i weights numbers → i ≡ suc j → Reduced weights → getD weights j 0 ≡ 0
+    → Passing ws top weights₀ numbers₀ j weights numbers
+passing-skip {ws} {weights = weights} {numbers = numbers} j p e h z =
+    let row = rowIn ws j in
+    passing-next j row weights numbers p e refl (rw z (sym (spread-zero weights row j h))) (rw z (sym (gather-zero numbers row (p .reduced)))) (p .reduced)
 
 pub passing-end : {ws : List ℕ} {top : ℕ} {weights₀ numbers₀ : List ℕ} {i : ℕ} {weights numbers : List ℕ}
     → Passing ws top weights₀ numbers₀ i weights numbers → i ≤ 0 → numbers ≡ passed ws top weights₀ numbers₀
