@@ -11,6 +11,7 @@ use crate::frames::TOP;
 use crate::notes::BASE;
 use crate::path::CONDITION;
 use crate::path::DEPTH;
+use crate::path::KNOWN;
 use crate::path::NEXT;
 use crate::path::START;
 use crate::path::WRITES;
@@ -40,7 +41,7 @@ pub fn fork(space: &[u32], frames: &mut [u32])
     frames[FORKED] = count + 1;
 }
 
-// The numbers of the path are those of its last fork, which is left no more.
+// The numbers of the path are those of its last fork, which is left no more. Nothing is known of its condition.
 fn rewind(space: &mut [u32], frames: &mut [u32])
     requires { ⌜ spaceSize ≤ length (now space) ⌝ }
     requires { ⌜ framesSize ≤ length (now frames) ⌝ }
@@ -58,6 +59,7 @@ fn rewind(space: &mut [u32], frames: &mut [u32])
     space[WRITES] = second % 256;
     space[START] = second / 256 % 256;
     space[DEPTH] = second / 65536;
+    space[KNOWN] = 0;
     frames[FRAME] = first % 256;
     frames[TOP] = first % 256;
     frames[FORKED] = count;

@@ -1,5 +1,5 @@
-// What the workspace of a `sym` keeps of a path, behind the environment and the terms: the next fresh symbol, the row of the condition, the log and the notes
-// on blocks. A reference's place is twice its symbol, and one more if `ref` made it on this path.
+// What the workspace of a `sym` keeps of a path, behind the environment and the terms: the next fresh symbol, the row of the condition, the log, the notes
+// on blocks and what is known of the condition. A reference's place is twice its symbol, and one more if `ref` made it on this path.
 ghost use mathlib.Core.Path.{_≡_};
 ghost use Prim.Native.Nat.{suc, _*_, _<_, _≤_};
 ghost use lib.ListN.{length};
@@ -43,8 +43,11 @@ pub const LOG: usize = END + 5;
 // Where the notes on blocks begin.
 pub const NOTES: usize = LOG + 4 * Script::NODES;
 
+// Where stands what is known of the condition.
+pub const KNOWN: usize = NOTES + notes::SIZE;
+
 // How many numbers a workspace has.
-pub const SPACE: usize = NOTES + notes::SIZE;
+pub const SPACE: usize = KNOWN + decision::KNOWN;
 
 // What becomes of an `if`: a branch, both, or a refusal.
 pub enum Branch {
@@ -87,7 +90,8 @@ pub fn choose(space: &mut [u32], t: u32, p: u32, n: u32) -> Branch
     if t != 1 {
         return Branch::Neither(Refusal::WrongType(n));
     }
-    match decide(space, space[CONDITION], p) {
+    let condition = space[CONDITION];
+    match decide(space, KNOWN, condition, p) {
         Decision::TooMany => Branch::Neither(Refusal::TooManyAtoms(n)),
         Decision::Both => Branch::Both,
         Decision::OnlyTrue => {

@@ -17,6 +17,7 @@ use crate::operators::one;
 use crate::operators::two;
 use crate::path::Branch;
 use crate::path::DEPTH;
+use crate::path::KNOWN;
 use crate::path::assume;
 use crate::path::choose;
 use script::Refusal;
@@ -43,7 +44,8 @@ fn moved(step: Step) -> Move
     }
 }
 
-// An `if` whose condition gave a value of type t at place p: the branch that is taken.
+// An `if` whose condition gave a value of type t at place p: the branch that is taken. Where both can be, the
+// condition gets the guard, and what is known of it is forgotten.
 fn branch(space: &mut [u32], frames: &mut [u32], b: u32, c: u32, t: u32, p: u32, n: u32) -> Move
     requires { ⌜ Decidable (now space) t p ⌝ }
     requires { ⌜ Waitable (now frames) ⌝ }
@@ -59,6 +61,7 @@ fn branch(space: &mut [u32], frames: &mut [u32], b: u32, c: u32, t: u32, p: u32,
         Branch::Neither(why) => Move::Stopped(why),
         Branch::Both => {
             fork(space, frames);
+            space[KNOWN] = 0;
             assume(space, CONJUNCTION, p);
             Move::Operand(b)
         }

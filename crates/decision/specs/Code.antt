@@ -2,19 +2,22 @@
 -- rows computed for 64 assignments at a time. A mark is 1 for what the condition reaches, 2 for what the guard does, and 3 for what both do; the rows
 -- that have at least the mark 1, 2 or 3 are those that either reaches, that the guard does, and that both do. Assumes nothing.
 pub mod Laws
+pub mod Leaves
 pub mod Loops
+pub mod Ordered
+pub mod Searching
 pub mod Whole
-use mathlib.Core.Bool.{Bool, not}
+use mathlib.Core.Bool.{Bool, true, false, not}
 use mathlib.Core.List.{List, [], _∷_, _++_}
 use mathlib.Core.Path.{_≡_}
-use Prim.Native.Nat.{ℕ, zero, suc, _+_, _-_, _/_, _%_, _≤_, _<_}
+use Prim.Native.Nat.{ℕ, zero, suc, _+_, _-_, _*_, _/_, _%_, _≤_, _<_}
 use lib.Bits.{bitAnd, bitOr, bitXor}
 use lib.Dec.{leb, ltb, eqb}
 use lib.ListN.{length, getD, take, set, replicate}
 use Rattle.script.specs.Tests.{pick}
 use Rattle.terms.specs.Terms.{rowIn, rowLimit, rowsEnd}
 use Rattle.terms.specs.declared.Row.{Row}
-use Rattle.decision.specs.Decision.{branchesOf}
+use Rattle.decision.specs.Decision.{branchesOf, onlyOne}
 use Rattle.decision.specs.declared.Counts.{Counts}
 use Rattle.decision.specs.declared.Decision.{Decision}
 use Rattle.decision.specs.declared.Decision.the-variants.{TooMany}
@@ -99,7 +102,7 @@ patternOf (suc (suc (suc (suc (suc (suc (suc zero))))))) block = spreadOf (block
 patternOf (suc (suc (suc (suc (suc (suc (suc (suc zero)))))))) block = spreadOf (block / 4 % 2)
 patternOf (suc (suc (suc (suc (suc (suc (suc (suc (suc m))))))))) block = spreadOf (block / 8 % 2)
 
--- a row whose operands are x and y, where atom m is the next one
+-- a row whose operands are x and y; m is its number, if it is an atom
 unfoldable pub rowWord : Row → ℕ → ℕ → ℕ → ℕ → ℕ
 rowWord r x y m block =
     pick (leb 8 (r .op)) (patternOf m block)
@@ -113,16 +116,85 @@ rowWord r x y m block =
 unfoldable pub wordOf : List ℕ → Row → ℕ → ℕ → ℕ → ℕ → ℕ
 wordOf vs r mark least m block = pick (ltb mark least) 0 (rowWord r (getD vs (r .a) 0) (getD vs (r .b) 0) m block)
 
--- what a step at row i gives: its word in its place, and the number of the next atom
-pub record Stepped (ws ms : List ℕ) (least block : ℕ) (vs : List ℕ) (i seen next : ℕ) (out : List ℕ) : Type 0 where
-  pub counts : next ≡ seenAfter (rowIn ws i .op) (getD ms i 0) least seen
-  pub word : out ≡ set vs i (wordOf (take i vs) (rowIn ws i) (getD ms i 0) least seen block)
+-- the first rows, whose atoms have these numbers
+unfoldable pub words : List ℕ → List ℕ → ℕ → List ℕ → ℕ → ℕ → List ℕ
+words ws ms least ns block zero = []
+words ws ms least ns block (suc i) =
+    words ws ms least ns block i ++ (wordOf (words ws ms least ns block i) (rowIn ws i) (getD ms i 0) least (getD ns i 0) block ∷ [])
 
--- the first rows
-unfoldable pub words : List ℕ → List ℕ → ℕ → ℕ → ℕ → List ℕ
-words ws ms least block zero = []
-words ws ms least block (suc i) =
-    words ws ms least block i ++ (wordOf (words ws ms least block i) (rowIn ws i) (getD ms i 0) least (rank ws ms least i) block ∷ [])
+-- ---- the rows in order
+
+-- after row i, of which so many come before
+unfoldable pub countAfter : List ℕ → ℕ → ℕ → ℕ → ℕ
+countAfter ms least i count = pick (ltb (getD ms i 0) least) count (count + 1)
+
+unfoldable pub listedRow : List ℕ → ℕ → List ℕ → ℕ → ℕ → List ℕ
+listedRow ms least os i count = pick (ltb (getD ms i 0) least) os (set os count i)
+
+-- the rows below n that have at least a mark
+unfoldable pub rowsFrom : List ℕ → ℕ → ℕ → List ℕ
+rowsFrom ms least zero = []
+rowsFrom ms least (suc i) = pick (ltb (getD ms i 0) least) (rowsFrom ms least i) (rowsFrom ms least i ++ (i ∷ []))
+
+pub record Listable (ms : List ℕ) (n : ℕ) (os : List ℕ) : Type 0 where
+  pub few : n ≤ rowLimit
+  pub marks : n ≤ length ms
+  pub lent : n ≤ length os
+
+pub record Lists (ms : List ℕ) (n least : ℕ) (os : List ℕ) (count : ℕ) (out : List ℕ) : Type 0 where
+  pub same : length out ≡ length os
+  pub many : count ≡ length (rowsFrom ms least n)
+  pub rows : take count out ≡ rowsFrom ms least n
+
+-- so many rows in order
+pub record Rows (ws os : List ℕ) (count : ℕ) : Type 0 where
+  pub lent : rowsEnd ≤ length ws
+  pub few : count ≤ rowLimit
+  pub listed : count ≤ length os
+  pub each : (j : ℕ) → j < count → getD os j 0 < rowLimit
+
+-- ---- the numbers of the atoms among them
+
+unfoldable pub seenAt : List ℕ → ℕ → ℕ → ℕ
+seenAt ws i seen = pick (ltb (rowIn ws i .op) 8) seen (seen + 1)
+
+unfoldable pub numberRow : List ℕ → List ℕ → ℕ → ℕ → List ℕ
+numberRow ws ns i seen = pick (ltb (rowIn ws i .op) 8) ns (set ns i seen)
+
+-- how many of the first j rows are atoms
+unfoldable pub seenTo : List ℕ → List ℕ → ℕ → ℕ
+seenTo ws os zero = 0
+seenTo ws os (suc j) = seenAt ws (getD os j 0) (seenTo ws os j)
+
+-- these have numbers from 0 on
+unfoldable pub numbersTo : List ℕ → List ℕ → List ℕ → ℕ → List ℕ
+numbersTo ws os ns zero = ns
+numbersTo ws os ns (suc j) = numberRow ws (numbersTo ws os ns j) (getD os j 0) (seenTo ws os j)
+
+-- a row is no atom, or has a number; and so do the first j rows
+unfoldable pub isNumbered : List ℕ → List ℕ → ℕ → Bool
+isNumbered ws ns i = pick (ltb (rowIn ws i .op) 8) true (ltb (getD ns i 0) 10)
+
+unfoldable pub numberedTo : List ℕ → List ℕ → List ℕ → ℕ → Bool
+numberedTo ws os ns zero = true
+numberedTo ws os ns (suc j) = pick (isNumbered ws ns (getD os j 0)) (numberedTo ws os ns j) false
+
+-- no atom has a number
+abbrev pub noNumbers : List ℕ
+noNumbers = replicate rowLimit 10
+
+unfoldable pub numbersFrom : List ℕ → List ℕ → ℕ → ℕ → List ℕ
+numbersFrom ws ms least n = numbersTo ws (rowsFrom ms least n) noNumbers (length (rowsFrom ms least n))
+
+-- ---- their words
+
+unfoldable pub evaluateRow : List ℕ → List ℕ → ℕ → List ℕ → ℕ → List ℕ
+evaluateRow ws ns block vs i =
+    set vs i (rowWord (rowIn ws i) (getD (take i vs) (rowIn ws i .a) 0) (getD (take i vs) (rowIn ws i .b) 0) (getD ns i 0) block)
+
+unfoldable pub evaluatedTo : List ℕ → List ℕ → List ℕ → ℕ → List ℕ → ℕ → List ℕ
+evaluatedTo ws os ns block vs zero = vs
+evaluatedTo ws os ns block vs (suc j) = evaluateRow ws ns block (evaluatedTo ws os ns block vs j) (getD os j 0)
 
 -- ---- the blocks
 
@@ -139,20 +211,128 @@ unfoldable pub conditionWord : List ℕ → ℕ → ℕ → ℕ
 conditionWord vs c least = pick (eqb least 2) ones (getD vs c 0)
 
 -- the assignments of a block that allow the true branch, and those that allow the false one
-unfoldable pub trueWord : List ℕ → List ℕ → ℕ → ℕ → ℕ → ℕ → ℕ
-trueWord ws ms least c g block =
-    bitAnd (conditionWord (words ws ms least block (above c g)) c least) (getD (words ws ms least block (above c g)) g 0)
+unfoldable pub trueWord : List ℕ → List ℕ → ℕ → List ℕ → ℕ → ℕ → ℕ → ℕ
+trueWord ws ms least ns c g block =
+    bitAnd (conditionWord (words ws ms least ns block (above c g)) c least) (getD (words ws ms least ns block (above c g)) g 0)
 
-unfoldable pub falseWord : List ℕ → List ℕ → ℕ → ℕ → ℕ → ℕ → ℕ
-falseWord ws ms least c g block =
-    bitAnd (conditionWord (words ws ms least block (above c g)) c least) (ones - getD (words ws ms least block (above c g)) g 0)
+unfoldable pub falseWord : List ℕ → List ℕ → ℕ → List ℕ → ℕ → ℕ → ℕ → ℕ
+falseWord ws ms least ns c g block =
+    bitAnd (conditionWord (words ws ms least ns block (above c g)) c least) (ones - getD (words ws ms least ns block (above c g)) g 0)
 
 abbrev pub nonZero : ℕ → Bool
 nonZero w = not (eqb w 0)
 
+unfoldable pub searchedBy : List ℕ → List ℕ → ℕ → List ℕ → ℕ → ℕ → ℕ → Decision
+searchedBy ws ms least ns c g blocks =
+    branchesOf (nonZero (together (trueWord ws ms least ns c g) blocks)) (nonZero (together (falseWord ws ms least ns c g) blocks))
+
+-- the atoms have their numbers in order
 unfoldable pub searched : List ℕ → List ℕ → ℕ → ℕ → ℕ → ℕ → Decision
-searched ws ms least c g blocks =
-    branchesOf (nonZero (together (trueWord ws ms least c g) blocks)) (nonZero (together (falseWord ws ms least c g) blocks))
+searched ws ms least c g blocks = searchedBy ws ms least (numbersFrom ws ms least (above c g)) c g blocks
+
+unfoldable pub truthsOf : List ℕ → List ℕ → ℕ → ℕ → ℕ → ℕ → ℕ
+truthsOf ws ms least c g block = conditionWord (words ws ms least (numbersFrom ws ms least (above c g)) block (above c g)) c least
+
+pub record Searchable (ws : List ℕ) (c g : ℕ) (ms : List ℕ) (least blocks : ℕ) : Type 0 where
+  pub low : c < rowLimit
+  pub high : g < rowLimit
+  pub room : Room ws (above c g) ms
+  pub few : blocks ≤ 16
+
+-- unless both branches are found, the truths of the condition are those of all blocks
+pub record Searched (ws ms : List ℕ) (least c g blocks : ℕ) (ts : List ℕ) (r : Decision) (out : List ℕ) : Type 0 where
+  pub is : r ≡ searched ws ms least c g blocks
+  pub same : length out ≡ length ts
+  pub truths : onlyOne r ≡ true → (b : ℕ) → b < blocks → getD out b 0 ≡ truthsOf ws ms least c g b
+
+-- ---- what is known of a condition
+
+-- how many numbers that takes
+abbrev pub knownSize : ℕ
+knownSize = 44
+
+abbrev pub knownRow : List ℕ → ℕ → ℕ → ℕ
+knownRow ws at j = getD ws (at + 2 + j) 0
+
+abbrev pub knownWord : List ℕ → ℕ → ℕ → ℕ
+knownWord ws at block = getD ws (at + 12 + 2 * block) 0 + getD ws (at + 12 + 2 * block + 1) 0 * 4294967296
+
+-- if something is known, its rows are rows
+pub record Sound (ws : List ℕ) (at : ℕ) : Type 0 where
+  pub count : getD ws at 0 ≡ 1 → getD ws (at + 1) 0 ≤ 10
+  pub rows : getD ws at 0 ≡ 1 → (j : ℕ) → j < getD ws (at + 1) 0 → knownRow ws at j < rowLimit
+
+-- the first j atoms have their numbers
+unfoldable pub knownNumbers : List ℕ → ℕ → List ℕ → ℕ → List ℕ
+knownNumbers ws at ns zero = ns
+knownNumbers ws at ns (suc j) = set (knownNumbers ws at ns j) (knownRow ws at j) j
+
+-- row i is kept, if it is an atom with a mark, after so many others
+unfoldable pub keepRow : List ℕ → ℕ → ℕ → ℕ → ℕ → List ℕ
+keepRow ws at mark i count = pick (ltb mark 1) ws (pick (ltb (rowIn ws i .op) 8) ws (set ws (at + 2 + count) i))
+
+unfoldable pub keptRows : List ℕ → ℕ → List ℕ → ℕ → List ℕ
+keptRows ws at ms zero = ws
+keptRows ws at ms (suc i) = keepRow (keptRows ws at ms i) at (getD ms i 0) i (rank ws ms 1 i)
+
+unfoldable pub keepWord : List ℕ → ℕ → ℕ → ℕ → List ℕ
+keepWord ws at block w = set (set ws (at + 12 + 2 * block) (w % 4294967296)) (at + 12 + 2 * block + 1) (w / 4294967296)
+
+unfoldable pub keptWords : List ℕ → ℕ → List ℕ → ℕ → List ℕ
+keptWords ws at ts zero = ws
+keptWords ws at ts (suc block) = keepWord (keptWords ws at ts block) at block (getD ts block 0)
+
+-- the atoms with a mark, and the truths of the blocks
+unfoldable pub kept : List ℕ → ℕ → List ℕ → ℕ → ℕ → List ℕ → List ℕ
+kept ws at ms n blocks ts = set (set (keptWords (keptRows ws at ms n) at ts blocks) (at + 1) (rank ws ms 1 n)) at 1
+
+pub record Keepable (ws : List ℕ) (at : ℕ) (ms : List ℕ) (n : ℕ) : Type 0 where
+  pub behind : rowsEnd ≤ at
+  pub lent : at + knownSize ≤ length ws
+  pub rows : n ≤ rowLimit
+  pub marks : n ≤ length ms
+  pub few : rank ws ms 1 n ≤ 10
+
+-- the rows that the guard reaches
+unfoldable pub guardMarks : List ℕ → ℕ → List ℕ
+guardMarks ws g = marked ws (g + 1) (set (replicate rowLimit 0) g 1)
+
+unfoldable pub guardRows : List ℕ → ℕ → List ℕ
+guardRows ws g = rowsFrom (guardMarks ws g) 1 (g + 1)
+
+pub record GuardListed (ws : List ℕ) (g : ℕ) (os : List ℕ) (count : ℕ) (out : List ℕ) : Type 0 where
+  pub same : length out ≡ length os
+  pub many : count ≡ length (guardRows ws g)
+  pub rows : take count out ≡ guardRows ws g
+
+-- the words of the rows and of the guard, where the condition has a truth in this block
+unfoldable pub guardedWords : List ℕ → List ℕ → ℕ → List ℕ → ℕ → List ℕ → ℕ → List ℕ
+guardedWords ws os count ns block vs c = pick (eqb c 0) vs (evaluatedTo ws os ns block vs count)
+
+unfoldable pub guardedWord : List ℕ → ℕ → ℕ → ℕ
+guardedWord vs g c = pick (eqb c 0) 0 (getD vs g 0)
+
+-- the branches by what is known and the words of the guard
+unfoldable pub withKnown : List ℕ → ℕ → List ℕ → ℕ → ℕ → ℕ
+withKnown ws at ns g block = bitAnd (knownWord ws at block) (getD (words ws (guardMarks ws g) 1 ns block (g + 1)) g 0)
+
+unfoldable pub withoutKnown : List ℕ → ℕ → List ℕ → ℕ → ℕ → ℕ
+withoutKnown ws at ns g block = bitAnd (knownWord ws at block) (ones - getD (words ws (guardMarks ws g) 1 ns block (g + 1)) g 0)
+
+unfoldable pub compared : List ℕ → ℕ → List ℕ → ℕ → Decision
+compared ws at ns g =
+    branchesOf
+    (nonZero (together (withKnown ws at ns g) (blocksOf (getD ws (at + 1) 0))))
+    (nonZero (together (withoutKnown ws at ns g) (blocksOf (getD ws (at + 1) 0))))
+
+pub record Comparable (ws : List ℕ) (at : ℕ) (os : List ℕ) (count : ℕ) (ns : List ℕ) (g : ℕ) : Type 0 where
+  pub behind : rowsEnd ≤ at
+  pub lent : at + knownSize ≤ length ws
+  pub high : g < rowLimit
+  pub listed : count ≤ length os
+  pub many : count ≡ length (guardRows ws g)
+  pub rows : take count os ≡ guardRows ws g
+  pub numbers : rowLimit ≤ length ns
 
 -- ---- the decision
 
@@ -171,9 +351,30 @@ unfoldable pub atomsFrom : List ℕ → ℕ → ℕ → ℕ → ℕ
 atomsFrom ws c g least = rank ws (marksFrom ws c g) least (above c g)
 
 -- a guard that shares no atom with the condition is decided alone
-unfoldable pub decided : List ℕ → ℕ → ℕ → Decision
-decided ws c g =
+unfoldable pub decidedAnew : List ℕ → ℕ → ℕ → Decision
+decidedAnew ws c g =
     pick (ltb 10 (atomsFrom ws c g 1)) TooMany
     (pick (eqb (atomsFrom ws c g 3) 0)
     (searched ws (marksFrom ws c g) 2 g g (blocksOf (atomsFrom ws c g 2)))
     (searched ws (marksFrom ws c g) 1 c g (blocksOf (atomsFrom ws c g 1))))
+
+-- the atoms of what is known have their numbers; every atom of the guard has one
+unfoldable pub recalled : List ℕ → ℕ → List ℕ
+recalled ws at = knownNumbers ws at noNumbers (getD ws (at + 1) 0)
+
+unfoldable pub recalls : List ℕ → ℕ → ℕ → Bool
+recalls ws at g = numberedTo ws (guardRows ws g) (recalled ws at) (length (guardRows ws g))
+
+-- the decision, by what is known if that has every atom of the guard
+unfoldable pub decided : List ℕ → ℕ → ℕ → ℕ → Decision
+decided ws at c g =
+    pick (eqb (getD ws at 0) 1) (pick (recalls ws at g) (compared ws at (recalled ws at) g) (decidedAnew ws c g)) (decidedAnew ws c g)
+
+-- what is left of the numbers after a decision by the rows: if one branch is impossible, nothing is known where the guard was decided alone, and the truths
+-- of the condition are where it was not
+pub data LeftAnew (ws : List ℕ) (at c g : ℕ) (r : Decision) (left : List ℕ) : Type 0 where
+  left-same : onlyOne r ≡ false → left ≡ ws → LeftAnew ws at c g r left
+  left-none : onlyOne r ≡ true → left ≡ set ws at 0 → LeftAnew ws at c g r left
+  left-kept : onlyOne r ≡ true → atomsFrom ws c g 1 ≤ 10 → (ts : List ℕ)
+      → ((b : ℕ) → b < blocksOf (atomsFrom ws c g 1) → getD ts b 0 ≡ truthsOf ws (marksFrom ws c g) 1 c g b)
+      → left ≡ kept ws at (marksFrom ws c g) (above c g) (blocksOf (atomsFrom ws c g 1)) ts → LeftAnew ws at c g r left

@@ -1,6 +1,8 @@
 -- What is known of a condition, so that it is not gone through again: the rows of its atoms, and its truths under their assignments. It stands among the
 -- lent numbers from a place on: 1 if something is known, how many atoms, ten places for their rows, and two numbers for each of 16 blocks.
 -- Assumes nothing.
+pub mod Keeping
+pub mod Recalling
 use mathlib.Core.Bool.{Bool, true, false}
 use mathlib.Core.List.{List}
 use mathlib.Core.Path.{_≡_, sym, _∙_}
@@ -13,28 +15,15 @@ use Rattle.rules.specs.Satisfiable.{atomsOf, among}
 use Rattle.rules.specs.Symbolic.{Atom, Formula}
 use Rattle.terms.specs.Terms.{countIn, rowLimit, AtomRow, Grown}
 use Rattle.terms.specs.Terms.Laws.{atom-kept}
-use Rattle.decision.specs.Atoms.{assign}
-use Rattle.decision.specs.Bits.{bit}
-use Rattle.decision.specs.Code.{blocksOf}
-use Rattle.decision.specs.Words.{Right}
+use Rattle.decision.specs.Code.{blocksOf, knownSize, knownRow, knownWord, Sound}
+use Rattle.decision.specs.Words.{Assigned, Right}
 
--- how many numbers that takes
-abbrev pub knownSize : ℕ
-knownSize = 44
-
-abbrev pub knownRow : List ℕ → ℕ → ℕ → ℕ
-knownRow ws at j = getD ws (at + 2 + j) 0
-
-abbrev pub knownWord : List ℕ → ℕ → ℕ → ℕ
-knownWord ws at block = getD ws (at + 12 + 2 * block) 0 + getD ws (at + 13 + 2 * block) 0 * 4294967296
-
--- row i is an atom of the list, and the assignments by number give it their bit m
+-- row i is an atom with number m
 pub record Numbered (ws : List ℕ) (xs : List Atom) (i m : ℕ) : Type 0 where
   pub atom : Atom
   pub below : i < countIn ws
   pub row : AtomRow ws i atom
-  pub listed : among xs atom ≡ true
-  pub bits : (n : ℕ) → assign xs n atom ≡ bit n m
+  pub assigned : Assigned xs m atom
 
 -- the truths of a formula are known
 pub record Known (ws : List ℕ) (at : ℕ) (f : Formula) : Type 0 where
@@ -45,14 +34,14 @@ pub record Known (ws : List ℕ) (at : ℕ) (f : Formula) : Type 0 where
   pub all : (z : Atom) → among (atomsOf f) z ≡ true → among atoms z ≡ true
   pub words : (block : ℕ) → block < blocksOf (length atoms) → Right atoms block (knownWord ws at block) f
 
+-- they are known over the atoms of another formula too
+pub record KnownOver (ws : List ℕ) (at : ℕ) (f h : Formula) : Type 0 where
+  pub is : Known ws at f
+  pub others : (z : Atom) → among (atomsOf h) z ≡ true → among (is .atoms) z ≡ true
+
 -- if something is known, it is this formula's
 pub record Remembers (ws : List ℕ) (at : ℕ) (f : Formula) : Type 0 where
   pub known : getD ws at 0 ≡ 1 → Known ws at f
-
--- if something is known, its rows are rows
-pub record Sound (ws : List ℕ) (at : ℕ) : Type 0 where
-  pub count : getD ws at 0 ≡ 1 → getD ws (at + 1) 0 ≤ 10
-  pub rows : getD ws at 0 ≡ 1 → (j : ℕ) → j < getD ws (at + 1) 0 → knownRow ws at j < rowLimit
 
 pub remembers-sound : {ws : List ℕ} {at : ℕ} {f : Formula} → countIn ws ≤ rowLimit → Remembers ws at f → Sound ws at
 remembers-sound {ws} {at} r m =
@@ -90,12 +79,12 @@ module _ {ws left : List ℕ} {at : ℕ} (g : Grown ws left) (same : (k : ℕ) �
       row j l =
           let n = k .rows j l in
           let e = same (at + 2 + j) (omega arith) (omega (arith, l, k .few)) in
-          rw e (record { atom = n .atom; below = omega (arith, n .below, g .grows); row = atom-kept g (n .row) (n .below); listed = n .listed; bits = n .bits })
+          rw e (record { atom = n .atom; below = omega (arith, n .below, g .grows); row = atom-kept g (n .row) (n .below); assigned = n .assigned })
 
       word : (b : ℕ) → b < blocksOf (length (k .atoms)) → Right (k .atoms) b (knownWord left at b) f
       word b l =
           let m = blocks-most (length (k .atoms)) in
-          rw (same (at + 12 + 2 * b) (omega arith) (omega arith), same (at + 13 + 2 * b) (omega arith) (omega arith)) (k .words b l)
+          rw (same (at + 12 + 2 * b) (omega arith) (omega arith), same (at + 12 + 2 * b + 1) (omega arith) (omega arith)) (k .words b l)
 
   pub remembers-kept : {f : Formula} → Remembers ws at f → Remembers left at f
   remembers-kept {f} m = record { known = λ e. known-kept f (m .known (sym (same at (omega arith) (omega arith)) ∙ e)) }

@@ -56,36 +56,42 @@ module _ (r : Row) (x y m block : ℕ) where
 
 -- ---- a row's word by the words of its operands
 
-module _ (ws ms : List ℕ) (least block : ℕ) where
+module _ (ws ms : List ℕ) (least : ℕ) (ns : List ℕ) (block : ℕ) where
   pub words-at : (n i : ℕ) → i < n
-      → getD (words ws ms least block n) i 0 ≡ wordOf (words ws ms least block i) (rowIn ws i) (getD ms i 0) least (rank ws ms least i) block
+      → getD (words ws ms least ns block n) i 0 ≡ wordOf (words ws ms least ns block i) (rowIn ws i) (getD ms i 0) least (getD ns i 0) block
   unfolding words
   words-at zero i h = absurd (omega arith)
   words-at (suc n) i h = go (ℕ-discrete n i) (words-at n i)
     where
       w : ℕ
-      w = wordOf (words ws ms least block n) (rowIn ws n) (getD ms n 0) least (rank ws ms least n) block
+      w = wordOf (words ws ms least ns block n) (rowIn ws n) (getD ms n 0) least (getD ns n 0) block
 
       go : Dec (n ≡ i)
-          → (i < n → getD (words ws ms least block n) i 0 ≡ wordOf (words ws ms least block i) (rowIn ws i) (getD ms i 0) least (rank ws ms least i) block)
-          → getD (words ws ms least block n ++ (wordOf (words ws ms least block n) (rowIn ws n) (getD ms n 0) least (rank ws ms least n) block ∷ [])) i 0
-          ≡ wordOf (words ws ms least block i) (rowIn ws i) (getD ms i 0) least (rank ws ms least i) block
-      go (yes q) ih = rw q (getD-at (words ws ms least block i) _ [] 0 i (words-length ws ms least block i))
+          → (i < n → getD (words ws ms least ns block n) i 0 ≡ wordOf (words ws ms least ns block i) (rowIn ws i) (getD ms i 0) least (getD ns i 0) block)
+          → getD (words ws ms least ns block n ++ (wordOf (words ws ms least ns block n) (rowIn ws n) (getD ms n 0) least (getD ns n 0) block ∷ [])) i 0
+          ≡ wordOf (words ws ms least ns block i) (rowIn ws i) (getD ms i 0) least (getD ns i 0) block
+      go (yes q) ih = rw q (getD-at (words ws ms least ns block i) _ [] 0 i (words-length ws ms least ns block i))
       go (no q) ih =
-          let l = words-length ws ms least block n in
-          List·getD-append (words ws ms least block n) _ 0 i (omega arith) ∙ ih (omega arith)
+          let l = words-length ws ms least ns block n in
+          List·getD-append (words ws ms least ns block n) _ 0 i (omega arith) ∙ ih (omega arith)
 
-  pub words-same : (n i j : ℕ) → j < i → j < n → getD (words ws ms least block i) j 0 ≡ getD (words ws ms least block n) j 0
+  pub words-same : (n i j : ℕ) → j < i → j < n → getD (words ws ms least ns block i) j 0 ≡ getD (words ws ms least ns block n) j 0
   words-same n i j h k = words-at i j h ∙ sym (words-at n j k)
 
   word-row : (n i : ℕ) → i < n → least ≤ getD ms i 0
-      → getD (words ws ms least block n) i 0
-      ≡ rowWord (rowIn ws i) (getD (words ws ms least block i) (rowIn ws i .a) 0) (getD (words ws ms least block i) (rowIn ws i .b) 0)
-      (rank ws ms least i) block
+      → getD (words ws ms least ns block n) i 0
+      ≡ rowWord (rowIn ws i) (getD (words ws ms least ns block i) (rowIn ws i .a) 0) (getD (words ws ms least ns block i) (rowIn ws i .b) 0)
+      (getD ns i 0) block
   unfolding wordOf
   word-row n i h k = words-at n i h ∙ rw (le-ltb (getD ms i 0) least k)
 
 -- ---- right words
+
+-- the assignments by number give an atom of the list their bit m
+pub record Assigned (xs : List Atom) (m : ℕ) (x : Atom) : Type 0 where
+  pub low : m < 10
+  pub listed : among xs x ≡ true
+  pub bits : (n : ℕ) → assign xs n x ≡ bit n m
 
 pub record Right (xs : List Atom) (block w : ℕ) (f : Formula) : Type 0 where
   pub small : w < 2 ^ 64
@@ -192,66 +198,60 @@ module _ {P : ℕ → Type 0} {ws ms : List ℕ} {n : ℕ} (s : Closed P ws ms n
       (rows-of u (omega arith) (second-marked i l h k (omega arith) (omega arith) eb jb) z)
 
 -- what the words stand on
-pub record Sweep (ws ms : List ℕ) (least n : ℕ) (xs : List Atom) : Type 0 where
-  pub distinct : Distinct ws
-  pub rows : n ≤ countIn ws
+pub record Sweep (ws ms : List ℕ) (least n : ℕ) (ns : List ℕ) (xs : List Atom) : Type 0 where
   pub closed : Closed (AtLeast least) ws ms n
-  pub listed : Listed ws ms least n xs
+  pub numbered : (i : ℕ) (x : Atom) → i < n → least ≤ getD ms i 0 → AtomRow ws i x → Assigned xs (getD ns i 0) x
 
-module _ {ws ms : List ℕ} {least n : ℕ} {xs : List Atom} (s : Sweep ws ms least n xs) where
+module _ {ws ms : List ℕ} {least n : ℕ} {ns : List ℕ} {xs : List Atom} (s : Sweep ws ms least n ns xs) where
   -- the atoms of a marked row's formula are listed
   pub rows-listed : {i : ℕ} {f : Formula} → TruthRow ws i f → i < n → least ≤ getD ms i 0 → (z : Atom) → among (atomsOf f) z ≡ true → among xs z ≡ true
   rows-listed t h k z m = go (rows-of (s .closed) t h k z m)
     where
       go : RowOf (AtLeast least) ws ms n z → among xs z ≡ true
-      go (row-of i {x = x} l a e p) = sym (among-same xs x z e) ∙ listed-in (s .listed) i x l (record { marks = p; atoms = atom-op a }) a
+      go (row-of i {x = x} l a e p) = sym (among-same xs x z e) ∙ s .numbered i x l p a .listed
 
-  module _ (few : rank ws ms least n ≤ 10) (block : ℕ) where
+  module _ (block : ℕ) where
     -- an operand's word
-    operand-word : (i a j : ℕ) → i < n → a ≡ j → j < i → getD (words ws ms least block i) a 0 ≡ getD (words ws ms least block n) j 0
-    operand-word i a j h e b = ap (λ (k : ℕ). getD (words ws ms least block i) k 0) e ∙ words-same ws ms least block n i j b (omega arith)
+    operand-word : (i a j : ℕ) → i < n → a ≡ j → j < i → getD (words ws ms least ns block i) a 0 ≡ getD (words ws ms least ns block n) j 0
+    operand-word i a j h e b = ap (λ (k : ℕ). getD (words ws ms least ns block i) k 0) e ∙ words-same ws ms least ns block n i j b (omega arith)
 
     right-atom : (i : ℕ) (x y : Atom) → AtomRow ws i x → sameAtom x y ≡ true → i < n → least ≤ getD ms i 0
-        → Right xs block (patternOf (rank ws ms least i) block) (atom y)
+        → Right xs block (patternOf (getD ns i 0) block) (atom y)
     unfolding holds
     right-atom i x y a e h k =
-        let c : Counted ws ms least i = record { marks = k; atoms = atom-op a } in
-        let r = rank-counted i c in
-        let g = rank-grows ws ms least (suc i) n h in
+        let m = s .numbered i x h k a in
         record {
-          small = pattern-small (rank ws ms least i) block;
+          small = pattern-small (getD ns i 0) block;
           bits = λ p q.
-              pattern-bit (rank ws ms least i) block p (omega arith) q
-              ∙ sym (listed-assigns (s .distinct) (s .listed) (s .rows) (block * 64 + p) i x h c a)
-              ∙ assign-respects xs (block * 64 + p) .same x y e;
+              pattern-bit (getD ns i 0) block p (m .low) q ∙ sym (m .bits (block * 64 + p)) ∙ assign-respects xs (block * 64 + p) .same x y e;
         }
 
-    pub rows-right : {i : ℕ} {f : Formula} → TruthRow ws i f → i < n → least ≤ getD ms i 0 → Right xs block (getD (words ws ms least block n) i 0) f
+    pub rows-right : {i : ℕ} {f : Formula} → TruthRow ws i f → i < n → least ≤ getD ms i 0 → Right xs block (getD (words ws ms least ns block n) i 0) f
     rows-right (constantRow {i = i} {b = b} eo ea) h k =
-        rw (word-row ws ms least block n i h k, word-constant (rowIn ws i) _ _ _ block eo, ea) (right-constant b)
+        rw (word-row ws ms least ns block n i h k, word-constant (rowIn ws i) _ _ _ block eo, ea) (right-constant b)
     rows-right (atomRow {i = i} {x = x} {y = y} a e) h k =
-        rw (word-row ws ms least block n i h k, word-atom (rowIn ws i) _ _ _ block (atom-op a)) (right-atom i x y a e h k)
+        rw (word-row ws ms least ns block n i h k, word-atom (rowIn ws i) _ _ _ block (atom-op a)) (right-atom i x y a e h k)
     rows-right (negationRow {i = i} {j = j} eo ea ja t) h k =
-        rw (word-row ws ms least block n i h k, word-negation (rowIn ws i) _ _ _ block eo, operand-word i (rowIn ws i .a) j h ea ja)
+        rw (word-row ws ms least ns block n i h k, word-negation (rowIn ws i) _ _ _ block eo, operand-word i (rowIn ws i .a) j h ea ja)
         (right-negation (rows-right t (omega arith) (first-marked (s .closed) i j h k (omega arith) (omega arith) ea ja)))
     rows-right (conjunctionRow {i = i} {j = j} {k = m} eo ea eb ja jb t u) h k =
         let p = operand-word i (rowIn ws i .a) j h ea ja in
         let q = operand-word i (rowIn ws i .b) m h eb jb in
-        rw (word-row ws ms least block n i h k, word-conjunction (rowIn ws i) _ _ _ block eo, p, q)
+        rw (word-row ws ms least ns block n i h k, word-conjunction (rowIn ws i) _ _ _ block eo, p, q)
         (right-conjunction
         (rows-right t (omega arith) (first-marked (s .closed) i j h k (omega arith) (omega arith) ea ja))
         (rows-right u (omega arith) (second-marked (s .closed) i m h k (omega arith) (omega arith) eb jb)))
     rows-right (equalityRow {i = i} {j = j} {k = m} eo ea eb ja jb t u) h k =
         let p = operand-word i (rowIn ws i .a) j h ea ja in
         let q = operand-word i (rowIn ws i .b) m h eb jb in
-        rw (word-row ws ms least block n i h k, word-equality (rowIn ws i) _ _ _ block eo, p, q)
+        rw (word-row ws ms least ns block n i h k, word-equality (rowIn ws i) _ _ _ block eo, p, q)
         (right-equality
         (rows-right t (omega arith) (first-marked (s .closed) i j h k (omega arith) (omega arith) ea ja))
         (rows-right u (omega arith) (second-marked (s .closed) i m h k (omega arith) (omega arith) eb jb)))
     rows-right (exclusionRow {i = i} {j = j} {k = m} eo ea eb ja jb t u) h k =
         let p = operand-word i (rowIn ws i .a) j h ea ja in
         let q = operand-word i (rowIn ws i .b) m h eb jb in
-        rw (word-row ws ms least block n i h k, word-exclusion (rowIn ws i) _ _ _ block eo, p, q)
+        rw (word-row ws ms least ns block n i h k, word-exclusion (rowIn ws i) _ _ _ block eo, p, q)
         (right-conjunction
         (rows-right t (omega arith) (first-marked (s .closed) i j h k (omega arith) (omega arith) ea ja))
         (right-negation (rows-right u (omega arith) (second-marked (s .closed) i m h k (omega arith) (omega arith) eb jb))))

@@ -1,17 +1,27 @@
 // The decision at an `if`: which branches some assignment of the atoms allows. First the rows that the condition and the guard reach are marked, and the
 // atoms among them counted. Then the rows are computed for 64 assignments at a time, one bit each. A guard that shares no atom with the condition is
-// decided alone: the condition of a path is satisfiable.
+// decided alone: the condition of a path is satisfiable. What was found out of the condition is known when the next guard comes.
 ghost use mathlib.Core.Bool.{_&&_};
 ghost use mathlib.Core.Path.{_≡_};
 ghost use Prim.Native.Nat.{_+_, _<_, _≤_};
-ghost use lib.ListN.{length, getD, take};
+ghost use lib.ListN.{length};
 ghost use Rattle.decision.specs.Decision.{branchesOf, onlyOne};
-ghost use Rattle.decision.specs.Code.{above as after, Room, Low, operandBelow, reached, markRow, marked, seenAfter, Visited, countsOf, spreadOf, patternOf, rowWord, Stepped, words as wordsOf, blocksOf, conditionWord, nonZero, searched, decided};
+ghost use Rattle.decision.specs.Code.{above as after, Room, Low, operandBelow, reached, markRow, marked, seenAfter, Visited, countsOf, blocksOf, conditionWord, nonZero, Searchable, Searched, decidedAnew, LeftAnew};
 ghost use Rattle.decision.specs.Promise.{Decidable, Decides};
-ghost use Rattle.terms.specs.Terms.{rowLimit, rowsEnd};
+ghost use Rattle.terms.specs.Terms.{rowLimit};
+
+mod known;
+mod rows;
+
+use crate::known::compare;
+use crate::known::keep;
+use crate::known::list_guard;
+use crate::known::number_known;
+use crate::rows::all_numbered;
+use crate::rows::evaluate;
+use crate::rows::list_rows;
+use crate::rows::number_atoms;
 use terms::CONJUNCTION;
-use terms::CONSTANT;
-use terms::EQUALITY;
 use terms::EXCLUSION;
 use terms::NEGATION;
 use terms::ROWS;
@@ -46,6 +56,15 @@ const BOTH: u8 = 3;
 
 // A word of which each bit is 1.
 const ONES: u64 = 0xFFFF_FFFF_FFFF_FFFF;
+
+// At most how many blocks of 64 assignments there are.
+const BLOCKS: usize = 16;
+
+// No number of an atom.
+const NONE: u8 = 10;
+
+// How many numbers are kept of what is known of a condition.
+pub const KNOWN: usize = 44;
 
 // The row after the greater of two.
 fn above(a: usize, b: usize) -> usize
@@ -156,117 +175,6 @@ fn mark_all(space: &[u32], n: usize, marks: &mut [u8]) -> Counts
     counts
 }
 
-// A word of which each bit is b, where b is 0 or 1.
-fn spread(b: u32) -> u64
-    ensures { λ r. ⌜ r ≡ spreadOf b ⌝ }
-{
-    if b == 0 {
-        return 0;
-    }
-    ONES
-}
-
-// The truths of atom m under the assignments 64 * block, 64 * block + 1, ..: bit m of each.
-fn pattern(m: u32, block: u32) -> u64
-    ensures { λ r. ⌜ r ≡ patternOf m block ⌝ }
-{
-    match m {
-        0 => 0xAAAA_AAAA_AAAA_AAAA,
-        1 => 0xCCCC_CCCC_CCCC_CCCC,
-        2 => 0xF0F0_F0F0_F0F0_F0F0,
-        3 => 0xFF00_FF00_FF00_FF00,
-        4 => 0xFFFF_0000_FFFF_0000,
-        5 => 0xFFFF_FFFF_0000_0000,
-        6 => spread(block % 2),
-        7 => spread(block / 2 % 2),
-        8 => spread(block / 4 % 2),
-        _ => spread(block / 8 % 2),
-    }
-}
-
-// What an operand of row i is, among the words of the rows before.
-fn operand(words: &[u64], a: u32, i: usize) -> u64
-    requires { ⌜ i ≤ length (now words) ⌝ }
-    ensures { λ r. ⌜ r ≡ getD (take i (now (words .entry))) a 0 ⌝ }
-{
-    let k = a as usize;
-    if k < i {
-        return words[k];
-    }
-    0
-}
-
-// The truths of a row whose operands have the truths x and y, where atom m is the next one.
-fn row_word(row: Row, x: u64, y: u64, m: u32, block: u32) -> u64
-    ensures { λ r. ⌜ r ≡ rowWord row x y m block ⌝ }
-{
-    let op = row.op;
-    if TRUTH <= op {
-        return pattern(m, block);
-    }
-    if op == EXCLUSION {
-        return x & !y;
-    }
-    if op == EQUALITY {
-        return !(x ^ y);
-    }
-    if op == CONJUNCTION {
-        return x & y;
-    }
-    if op == NEGATION {
-        return !x;
-    }
-    if op == CONSTANT {
-        return spread(row.a);
-    }
-    0
-}
-
-// The truths of row i, by the words of the rows before: 0 if it has less than the mark. Answers the number of the next atom.
-fn sweep_row(
-    space: &[u32],
-    marks: &[u8],
-    least: u8,
-    block: u32,
-    words: &mut [u64],
-    i: usize,
-    seen: u32,
-) -> u32
-    requires { ⌜ Room (now space) (i + 1) (now marks) ⌝ }
-    requires { ⌜ i < length (now words) ⌝ }
-    requires { ⌜ seen < rowLimit ⌝ }
-    ensures { λ r. ⌜ Stepped (now (space .entry)) (now (marks .entry)) least block (now (words .entry)) i seen r (now (words .exit)) ⌝ }
-{
-    let mark = marks[i];
-    if mark < least {
-        words[i] = 0;
-        return seen;
-    }
-    let row = row_at(space, i);
-    words[i] = row_word(
-        row,
-        operand(words, row.a, i),
-        operand(words, row.b, i),
-        seen,
-        block,
-    );
-    seen_after(row.op, mark, least, seen)
-}
-
-// The truths of those of the first n rows that have at least a mark, under the assignments of one block.
-fn sweep(space: &[u32], n: usize, marks: &[u8], least: u8, block: u32, words: &mut [u64])
-    requires { ⌜ Room (now space) n (now marks) ⌝ }
-    requires { ⌜ n ≤ length (now words) ⌝ }
-    ensures { λ _. ⌜ take n (now (words .exit)) ≡ wordsOf (now (space .entry)) (now (marks .entry)) least block n ⌝ }
-{
-    let mut seen = 0;
-    let mut i = 0;
-    while i < n {
-        seen = sweep_row(space, marks, least, block, words, i, seen);
-        i += 1;
-    }
-}
-
 // How many blocks of 64 assignments so many atoms have.
 fn blocks_of(atoms: u32) -> u32
     ensures { λ r. ⌜ r ≡ blocksOf atoms ⌝ }
@@ -326,8 +234,8 @@ fn condition_word(words: &[u64], condition: usize, least: u8) -> u64
     words[condition]
 }
 
-// The branches that some assignment of the blocks allows, by the rows that have at least a mark. With the guard's mark the row of the condition is not
-// looked at, and any row may stand in its place. The words are lent to compute in.
+// The branches that some assignment of the blocks allows, by the rows that have at least a mark; and the truths of the condition, as far as it went. With the
+// guard's mark the row of the condition is not looked at, and any row may stand in its place.
 fn search(
     space: &[u32],
     condition: usize,
@@ -335,21 +243,26 @@ fn search(
     marks: &[u8],
     least: u8,
     blocks: u32,
-    words: &mut [u64],
+    truths: &mut [u64],
 ) -> Decision
-    requires { ⌜ (condition < rowLimit) × (guard < rowLimit) ⌝ }
-    requires { ⌜ Room (now space) (after condition guard) (now marks) ⌝ }
-    requires { ⌜ rowLimit ≤ length (now words) ⌝ }
-    ensures { λ r. ⌜ r ≡ searched (now (space .entry)) (now (marks .entry)) least condition guard blocks ⌝ }
+    requires { ⌜ Searchable (now space) condition guard (now marks) least blocks ⌝ }
+    requires { ⌜ 16 ≤ length (now truths) ⌝ }
+    ensures { λ r. ⌜ Searched (now (space .entry)) (now (marks .entry)) least condition guard blocks (now (truths .entry)) r (now (truths .exit)) ⌝ }
 {
     let n = above(condition, guard);
+    let mut words = [0u64; ROWS];
+    let mut order = [0u8; ROWS];
+    let mut numbers = [NONE; ROWS];
+    let count = list_rows(marks, n, least, &mut order);
+    number_atoms(space, &order, count, &mut numbers);
     let mut yes: u64 = 0;
     let mut no: u64 = 0;
     let mut block = 0;
     while block < blocks {
-        sweep(space, n, marks, least, block, words);
-        let c = condition_word(words, condition, least);
+        evaluate(space, &order, count, &numbers, block, &mut words);
+        let c = condition_word(&words, condition, least);
         let g = words[guard];
+        truths[block as usize] = c;
         yes = yes | (c & g);
         no = no | (c & !g);
         if both_found(yes, no) {
@@ -360,54 +273,64 @@ fn search(
     branches_of(yes, no)
 }
 
-// Which of 'condition and guard' and 'condition and not guard' is satisfiable, where the condition is: by the guard alone, if they share no atom.
-fn decide_rows(space: &[u32], condition: u32, guard: u32) -> Decision
-    requires { ⌜ rowsEnd ≤ length (now space) ⌝ }
-    requires { ⌜ (condition < rowLimit) × (guard < rowLimit) ⌝ }
-    ensures { λ r. ⌜ r ≡ decided (now (space .entry)) condition guard ⌝ }
+// The decision by the rows: of the guard alone, if it shares no atom with the condition. If one branch is impossible, the condition's truths are known then,
+// or nothing is.
+fn decide_anew(space: &mut [u32], at: usize, condition: u32, guard: u32) -> Decision
+    requires { ⌜ Decidable (now space) at condition guard ⌝ }
+    ensures { λ r. ⌜ r ≡ decidedAnew (now (space .entry)) condition guard ⌝ }
+    ensures { λ r. ⌜ LeftAnew (now (space .entry)) at condition guard r (now (space .exit)) ⌝ }
 {
     let c = condition as usize;
     let g = guard as usize;
+    let n = above(c, g);
     let mut marks = [0u8; ROWS];
-    let mut words = [0u64; ROWS];
+    let mut truths = [0u64; BLOCKS];
     marks[c] = CONDITION;
     marks[g] = marks[g] | GUARD;
-    let counts = mark_all(space, above(c, g), &mut marks);
+    let counts = mark_all(space, n, &mut marks);
     if ATOMS < counts.all {
         return Decision::TooMany;
     }
     if counts.shared == 0 {
-        return search(
+        let alone = search(
             space,
             g,
             g,
             &marks,
             GUARD,
             blocks_of(counts.own),
-            &mut words,
+            &mut truths,
         );
+        if only_one(alone) {
+            space[at] = 0;
+            return alone;
+        }
+        return alone;
     }
-    search(
-        space,
-        c,
-        g,
-        &marks,
-        CONDITION,
-        blocks_of(counts.all),
-        &mut words,
-    )
+    let blocks = blocks_of(counts.all);
+    let decision = search(space, c, g, &marks, CONDITION, blocks, &mut truths);
+    if only_one(decision) {
+        keep(space, at, &marks, n, blocks, &truths);
+        return decision;
+    }
+    decision
 }
 
 // Which of 'condition and guard' and 'condition and not guard' is satisfiable, where the condition is. From place `at` on stands what is known of the
-// condition.
+// condition, and then, if one branch is impossible, of the condition with what is assumed on the other.
 pub fn decide(space: &mut [u32], at: usize, condition: u32, guard: u32) -> Decision
     requires { ⌜ Decidable (now space) at condition guard ⌝ }
     ensures { λ r. ⌜ Decides (now (space .entry)) at condition guard r (now (space .exit)) ⌝ }
 {
-    let decision = decide_rows(space, condition, guard);
-    if only_one(decision) {
-        space[at] = 0;
-        return decision;
+    if space[at] != 1 {
+        return decide_anew(space, at, condition, guard);
     }
-    decision
+    let mut order = [0u8; ROWS];
+    let mut numbers = [NONE; ROWS];
+    let count = list_guard(space, guard as usize, &mut order);
+    number_known(space, at, &mut numbers);
+    if all_numbered(space, &order, count, &numbers) {
+        return compare(space, at, &order, count, &numbers, guard as usize);
+    }
+    decide_anew(space, at, condition, guard)
 }

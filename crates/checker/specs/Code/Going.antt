@@ -32,9 +32,9 @@ use Rattle.rules.specs.SymbolicRules.{firstType, judge}
 use Rattle.terms.specs.Terms.{countIn, Grown, symbolLimit}
 use Rattle.checker.specs.Code.Frames.{frameIn, topIn, nodeOf, upOf, firstOf, secondOf, framesEnd, Waits}
 use Rattle.checker.specs.Code.Notes.{baseIn, Kept}
-use Rattle.checker.specs.Code.Paths.{assumed}
+use Rattle.checker.specs.Code.Paths.{assumed, forgotten}
 use Rattle.checker.specs.Code.Rules.{oneExec, twoExec, restExec, restSize, withoutGuard, Two, Chooses, Operable}
-use Rattle.checker.specs.Code.State.{nextIn, conditionIn, writesIn, startIn, depthIn, variablesEnd, spaceSize, nodeLimit, Means, Variables, State, Room}
+use Rattle.checker.specs.Code.State.{nextIn, conditionIn, writesIn, startIn, depthIn, variablesEnd, knownAt, spaceSize, nodeLimit, Means, Variables, State, Room}
 use Rattle.checker.specs.declared.nodes.Walked.{Walked}
 use Rattle.checker.specs.declared.nodes.Walked.the-variants.{Wrong, Last, More}
 use Rattle.checker.specs.declared.operators.Step.{Step}
@@ -261,8 +261,8 @@ pub record Forks (ws fs gs : List ℕ) : Type 0 where
 pub data Branched (b c n t q : ℕ) (ws fs left gs : List ℕ) : Move → Type 0 where
   to-first : Waits n 1 t q fs gs → Chooses n t q ws First left → Branched b c n t q ws fs left gs (Operand b)
   to-second : Waits n 1 t q fs gs → Chooses n t q ws Second left → Branched b c n t q ws fs left gs (Operand c)
-  to-both : {between hs : List ℕ} → Waits n 1 t q fs hs → Chooses n t q ws Both between → Forks between hs gs → left ≡ assumed between 5 q
-      → Branched b c n t q ws fs left gs (Operand b)
+  to-both : {between hs : List ℕ} → Waits n 1 t q fs hs → Chooses n t q ws Both between → Forks between hs gs
+      → left ≡ assumed (forgotten between) 5 q → Branched b c n t q ws fs left gs (Operand b)
   to-none : {x : Refusal} → Waits n 1 t q fs gs → Chooses n t q ws (Neither x) left → Branched b c n t q ws fs left gs (Stopped x)
 
 -- node n after its last operand: the body of a `let`, or another one
@@ -274,7 +274,7 @@ pub record Lastable (given : ℕ) (ws : List ℕ) (t p u q : ℕ) : Type 0 where
   pub operable : Operable ws t p u q
   pub variable : given ≡ 2 → 1 ≤ depthIn ws
 
--- the numbers of the path are those of fork j
+-- the numbers of the path are those of fork j, and nothing is known of its condition
 pub record Rewound (j : ℕ) (ws fs left gs : List ℕ) : Type 0 where
   pub same : length left ≡ length ws
   pub framed : length gs ≡ length fs
@@ -285,7 +285,8 @@ pub record Rewound (j : ℕ) (ws fs left gs : List ℕ) : Type 0 where
   pub start : startIn left ≡ savedStart fs j
   pub depth : depthIn left ≡ savedDepth fs j
   pub before : (k : ℕ) → k < 724 → (k ≡ 288 → ⊥) → getD left k 0 ≡ getD ws k 0
-  pub beyond : (k : ℕ) → 729 ≤ k → getD left k 0 ≡ getD ws k 0
+  pub beyond : (k : ℕ) → 729 ≤ k → (k ≡ knownAt → ⊥) → getD left k 0 ≡ getD ws k 0
+  pub known : getD left knownAt 0 ≡ 0
   pub frame : frameIn gs ≡ savedFrame fs j
   pub top : topIn gs ≡ savedFrame fs j
   pub forked : forkedIn gs ≡ j

@@ -19,7 +19,7 @@ use Rattle.script.specs.declared.Checked.the-variants.{Accepted}
 use Rattle.rules.specs.Checking.{check}
 use Rattle.rules.specs.Checking.Mentions.{mentions}
 use Rattle.terms.specs.Terms.{symbolLimit}
-use Rattle.checker.specs.Code.State.{spaceSize, variablesEnd, typesOn}
+use Rattle.checker.specs.Code.State.{knownAt, spaceSize, variablesEnd, typesOn}
 use Rattle.checker.specs.declared.notes.Known.{Known}
 use Rattle.checker.specs.declared.notes.Known.the-variants.{Typed, Nothing}
 
@@ -151,6 +151,7 @@ pub record Kept (limit : ℕ) (table ws : List ℕ) : Type 0 where
 pub record Noted (table : List ℕ) (depth a t : ℕ) (ws left : List ℕ) : Type 0 where
   pub same : length left ≡ length ws
   pub before : (k : ℕ) → k < 1242 → getD left k 0 ≡ getD ws k 0
+  pub beyond : (k : ℕ) → knownAt ≤ k → getD left k 0 ≡ getD ws k 0
   pub kept : (limit : ℕ) → baseIn ws ≤ depth → check limit (treeIn table a) (typesOn ws depth) ≡ Accepted t → Kept limit table ws → Kept limit table left
 
 -- ---- what the executor asks and promises of the notes
@@ -177,4 +178,5 @@ pub record Blocked (limit : ℕ) (table : List ℕ) (c : Checked) (depth : ℕ) 
   pub same : length left ≡ length ws
   pub before : (k : ℕ) → k < 2 * depth → getD left k 0 ≡ getD ws k 0
   pub between : (k : ℕ) → variablesEnd ≤ k → k < 1242 → getD left k 0 ≡ getD ws k 0
+  pub beyond : (k : ℕ) → knownAt ≤ k → getD left k 0 ≡ getD ws k 0
   pub kept : Kept limit table left

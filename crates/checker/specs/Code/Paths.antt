@@ -12,7 +12,7 @@ use Rattle.rules.specs.Paths.{Path, taken, start}
 use Rattle.rules.specs.Symbolic.{symbol, symbols}
 use Rattle.terms.specs.Terms.{countIn, pushed, Distinct}
 use Rattle.checker.specs.Code.Rules.{Ruled}
-use Rattle.checker.specs.Code.State.{nextIn, conditionIn, writesIn, spaceSize, typesOn, Means, Variables, PathIn}
+use Rattle.checker.specs.Code.State.{nextIn, conditionIn, writesIn, knownAt, spaceSize, typesOn, Means, Variables, PathIn}
 
 -- a fresh symbol of type t
 pub record Fresh (t : ℕ) (ws : List ℕ) (q : ℕ) (left : List ℕ) : Type 0 where
@@ -26,6 +26,15 @@ pub record Fresh (t : ℕ) (ws : List ℕ) (q : ℕ) (left : List ℕ) : Type 0 
 -- the condition joined by a guard, with this operator
 abbrev pub assumed : List ℕ → ℕ → ℕ → List ℕ
 assumed ws op guard = set (pushed ws op (conditionIn ws) guard) 725 (countIn ws)
+
+-- nothing is known of the condition any more
+abbrev pub forgotten : List ℕ → List ℕ
+forgotten ws = set ws knownAt 0
+
+-- only what is known of it changes
+pub record Learns (ws left : List ℕ) : Type 0 where
+  pub same : length left ≡ length ws
+  pub before : (k : ℕ) → k < knownAt → getD left k 0 ≡ getD ws k 0
 
 -- ---- the start of a path
 

@@ -1,5 +1,5 @@
--- What a workspace holds: the values of the variables, the terms, and a path with its notes; what a step keeps of it, and how a step answers.
--- Assumes nothing.
+-- What a workspace holds: the values of the variables, the terms, and a path with its notes and what is known of its condition; what a step keeps of it,
+-- and how a step answers. Assumes nothing.
 pub mod Laws
 use mathlib.Core.Bool.{true}
 use mathlib.Core.List.{List, [], _∷_, _++_}
@@ -11,6 +11,7 @@ use Rattle.rules.specs.Paths.{Path, Paths, ends, stops, Write, writeOf}
 use Rattle.rules.specs.Satisfiable.{satisfiable}
 use Rattle.rules.specs.Symbolic.{Sum, Formula, Origin, made, other, Symbolic, aWord, aTruth, aReference}
 use Rattle.terms.specs.Terms.{countIn, SumRow, TruthRow, Distinct, Grown, rowLimit, symbolLimit}
+use Rattle.decision.specs.Known.{Remembers}
 use Rattle.checker.specs.declared.operators.Step.{Step}
 use Rattle.checker.specs.declared.operators.Step.the-variants.{Gave, Stopped}
 
@@ -34,8 +35,12 @@ depthIn ws = getD ws 728 0
 abbrev pub variablesEnd : ℕ
 variablesEnd = 288
 
+-- from here on stands what is known of the condition
+abbrev pub knownAt : ℕ
+knownAt = 1371
+
 abbrev pub spaceSize : ℕ
-spaceSize = 1371
+spaceSize = 1415
 
 abbrev pub nodeLimit : ℕ
 nodeLimit = 128
@@ -69,7 +74,7 @@ pub data Log (ws : List ℕ) (begin : ℕ) : ℕ → List Write → Type 0 where
       → Means ws (getD ws (729 + 4 * k) 0) (getD ws (729 + 4 * k + 1) 0) (aReference o t s)
       → Means ws (getD ws (729 + 4 * k + 2) 0) (getD ws (729 + 4 * k + 3) 0) v → Log ws begin (suc k) (writeOf o t s v ∷ l)
 
--- the condition is satisfiable: a branch is taken only where it is
+-- the condition is satisfiable: a branch is taken only where it is; if something is known, it is the condition's
 pub record PathIn (ws : List ℕ) (p : Path) : Type 0 where
   pub next : nextIn ws ≡ p .next
   pub inside : conditionIn ws < countIn ws
@@ -77,6 +82,7 @@ pub record PathIn (ws : List ℕ) (p : Path) : Type 0 where
   pub allowed : satisfiable (p .condition) ≡ true
   pub log : Log ws (startIn ws) (writesIn ws) (p .log)
   pub distinct : Distinct ws
+  pub remembers : Remembers ws knownAt (p .condition)
 
 pub record State (ws : List ℕ) (depth : ℕ) (env : List Symbolic) (p : Path) : Type 0 where
   pub variables : Variables ws depth env

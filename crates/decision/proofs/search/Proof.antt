@@ -1,39 +1,103 @@
--- `decision::search` meets its contract: what the blocks passed allow is found. Assumes nothing.
+-- `decision::search` meets its contract. The loop's invariant: `yes` and `no` are what the blocks before this one have, and so are the truths.
+-- Assumes nothing.
+use mathlib.Core.Path.{_≡_, refl, sym, ap, _∙_}
 use borrow.Author.Needs.{needs}
-use mathlib.Core.Path.{_≡_, refl}
 use Prim.Native.Nat.{_-_}
 use native.Mathlib.Omega.{arith}
-use lib.ListN.{length}
-use Rattle.decision.specs.Code.Loops.{Searching, searching, searching-on, searching-both, searching-end}
+use lib.ListN.{length-set}
+use Rattle.decision.specs.Code.{Rows}
+use Rattle.decision.specs.Code.Searching.{rows-listed, order-long, Looking, looking, Prepared, looking-on, looking-both, looking-end}
 use Rattle.decision.proofs.search.Statement.{statement}
 use Rattle.decision.proofs.search.Tie as tie
 
 abbrev Inv-loop : tie.InvT-loop
-Inv-loop space condition guard marks least blocks words₀ n yes₀ no₀ block₀ words yes' no' block = (length words ≡ length words₀) × Searching space marks least condition guard blocks yes' no' block
+Inv-loop space condition guard marks least blocks truths₀ n words₀ order numbers count yes₀ no₀ block₀ truths words yes' no' block =
+    Looking space condition guard marks least blocks truths₀ truths words yes' no' block
 
 abbrev μ-loop : tie.MeasureT-loop
-μ-loop space condition guard marks least blocks words₀ n yes₀ no₀ block₀ words yes' no' block = blocks - block
+μ-loop space condition guard marks least blocks truths₀ n words₀ order numbers count yes₀ no₀ block₀ truths words yes' no' block =
+    blocks - block
+
+-- the rows are in order
+rows : (c : tie.After-list-rows Inv-loop μ-loop) → Rows (c .before .before .before .before .before .before .args .space .now) (c .list-rows .last .1 .1 .1 .0) (c .list-rows .result)
+rows c =
+    let a = c .before .before .before .before .before .before .args in
+    let e = c .before .before .above .ensures in
+    let r = c .before .before .before .before .before .before .pre .0 .room in
+    let l = c .list-rows .ensures in
+    rows-listed (a .space .now) (a .marks .now) (a .least) (c .before .before .above .result) (c .list-rows .last .1 .1 .1 .0) (c .list-rows .result) (r .lent) (omega (arith, r .few))
+    (order-long (a .marks .now) (a .least) (c .before .before .above .result) (c .list-rows .result) (c .list-rows .last .1 .1 .1 .0) (omega (arith, r .few)) (l .many) (l .same)) (l .many) (l .rows)
+
+-- what is listed
+prepared : (c : tie.After-number-atoms Inv-loop μ-loop) → Prepared (c .before .before .before .before .before .before .before .before .before .before .args .space .now) (c .before .before .before .before .before .before .before .before .before .before .args .condition) (c .before .before .before .before .before .before .before .before .before .before .args .guard) (c .before .before .before .before .before .before .before .before .before .before .args .marks .now) (c .before .before .before .before .before .before .before .before .before .before .args .least) (c .before .before .before .before .before .before .above .result) (c .before .before .before .before .list-rows .last .1 .1 .1 .0) (c .before .before .before .before .list-rows .result) (c .number-atoms .last .1 .1 .1 .0)
+prepared c = record { up = c .before .before .before .before .before .before .above .ensures; many = c .before .before .before .before .list-rows .ensures .many; rows = c .before .before .before .before .list-rows .ensures .rows; numbers = c .number-atoms .ensures }
+
+above-requires : tie.Need-above-requires Inv-loop μ-loop
+above-requires c κs = (c .before .before .before .pre .0 .low, c .before .before .before .pre .0 .high)
+
+list-rows-requires : tie.Need-list-rows-requires Inv-loop μ-loop
+list-rows-requires c κs =
+    let e = c .before .above .ensures in
+    let r = c .before .before .before .before .before .pre .0 .room in
+    record { few = omega (arith, r .few); marks = omega (arith, r .marks); lent = omega (arith, r .few) }
+
+slice-aggregate-number-atoms : tie.Need-slice-aggregate-number-atoms Inv-loop μ-loop
+slice-aggregate-number-atoms c = sym (c .before .before .list-rows .ensures .same)
+
+number-atoms-requires : tie.Need-number-atoms-requires Inv-loop μ-loop
+number-atoms-requires c κs =
+    (rows (c .before .before .before), omega arith)
 
 loop-holds : tie.Need-loop-holds Inv-loop μ-loop
-loop-holds c = let a = c .before .before .before .before .args in (refl, searching (a .space .now) (a .marks .now) (a .least) (a .condition) (a .guard) (a .blocks))
+loop-holds c = looking (c .before .before .before .before .before .before .before .before .before .before .before .args .truths .now) (c .before .before .before .before .before .before .before .before .before .before .before .pre .0)
 
-sweep-requires : tie.Need-sweep-requires Inv-loop μ-loop
-sweep-requires c κs =
-    let r = c .before .before .before .before .before .before .before .pre .1 in
-    let e = c .before .before .before .above .ensures in
-    let l = c .before .before .loop .inv .0 in
-    (rw e (r .0), omega (arith, r .0 .few, r .1, l))
+slice-aggregate-evaluate : tie.Need-slice-aggregate-evaluate Inv-loop μ-loop
+slice-aggregate-evaluate c = sym (c .before .before .before .before .before .before .before .before .list-rows .ensures .same)
+
+slice-aggregate-evaluate-2 : tie.Need-slice-aggregate-evaluate-2 Inv-loop μ-loop
+slice-aggregate-evaluate-2 c = search needs
+
+slice-aggregate-evaluate-3 : tie.Need-slice-aggregate-evaluate-3 Inv-loop μ-loop
+slice-aggregate-evaluate-3 c = sym (c .before .before .before .before .loop .inv .whole)
+
+evaluate-requires : tie.Need-evaluate-requires Inv-loop μ-loop
+evaluate-requires c κs = (rows (c .before .before .before .before .before .before .before .before .before .before), (omega (arith, c .before .before .before .before .before .before .number-atoms .kept .1 .1 .1 .0), omega (arith, c .before .before .before .before .loop .inv .whole)))
+
+slice-aggregate-condition-word : tie.Need-slice-aggregate-condition-word Inv-loop μ-loop
+slice-aggregate-condition-word c = search needs
+
+condition-word-requires : tie.Need-condition-word-requires Inv-loop μ-loop
+condition-word-requires c κs = omega (arith, c .before .before .evaluate .kept .1 .1 .1 .1 .1 .0, c .before .before .before .before .before .before .before .loop .inv .whole, c .before .before .before .before .before .before .before .before .before .before .before .before .before .before .before .before .before .before .before .pre .0 .low)
+
+array-read-g : tie.Need-array-read-g Inv-loop μ-loop
+array-read-g c = c .before .before .before .before .before .before .before .before .before .before .before .before .before .before .before .before .before .before .before .before .pre .0 .high
+
+slice-write-truths : tie.Need-slice-write-truths Inv-loop μ-loop
+slice-write-truths c = omega (arith, c .before .before .before .before .before .before .before .before .loop .inv .same, c .before .before .before .before .before .before .before .before .before .before .before .before .before .before .before .before .before .before .before .before .pre .1, c .before .before .before .before .before .before .before .before .before .before .before .before .before .before .before .before .before .before .before .before .pre .0 .few)
+
+same-length : tie.Need-same-length Inv-loop μ-loop
+same-length c = length-set (c .before .before .before .before .before .before .before .before .before .before .loop .truths) (c .before .before .before .before .before .before .before .before .before .before .loop .block) (c .before .before .condition-word .result) ∙ c .before .before .before .before .before .before .before .before .before .before .loop .inv .same
 
 returns : tie.Need-returns Inv-loop μ-loop
 returns c =
-    searching-both (c .before .both-found .result) (searching-on (c .before .before .before .before .before .before .before .before .before .before .before .above .result) (c .before .before .before .condition-word .result) (c .before .before .before .before .before .before .before .sweep .last .1 .1 .1 .1 .1 .0) (c .before .before .before .before .before .before .before .before .before .before .loop .inv .1) (c .before .before .before .before .before .before .before .before .before .loop-test .taken) (c .before .before .before .before .before .before .before .before .before .before .before .above .ensures) (c .before .before .before .before .before .before .before .sweep .ensures) (c .before .before .before .condition-word .ensures)) (c .before .both-found .ensures) (c .if1 .taken)
+    let k = looking-on (prepared (c .before .before .before .before .before .before .before .before .before .before .before .before)) (c .before .before .before .before .before .before .before .before .before .before .loop .inv) (c .before .before .before .before .before .before .before .before .before .before .before .before .before .before .before .before .before .before .before .before .before .before .pre .0 .few) (c .before .before .before .before .before .before .before .before .before .before .before .before .before .before .before .before .before .before .before .before .before .before .pre .1) (c .before .before .before .before .before .before .before .before .before .loop-test .taken) (c .before .before .before .before .before .evaluate .ensures) (c .before .before .condition-word .ensures) refl in
+    looking-both k (c .before .both-found .result) (c .before .both-found .ensures) (c .if1 .taken)
+
+add-block : tie.Need-add-block Inv-loop μ-loop
+add-block c = search needs
+
+loop-less : tie.Need-loop-less Inv-loop μ-loop
+loop-less c = search needs
 
 loop-again : tie.Need-loop-again Inv-loop μ-loop
 loop-again c =
-    (search needs, searching-on (c .before .before .before .before .before .before .before .before .before .before .before .above .result) (c .before .before .before .condition-word .result) (c .before .before .before .before .before .before .before .sweep .last .1 .1 .1 .1 .1 .0) (c .before .before .before .before .before .before .before .before .before .before .loop .inv .1) (c .before .before .before .before .before .before .before .before .before .loop-test .taken) (c .before .before .before .before .before .before .before .before .before .before .before .above .ensures) (c .before .before .before .before .before .before .before .sweep .ensures) (c .before .before .before .condition-word .ensures))
+    looking-on (prepared (c .before .before .before .before .before .before .before .before .before .before .before .before)) (c .before .before .before .before .before .before .before .before .before .before .loop .inv) (c .before .before .before .before .before .before .before .before .before .before .before .before .before .before .before .before .before .before .before .before .before .before .pre .0 .few) (c .before .before .before .before .before .before .before .before .before .before .before .before .before .before .before .before .before .before .before .before .before .before .pre .1) (c .before .before .before .before .before .before .before .before .before .loop-test .taken) (c .before .before .before .before .before .evaluate .ensures) (c .before .before .condition-word .ensures) refl
+
+same-length-2 : tie.Need-same-length-2 Inv-loop μ-loop
+same-length-2 c = c .before .before .loop .inv .same
 
 returns-2 : tie.Need-returns-2 Inv-loop μ-loop
-returns-2 c = searching-end (c .branches-of .result) (c .before .before .loop .inv .1) (c .before .loop-test .left) (c .branches-of .ensures)
+returns-2 c = looking-end (c .before .before .loop .inv) (c .branches-of .result) (c .before .loop-test .left) (c .branches-of .ensures)
 
 pub search-spec : {M : Type 1} → statement M
 search-spec =
@@ -41,18 +105,30 @@ search-spec =
     (tie.spec
     Inv-loop
     μ-loop
-    (λ c κs. search needs)
+    above-requires
+    (λ c. search needs)
+    list-rows-requires
+    slice-aggregate-number-atoms
+    (λ c. search needs)
+    number-atoms-requires
     loop-holds
-    sweep-requires
+    slice-aggregate-evaluate
+    slice-aggregate-evaluate-2
+    slice-aggregate-evaluate-3
+    evaluate-requires
+    slice-aggregate-condition-word
+    condition-word-requires
+    (λ c. search needs)
+    array-read-g
+    (λ c. search needs)
+    (λ c. search needs)
+    slice-write-truths
     (λ c κs. search needs)
-    (λ c. search needs)
-    (λ c. search needs)
-    (λ c κs. search needs)
-    (λ c. search needs)
+    same-length
     returns
-    (λ c. search needs)
-    (λ c. search needs)
+    add-block
+    loop-less
     loop-again
     (λ c κs. search needs)
-    (λ c. search needs)
+    same-length-2
     returns-2)

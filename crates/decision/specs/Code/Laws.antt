@@ -15,7 +15,7 @@ use Rattle.script.specs.Tests.{pick}
 use Rattle.terms.specs.Terms.{rowIn}
 use Rattle.terms.specs.declared.Row.{Row}
 use Rattle.decision.specs.declared.Counts.{Counts}
-use Rattle.decision.specs.Code.{above, Room, operandBelow, reached, markRow, marked, seenAfter, rank, tally, Visited, spreadOf, patternOf, rowWord, wordOf, words, Stepped}
+use Rattle.decision.specs.Code.{above, Room, operandBelow, reached, markRow, marked, seenAfter, rank, tally, Visited, spreadOf, patternOf, rowWord, wordOf, words}
 
 -- ---- above
 
@@ -223,47 +223,12 @@ pattern-many m block h = go (m - 9) (omega arith)
     go : (t : ℕ) → m ≡ suc (suc (suc (suc (suc (suc (suc (suc (suc t)))))))) → patternOf m block ≡ spreadOf (block / 8 % 2)
     go t e = rw e refl
 
--- a marked row
-word-marked : (vs : List ℕ) (r : Row) (mark least m block x y w : ℕ) → least ≤ mark → x ≡ getD vs (r .a) 0 → y ≡ getD vs (r .b) 0
-    → w ≡ rowWord r x y m block → w ≡ wordOf vs r mark least m block
-unfolding wordOf
-word-marked vs r mark least m block x y w l ex ey ew = rw (le-ltb mark least l, ew, ex, ey)
-
--- ---- one step
-
-module _ {ws ms : List ℕ} (least block : ℕ) (vs : List ℕ) (i seen : ℕ) where
-  pub stepped-unmarked : getD ms i 0 < least → Stepped ws ms least block vs i seen seen (set vs i 0)
-  unfolding seenAfter wordOf
-  stepped-unmarked h = record { counts = rw (lt-ltb (getD ms i 0) least h); word = rw (lt-ltb (getD ms i 0) least h) }
-
-  pub stepped-marked : (r : Row) (x y w next : ℕ) → r ≡ rowIn ws i → least ≤ getD ms i 0 → x ≡ getD (take i vs) (r .a) 0
-      → y ≡ getD (take i vs) (r .b) 0 → w ≡ rowWord r x y seen block → next ≡ seenAfter (r .op) (getD ms i 0) least seen
-      → Stepped ws ms least block vs i seen next (set vs i w)
-  stepped-marked r x y w next e l ex ey ew en =
-      record {
-        counts = en ∙ ap (λ (q : Row). seenAfter (q .op) (getD ms i 0) least seen) e;
-        word =
-            ap (λ (v : ℕ). set vs i v)
-            (word-marked (take i vs) r (getD ms i 0) least seen block x y w l ex ey ew
-            ∙ ap (λ (q : Row). wordOf (take i vs) q (getD ms i 0) least seen block) e);
-      }
-
-module _ (ws ms : List ℕ) (least block : ℕ) where
-  pub words-none : words ws ms least block 0 ≡ []
-  unfolding words
-  words-none = refl
-
-  -- one word more, in its place
-  pub words-on : (vs : List ℕ) (i : ℕ) → i < length vs → take i vs ≡ words ws ms least block i
-      → take (i + 1) (set vs i (wordOf (take i vs) (rowIn ws i) (getD ms i 0) least (rank ws ms least i) block)) ≡ words ws ms least block (i + 1)
-  unfolding words
-  words-on vs i h e = rw (add-one i, take-suc-set vs i _ h, e)
-
-  pub words-length : (i : ℕ) → length (words ws ms least block i) ≡ i
+module _ (ws ms : List ℕ) (least : ℕ) (ns : List ℕ) (block : ℕ) where
+  pub words-length : (i : ℕ) → length (words ws ms least ns block i) ≡ i
   unfolding words
   words-length zero = refl
   words-length (suc i) =
-      let l = length-append (words ws ms least block i) (wordOf (words ws ms least block i) (rowIn ws i) (getD ms i 0) least (rank ws ms least i) block ∷ []) in
+      let l = length-append (words ws ms least ns block i) (wordOf (words ws ms least ns block i) (rowIn ws i) (getD ms i 0) least (getD ns i 0) block ∷ []) in
       let h = words-length i in
       omega arith
 

@@ -16,8 +16,8 @@ use Rattle.script.specs.Tests.{pick}
 use Rattle.script.specs.Tests.Laws.{both-true}
 use Rattle.terms.specs.Terms.{rowIn, rowLimit}
 use Rattle.decision.specs.Bits.{or-first-most}
-use Rattle.decision.specs.Code.{above, Room, markRow, marked, seenAfter, rank, tally, countsOf, Low, Visited, words, Stepped, ones, together, conditionWord, trueWord, falseWord, nonZero, searched}
-use Rattle.decision.specs.Code.Laws.{above-first, above-second, markRow-length, marked-none, marked-on, rank-none, rank-on, seen-sum, seen-most, words-none, words-on}
+use Rattle.decision.specs.Code.{above, Room, markRow, marked, seenAfter, rank, tally, countsOf, Low, Visited, together, nonZero}
+use Rattle.decision.specs.Code.Laws.{above-first, above-second, markRow-length, marked-none, marked-on, rank-none, rank-on, seen-sum, seen-most}
 use Rattle.decision.specs.Decision.{branchesOf}
 use Rattle.decision.specs.Marks.{row-above, marked-above}
 use Rattle.decision.specs.declared.Counts.{Counts}
@@ -129,40 +129,6 @@ tallying-end {ws} {n} {start} {ms} {j} {k} t h =
     let m = marking-end (t .marks) h in
     rw (m, sym (passed-end (t .all) e), sym (passed-end (t .own) e), sym (passed-end (t .shared) e)) refl
 
--- ---- words: the first i are there
-
-pub record Sweeping (ws : List ℕ) (n : ℕ) (ms : List ℕ) (least block : ℕ) (start vs : List ℕ) (seen i : ℕ) : Type 0 where
-  pub within : i ≤ n
-  pub is : seen ≡ rank ws ms least i
-  pub few : seen ≤ i
-  pub same : length vs ≡ length start
-  pub first : take i vs ≡ words ws ms least block i
-
-pub sweeping : (ws : List ℕ) (n : ℕ) (ms : List ℕ) (least block : ℕ) (start : List ℕ) → Sweeping ws n ms least block start start 0 0
-sweeping ws n ms least block start =
-    record { within = omega arith; is = sym (rank-none ws ms least); few = omega arith; same = refl; first = sym (words-none ws ms least block) }
-
-pub sweeping-on : {ws : List ℕ} {n : ℕ} {ms : List ℕ} {least block : ℕ} {start vs : List ℕ} {seen i : ℕ} (out : List ℕ) (next : ℕ)
-    → Sweeping ws n ms least block start vs seen i → n ≤ length start → i < n
-    → Stepped ws ms least block vs i seen next out → Sweeping ws n ms least block start out next (i + 1)
-sweeping-on {ws} {n} {ms} {least} {block} {start} {vs} {seen} {i} out next k room h t =
-    let l = k .same in
-    let f = k .few in
-    let m = seen-most (rowIn ws i .op) (getD ms i 0) least seen in
-    let e = t .counts in
-    record {
-      within = omega arith;
-      is = e ∙ ap (seenAfter (rowIn ws i .op) (getD ms i 0) least) (k .is) ∙ sym (rank-on ws ms least i);
-      few = omega arith;
-      same = ap length (t .word) ∙ length-set vs i _ ∙ k .same;
-      first = rw (t .word, k .is) (words-on ws ms least block vs i (omega arith) (k .first));
-    }
-
-pub sweeping-end : {ws : List ℕ} {n : ℕ} {ms : List ℕ} {least block : ℕ} {start vs : List ℕ} {seen i : ℕ}
-    → Sweeping ws n ms least block start vs seen i → n ≤ i → take n vs ≡ words ws ms least block n
-sweeping-end {ws} {n} {ms} {least} {block} {start} {vs} {seen} {i} k h =
-    let w = k .within in let e : i ≡ n = omega arith in rw e at (k .first)
-
 -- ---- the blocks: what is found in the first ones
 
 pub together-none : (f : ℕ → ℕ) → together f 0 ≡ 0
@@ -190,64 +156,39 @@ some-above a b h e = let n = eqb-false a 0 (not-true (eqb a 0) e) in rw (ne-eqb 
 pub found-later : (f : ℕ → ℕ) (k n : ℕ) → k ≤ n → nonZero (together f k) ≡ true → nonZero (together f n) ≡ true
 found-later f k n h e = some-above (together f k) (together f n) (together-grows f k n h) e
 
-pub record Searching (ws ms : List ℕ) (least c g blocks yes no block : ℕ) : Type 0 where
+-- what the words of the first blocks come to, for the true branch and for the false one
+pub record Searching (t f : ℕ → ℕ) (blocks yes no block : ℕ) : Type 0 where
   pub within : block ≤ blocks
-  pub true-found : yes ≡ together (trueWord ws ms least c g) block
-  pub false-found : no ≡ together (falseWord ws ms least c g) block
+  pub true-found : yes ≡ together t block
+  pub false-found : no ≡ together f block
 
-pub searching : (ws ms : List ℕ) (least c g blocks : ℕ) → Searching ws ms least c g blocks 0 0 0
-searching ws ms least c g blocks =
-    record {
-      within = omega arith;
-      true-found = sym (together-none (trueWord ws ms least c g));
-      false-found = sym (together-none (falseWord ws ms least c g));
-    }
+pub searching : (t f : ℕ → ℕ) (blocks : ℕ) → Searching t f blocks 0 0 0
+searching t f blocks = record { within = omega arith; true-found = sym (together-none t); false-found = sym (together-none f) }
 
--- a word of the first rows
-pub swept-at : (vs all : List ℕ) (n k : ℕ) → take n vs ≡ all → k < n → getD vs k 0 ≡ getD all k 0
-swept-at vs all n k e h = sym (getD-take n vs k 0 h) ∙ ap (λ (l : List ℕ). getD l k 0) e
-
-module _ (ws ms vs : List ℕ) (least c g block : ℕ) (e : take (above c g) vs ≡ words ws ms least block (above c g)) where
-  condition-swept : conditionWord vs c least ≡ conditionWord (words ws ms least block (above c g)) c least
-  unfolding conditionWord
-  condition-swept = ap (λ (w : ℕ). pick (eqb least 2) ones w) (swept-at vs _ (above c g) c e (above-first c g))
-
-  true-swept : bitAnd (conditionWord vs c least) (getD vs g 0) ≡ trueWord ws ms least c g block
-  unfolding trueWord
-  true-swept = rw (condition-swept, swept-at vs _ (above c g) g e (above-second c g))
-
-  false-swept : bitAnd (conditionWord vs c least) (ones - getD vs g 0) ≡ falseWord ws ms least c g block
-  unfolding falseWord
-  false-swept = rw (condition-swept, swept-at vs _ (above c g) g e (above-second c g))
-
-module _ {ws ms : List ℕ} {least c g blocks yes' no' block : ℕ} where
-  pub searching-on : (n w : ℕ) (vs : List ℕ) → Searching ws ms least c g blocks yes' no' block → block < blocks → n ≡ above c g
-      → take n vs ≡ words ws ms least block n → w ≡ conditionWord vs c least
-      → Searching ws ms least c g blocks (bitOr yes' (bitAnd w (getD vs g 0))) (bitOr no' (bitAnd w (ones - getD vs g 0))) (block + 1)
-  searching-on n w vs k h en ev ew =
-      let e : take (above c g) vs ≡ words ws ms least block (above c g) = rw en at ev in
-      rw ew
-      (record {
+module _ {t f : ℕ → ℕ} {blocks yes' no' block : ℕ} where
+  pub searching-on : (v w : ℕ) → Searching t f blocks yes' no' block → block < blocks → v ≡ t block → w ≡ f block
+      → Searching t f blocks (bitOr yes' v) (bitOr no' w) (block + 1)
+  searching-on v w k h et ef =
+      record {
         within = omega arith;
-        true-found = ap₂ bitOr (k .true-found) (true-swept ws ms vs least c g block e) ∙ sym (together-on (trueWord ws ms least c g) block);
-        false-found = ap₂ bitOr (k .false-found) (false-swept ws ms vs least c g block e) ∙ sym (together-on (falseWord ws ms least c g) block);
-      })
+        true-found = ap₂ bitOr (k .true-found) et ∙ sym (together-on t block);
+        false-found = ap₂ bitOr (k .false-found) ef ∙ sym (together-on f block);
+      }
 
-  pub searching-both : (b : Bool) → Searching ws ms least c g blocks yes' no' block → b ≡ (nonZero yes' && nonZero no') → b ≡ true
-      → Both ≡ searched ws ms least c g blocks
-  unfolding searched branchesOf
-  searching-both b k e t =
-      let p = both-true (nonZero yes') (nonZero no') (sym e ∙ t) in
-      let y = found-later (trueWord ws ms least c g) block blocks (k .within) (rw (k .true-found) at (p .0)) in
-      let z = found-later (falseWord ws ms least c g) block blocks (k .within) (rw (k .false-found) at (p .1)) in
+  pub searching-both : (b : Bool) → Searching t f blocks yes' no' block → b ≡ (nonZero yes' && nonZero no') → b ≡ true
+      → Both ≡ branchesOf (nonZero (together t blocks)) (nonZero (together f blocks))
+  unfolding branchesOf
+  searching-both b k e q =
+      let p = both-true (nonZero yes') (nonZero no') (sym e ∙ q) in
+      let y = found-later t block blocks (k .within) (rw (k .true-found) at (p .0)) in
+      let z = found-later f block blocks (k .within) (rw (k .false-found) at (p .1)) in
       rw (y, z)
 
-  pub searching-end : (d : Decision) → Searching ws ms least c g blocks yes' no' block → blocks ≤ block
-      → d ≡ branchesOf (nonZero yes') (nonZero no') → d ≡ searched ws ms least c g blocks
-  unfolding searched
+  pub searching-end : (d : Decision) → Searching t f blocks yes' no' block → blocks ≤ block → d ≡ branchesOf (nonZero yes') (nonZero no')
+      → d ≡ branchesOf (nonZero (together t blocks)) (nonZero (together f blocks))
   searching-end d k h e =
       let l = k .within in
       let q : block ≡ blocks = omega arith in
-      let y : yes' ≡ together (trueWord ws ms least c g) blocks = rw q at (k .true-found) in
-      let z : no' ≡ together (falseWord ws ms least c g) blocks = rw q at (k .false-found) in
+      let y : yes' ≡ together t blocks = rw q at (k .true-found) in
+      let z : no' ≡ together f blocks = rw q at (k .false-found) in
       e ∙ ap₂ (λ (a b : ℕ). branchesOf (nonZero a) (nonZero b)) y z

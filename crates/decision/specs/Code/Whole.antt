@@ -1,13 +1,17 @@
 -- The decision from its parts. Assumes nothing.
+use mathlib.Core.Bool.{Bool, true, false}
 use mathlib.Core.List.{List}
-use mathlib.Core.Path.{_≡_, ap, _∙_}
-use Prim.Native.Nat.{ℕ, _≤_, _<_}
+use mathlib.Core.Path.{_≡_, refl, ap, ap₂, _∙_}
+use Prim.Native.Nat.{ℕ, _+_, _≤_, _<_}
 use borrow.Author.Tests.{lt-ltb, le-ltb, eq-eqb, ne-eqb}
 use native.Mathlib.Omega.{arith}
-use lib.ListN.{length}
+use lib.ListN.{length, getD, take}
 use Rattle.terms.specs.Terms.{rowLimit, rowsEnd}
-use Rattle.decision.specs.Code.{above, Room, marked, countsOf, blocksOf, searched, startMarks, marksFrom, atomsFrom, decided}
+use Rattle.decision.specs.Code.{above, Room, marked, rank, Rows, numberedTo, noNumbers, countsOf, blocksOf, searched, Searched, knownSize, knownNumbers, kept, Keepable, guardMarks, guardRows, compared, startMarks, marksFrom, atomsFrom, recalled, recalls, decidedAnew, decided, LeftAnew, left-kept}
 use Rattle.decision.specs.Code.Laws.{above-second, above-within, marked-length}
+use Rattle.decision.specs.Code.Ordered.{numbered-alike, taken-alike}
+use Rattle.decision.specs.Code.Searching.{rows-listed, order-long}
+use Rattle.decision.specs.Decision.{onlyOne}
 use Rattle.decision.specs.Marks.{start-length}
 use Rattle.decision.specs.declared.Counts.{Counts}
 use Rattle.decision.specs.declared.Decision.{Decision}
@@ -43,14 +47,14 @@ module _ (ws : List ℕ) (c g : ℕ) where
     unfolding atomsFrom countsOf
     parts-shared = rw (p .counts, parts-marks, p .up)
 
-    pub decided-many : 10 < k .all → TooMany ≡ decided ws c g
-    unfolding decided
+    pub decided-many : 10 < k .all → TooMany ≡ decidedAnew ws c g
+    unfolding decidedAnew
     decided-many h = let e = parts-all in rw (lt-ltb 10 (atomsFrom ws c g 1) (omega arith))
 
     -- the guard alone
     pub decided-alone : (blocks : ℕ) (d : Decision) → k .all ≤ 10 → k .shared ≡ 0 → blocks ≡ blocksOf (k .own) → d ≡ searched ws ms 2 g g blocks
-        → d ≡ decided ws c g
-    unfolding decided
+        → d ≡ decidedAnew ws c g
+    unfolding decidedAnew
     decided-alone blocks d h z eb ed =
         let e = parts-all in
         let f = parts-shared in
@@ -58,12 +62,32 @@ module _ (ws : List ℕ) (c g : ℕ) where
 
     -- the two together
     pub decided-both : (blocks : ℕ) (d : Decision) → k .all ≤ 10 → (k .shared ≡ 0 → ⊥) → blocks ≡ blocksOf (k .all) → d ≡ searched ws ms 1 c g blocks
-        → d ≡ decided ws c g
-    unfolding decided
+        → d ≡ decidedAnew ws c g
+    unfolding decidedAnew
     decided-both blocks d h z eb ed =
         let e = parts-all in
         let f = parts-shared in
         rw (le-ltb 10 (atomsFrom ws c g 1) (omega arith), ne-eqb (atomsFrom ws c g 3) 0 (λ q. z (f ∙ q)), ed, eb, parts-marks, e)
+
+    -- what is kept then
+    pub keepable : (at : ℕ) → rowsEnd ≤ at → at + knownSize ≤ length ws → c < rowLimit → g < rowLimit → k .all ≤ 10 → Keepable ws at ms n
+    unfolding countsOf
+    keepable at b l low high few =
+        let a = above-within c g rowLimit low high in
+        let u = p .up in
+        let m = ap length (p .marks) ∙ marked-length ws n (startMarks c g) ∙ start-length c g in
+        let e : k .all ≡ rank ws ms 1 n = ap all (p .counts) in
+        record { behind = b; lent = l; rows = omega arith; marks = omega arith; few = omega arith }
+      where
+        all : Counts → ℕ
+        all x = x .all
+
+    pub left-with : {at blocks : ℕ} {r : Decision} {start ts left : List ℕ} → k .all ≤ 10 → blocks ≡ blocksOf (k .all) → Searched ws ms 1 c g blocks start r ts → onlyOne r ≡ true
+        → left ≡ kept ws at ms n blocks ts → LeftAnew ws at c g r left
+    left-with {ts = ts} few eb s t e =
+        let a = parts-all in
+        left-kept t (omega arith) ts (λ b h. rw parts-marks at (s .truths t b (rw (eb ∙ ap blocksOf a) h)))
+        (e ∙ rw (parts-marks, p .up, eb, a) refl)
 
 pub room-marked : {ws : List ℕ} {n : ℕ} {start : List ℕ} (ms : List ℕ) → Room ws n start → ms ≡ marked ws n start → Room ws n ms
 room-marked {ws} {n} {start} ms r e =
@@ -78,3 +102,37 @@ room-guard c g r e =
     let f = r .few in
     let m = r .marks in
     record { lent = r .lent; few = omega arith; marks = omega arith }
+
+-- ---- by what is known
+
+module _ (ws : List ℕ) (at c g : ℕ) (r : Decision) where
+  pub decided-unknown : (getD ws at 0 ≡ 1 → ⊥) → r ≡ decidedAnew ws c g → r ≡ decided ws at c g
+  unfolding decided
+  decided-unknown n e = rw (ne-eqb (getD ws at 0) 1 n) e
+
+  pub decided-known : getD ws at 0 ≡ 1 → recalls ws at g ≡ true → r ≡ compared ws at (recalled ws at) g → r ≡ decided ws at c g
+  unfolding decided
+  decided-known o t e = rw (eq-eqb (getD ws at 0) 1 o, t) e
+
+  pub decided-other : getD ws at 0 ≡ 1 → recalls ws at g ≡ false → r ≡ decidedAnew ws c g → r ≡ decided ws at c g
+  unfolding decided
+  decided-other o t e = rw (eq-eqb (getD ws at 0) 1 o, t) e
+
+module _ (ws : List ℕ) (at g : ℕ) (os : List ℕ) (count : ℕ) (ns : List ℕ) (many : count ≡ length (guardRows ws g)) (rows : take count os ≡ guardRows ws g) where
+  pub numbers-known : ns ≡ knownNumbers ws at noNumbers (getD ws (at + 1) 0) → ns ≡ recalled ws at
+  unfolding recalled
+  numbers-known e = e
+
+  pub recalls-is : (b : Bool) → ns ≡ recalled ws at → b ≡ numberedTo ws os ns count → b ≡ recalls ws at g
+  unfolding recalls
+  recalls-is b e f =
+      f ∙ numbered-alike ws os (guardRows ws g) ns count (taken-alike os (guardRows ws g) count rows) ∙ ap₂ (numberedTo ws (guardRows ws g)) e many
+
+  -- the rows of the guard are few
+  pub guard-long : g < rowLimit → length os ≡ rowLimit → count ≤ length os
+  unfolding guardRows
+  guard-long h l = order-long (guardMarks ws g) 1 (g + 1) count os (omega arith) many l
+
+  pub guard-rows : rowsEnd ≤ length ws → g < rowLimit → length os ≡ rowLimit → Rows ws os count
+  unfolding guardRows
+  guard-rows b h l = rows-listed ws (guardMarks ws g) 1 (g + 1) os count b (omega arith) (guard-long h l) many rows

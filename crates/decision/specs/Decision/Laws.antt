@@ -15,20 +15,21 @@ use Rattle.script.specs.Tests.{pick}
 use Rattle.script.specs.Tests.Laws.{both-ways, true-or-false}
 use Rattle.rules.specs.Satisfiable.{holds, atomsOf, among, differentAtoms, satisfiable}
 use Rattle.rules.specs.Satisfiable.Apart.{Apart, apart-negation, apart-alone}
-use Rattle.rules.specs.Satisfiable.Laws.{Respects, holds-agree, satisfiable-if, satisfiable-only-if, true-satisfiable, among-different, in-first, in-second}
+use Rattle.rules.specs.Satisfiable.Laws.{Respects, holds-agree, satisfiable-if, satisfiable-only-if, true-satisfiable, among-same, among-different, in-first, in-second}
 use Rattle.rules.specs.Symbolic.{Atom, Formula, constantly, negation, conjunction, sameAtom}
 use Rattle.rules.specs.Symbolic.Laws.{sameAtom-sym, sameAtom-trans}
-use Rattle.terms.specs.Terms.{rowIn, countIn, rowLimit, Space, TruthRow, Distinct}
+use Rattle.terms.specs.Terms.{rowIn, countIn, rowLimit, Space, TruthRow, AtomRow, Distinct}
 use Rattle.decision.specs.Atoms.{assign, assign-respects, numberOf, number-less, number-assigns, apart-length, different-apart}
 use Rattle.decision.specs.Bits.{bit, bit-zero, some-bit, or-second-most}
-use Rattle.decision.specs.Code.{above, seenAfter, rank, words, spreadOf, blocksOf, together, conditionWord, trueWord, falseWord, nonZero, searched, startMarks, marksFrom, atomsFrom, decided}
+use Rattle.decision.specs.Code.{above, seenAfter, rank, words, spreadOf, numbersFrom, blocksOf, together, conditionWord, trueWord, falseWord, nonZero, searchedBy, searched, truthsOf, startMarks, marksFrom, atomsFrom, decidedAnew}
 use Rattle.decision.specs.Code.Laws.{above-first, above-second, above-within}
 use Rattle.decision.specs.Code.Loops.{together-grows}
+use Rattle.decision.specs.Code.Ordered.{numbered-rank}
 use Rattle.decision.specs.Decision.{branchesOf, decisionOf}
 use Rattle.decision.specs.declared.Decision.the-variants.{TooMany}
-use Rattle.decision.specs.Listed.{Listed, SomeList, some-list, list-made, rank-counted, listed-length, listed-part, listed-apart}
+use Rattle.decision.specs.Listed.{Counted, Listed, SomeList, some-list, list-made, rank-counted, listed-length, listed-in, listed-part, listed-apart, listed-assigns}
 use Rattle.decision.specs.Marks.{Within, part, Parts, Kept, AtLeast, Odd, kept-least, kept-odd, marked-keeps, closed-first, closed-second, parts-marked, start-length, start-parts, start-first, start-second}
-use Rattle.decision.specs.Words.{Right, right-negation, right-conjunction, right-constant, Closed, RowOf, row-of, rows-of, Sweep, either, atom-op, words-same, rank-grows, rows-listed, rows-right}
+use Rattle.decision.specs.Words.{Assigned, Right, right-negation, right-conjunction, right-constant, Closed, RowOf, row-of, rows-of, Sweep, either, atom-op, rank-grows, rows-listed, rows-right}
 
 -- ---- the blocks together
 
@@ -84,11 +85,11 @@ blocks-enough (suc (suc (suc (suc (suc (suc (suc (suc (suc (suc (suc n))))))))))
 
 -- ---- a formula whose words are right is satisfiable if some word has a bit, and only then
 
-module _ (xs : List Atom) (f : Formula) (w : ℕ → ℕ) (right : (block : ℕ) → Right xs block (w block) f) where
-  found-if : (n : ℕ) → nonZero (together w n) ≡ true → satisfiable f ≡ true
-  found-if n h =
-      let b = some-block w n (some-not-zero (together w n) h) in
-      let r = right (b .at) in
+module _ (xs : List Atom) (f : Formula) (w : ℕ → ℕ) (right : (block : ℕ) → block < blocksOf (length xs) → Right xs block (w block) f) where
+  found-if : nonZero (together w (blocksOf (length xs))) ≡ true → satisfiable f ≡ true
+  found-if h =
+      let b = some-block w (blocksOf (length xs)) (some-not-zero (together w (blocksOf (length xs))) h) in
+      let r = right (b .at) (b .below) in
       let t = some-bit 64 (w (b .at)) (r .small) (b .found) in
       satisfiable-if f (assign xs (b .at * 64 + t .at)) (assign-respects xs (b .at * 64 + t .at)) (sym (r .bits (t .at) (t .below)) ∙ t .is)
 
@@ -108,14 +109,14 @@ module _ (xs : List Atom) (f : Formula) (w : ℕ → ℕ) (right : (block : ℕ)
           let t : holds (assign xs m) f ≡ true =
           holds-agree (assign xs m) (c .0) f (λ z k. number-assigns (c .0) (c .1) xs z (all z k)) ∙ c .2 in
           let u : holds (assign xs (m / 64 * 64 + m % 64)) f ≡ true = rw q t in
-          let r = right (m / 64) in
+          let r = right (m / 64) (omega arith) in
           block-found w (m / 64) (blocksOf (length xs)) (omega arith)
           (bit-there (w (m / 64)) (m % 64) (r .bits (m % 64) (omega arith) ∙ u))
 
-  found-is : ((z : Atom) → among (atomsOf f) z ≡ true → among xs z ≡ true) → length xs ≤ 10
+  pub found-is : ((z : Atom) → among (atomsOf f) z ≡ true → among xs z ≡ true) → length xs ≤ 10
       → nonZero (together w (blocksOf (length xs))) ≡ satisfiable f
   found-is all few =
-      both-ways (nonZero (together w (blocksOf (length xs)))) (satisfiable f) (found-if (blocksOf (length xs))) (if-found all few)
+      both-ways (nonZero (together w (blocksOf (length xs)))) (satisfiable f) found-if (if-found all few)
 
 -- ---- the atoms of the two
 
@@ -126,6 +127,28 @@ within-left f g = record { each = λ x h. in-first (atomsOf f) (atomsOf g) x h }
 within-right : (f g : Formula) → Within g (conjunction f g)
 unfolding atomsOf
 within-right f g = record { each = λ x h. in-second (atomsOf f) (atomsOf g) x h }
+
+module _ (f h : Formula) (xs : List Atom) (p : (z : Atom) → among (atomsOf f) z ≡ true → among xs z ≡ true)
+    (q : (z : Atom) → among (atomsOf h) z ≡ true → among xs z ≡ true) where
+  pub with-atoms : (z : Atom) → among (atomsOf (conjunction f h)) z ≡ true → among xs z ≡ true
+  unfolding atomsOf
+  with-atoms z m = go (either f h z m)
+    where
+      go : (among (atomsOf f) z ≡ true) ⊎ (among (atomsOf h) z ≡ true) → among xs z ≡ true
+      go (inl a) = p z a
+      go (inr b) = q z b
+
+  pub without-atoms : (z : Atom) → among (atomsOf (conjunction f (negation h))) z ≡ true → among xs z ≡ true
+  unfolding atomsOf
+  without-atoms z m = with-atoms z m
+
+-- the truths of a condition, over a list that has its atoms and those of the guard
+pub record Truths (ws : List ℕ) (c g : ℕ) (f h : Formula) : Type 0 where
+  pub atoms : List Atom
+  pub listed : Listed ws (marksFrom ws c g) 1 (above c g) atoms
+  pub condition : (z : Atom) → among (atomsOf f) z ≡ true → among atoms z ≡ true
+  pub guard : (z : Atom) → among (atomsOf h) z ≡ true → among atoms z ≡ true
+  pub right : (block : ℕ) → Right atoms block (truthsOf ws (marksFrom ws c g) 1 c g block) f
 
 -- ---- fewer rows have the greater mark
 
@@ -193,88 +216,106 @@ module _ (ws : List ℕ) (c g : ℕ) (f h : Formula) (space : Space ws 0) (disti
         let r = g-row in
         marked-keeps ws kept (above c g) (startMarks c g) g (start-second c g kept g-row p) (omega arith)
 
-  -- a list of the atoms that have at least a mark, where the guard has it
-  module _ (least : ℕ) (pos : 0 < least) (two : least ≤ 2) {xs : List Atom} (listed : Listed ws marks least (above c g) xs) where
-    sweep : Sweep ws marks least (above c g) xs
-    sweep =
+  -- a list of the atoms that have at least a mark, where the guard has it; the rows up to row k or the guard are looked at
+  module _ (least : ℕ) (pos : 0 < least) (two : least ≤ 2) {xs : List Atom} (listed : Listed ws marks least (above c g) xs) (few : length xs ≤ 10) (k : ℕ)
+      (low-k : k < above c g) where
+    abbrev numbers : List ℕ
+    numbers = numbersFrom ws marks least (above k g)
+
+    below : above k g ≤ above c g
+    below = above-within k g (above c g) low-k (above-second c g)
+
+    counted-row : (i : ℕ) (x : Atom) → i < above k g → least ≤ getD marks i 0 → AtomRow ws i x → Assigned xs (getD numbers i 0) x
+    counted-row i x h m a =
+        let b = below in
+        let w = above-within c g (countIn ws) low high in
+        let r = above-within c g rowLimit c-row g-row in
+        let t : Counted ws marks least i = record { marks = m; atoms = atom-op a } in
+        let o = atom-op a in
+        let e = numbered-rank ws marks least (above k g) i (omega arith) h m (omega arith) in
+        let s = rank-counted i t in
+        let l = listed-length listed in
+        let n = rank-grows ws marks least (suc i) (above c g) (omega arith) in
         record {
-          distinct = distinct;
-          rows = above-within c g (countIn ws) low high;
-          closed = marks-closed (kept-least least pos);
-          listed = listed;
+          low = omega arith;
+          listed = listed-in listed i x (omega arith) t a;
+          bits = λ q. listed-assigns distinct listed w q i x (omega arith) t a ∙ ap (bit q) (sym e);
+        }
+
+    sweep : Sweep ws marks least (above k g) numbers xs
+    sweep =
+        let b = below in
+        let d = marks-closed (kept-least least pos) in
+        record {
+          closed =
+              record {
+                some = d .some;
+                first = λ i h. d .first i (omega arith);
+                second = λ i h. d .second i (omega arith);
+              };
+          numbered = counted-row;
         }
 
     guard-listed : (z : Atom) → among (atomsOf h) z ≡ true → among xs z ≡ true
-    guard-listed = rows-listed sweep is-guard (above-second c g) (marks-guard (kept-least least pos) two)
+    guard-listed = rows-listed sweep is-guard (above-second k g) (marks-guard (kept-least least pos) two)
+
+    guard-right : (block : ℕ) → Right xs block (getD (words ws marks least numbers block (above k g)) g 0) h
+    guard-right block = rows-right sweep block is-guard (above-second k g) (marks-guard (kept-least least pos) two)
 
     -- the branches by the words of row k and of the guard, where those of row k are right for a formula with no other atoms
-    module _ (k : ℕ) (e : Formula) (few : length xs ≤ 10)
-        (is-right : (block : ℕ) → Right xs block (conditionWord (words ws marks least block (above k g)) k least) e)
+    module _ (e : Formula) (is-right : (block : ℕ) → Right xs block (conditionWord (words ws marks least numbers block (above k g)) k least) e)
         (atoms : (z : Atom) → among (atomsOf e) z ≡ true → among xs z ≡ true) where
-      guard-right : (block : ℕ) → Right xs block (getD (words ws marks least block (above k g)) g 0) h
-      guard-right block =
-          let l = listed-length listed in
-          rw (words-same ws marks least block (above c g) (above k g) g (above-second k g) (above-second c g))
-          (rows-right sweep (omega arith) block is-guard (above-second c g) (marks-guard (kept-least least pos) two))
-
-      true-right : (block : ℕ) → Right xs block (trueWord ws marks least k g block) (conjunction e h)
+      true-right : (block : ℕ) → Right xs block (trueWord ws marks least numbers k g block) (conjunction e h)
       unfolding trueWord
       true-right block = right-conjunction (is-right block) (guard-right block)
 
-      false-right : (block : ℕ) → Right xs block (falseWord ws marks least k g block) (conjunction e (negation h))
+      false-right : (block : ℕ) → Right xs block (falseWord ws marks least numbers k g block) (conjunction e (negation h))
       unfolding falseWord
       false-right block = right-conjunction (is-right block) (right-negation (guard-right block))
 
-      true-listed : (z : Atom) → among (atomsOf (conjunction e h)) z ≡ true → among xs z ≡ true
-      unfolding atomsOf
-      true-listed z m = go (either e h z m)
-        where
-          go : (among (atomsOf e) z ≡ true) ⊎ (among (atomsOf h) z ≡ true) → among xs z ≡ true
-          go (inl p) = atoms z p
-          go (inr q) = guard-listed z q
-
-      false-listed : (z : Atom) → among (atomsOf (conjunction e (negation h))) z ≡ true → among xs z ≡ true
-      unfolding atomsOf
-      false-listed z m = true-listed z m
-
       searched-by : searched ws marks least k g (blocksOf (length xs)) ≡ branchesOf (satisfiable (conjunction e h)) (satisfiable (conjunction e (negation h)))
-      unfolding searched
+      unfolding searched searchedBy
       searched-by =
           ap₂ branchesOf
-          (found-is xs (conjunction e h) (trueWord ws marks least k g) true-right true-listed few)
-          (found-is xs (conjunction e (negation h)) (falseWord ws marks least k g) false-right false-listed few)
+          (found-is xs (conjunction e h) (trueWord ws marks least numbers k g) (λ b l. true-right b) (with-atoms e h xs atoms guard-listed) few)
+          (found-is xs (conjunction e (negation h)) (falseWord ws marks least numbers k g) (λ b l. false-right b) (without-atoms e h xs atoms guard-listed) few)
 
   -- ---- the two together
 
-  module _ {xs : List Atom} (listed : Listed ws marks 1 (above c g) xs) where
+  module _ {xs : List Atom} (listed : Listed ws marks 1 (above c g) xs) (few : length xs ≤ 10) where
+    both-sweep : Sweep ws marks 1 (above c g) (numbersFrom ws marks 1 (above c g)) xs
+    both-sweep = sweep 1 (omega arith) (omega arith) listed few c (above-first c g)
+
+    condition-marked : 1 ≤ getD marks c 0
+    condition-marked = marks-condition (kept-least 1 (omega arith)) (omega arith)
+
     condition-listed : (z : Atom) → among (atomsOf f) z ≡ true → among xs z ≡ true
-    condition-listed =
-        rows-listed (sweep 1 (omega arith) (omega arith) listed) is-condition (above-first c g) (marks-condition (kept-least 1 (omega arith)) (omega arith))
+    condition-listed = rows-listed both-sweep is-condition (above-first c g) condition-marked
 
-    condition-right : length xs ≤ 10 → (block : ℕ) → Right xs block (conditionWord (words ws marks 1 block (above c g)) c 1) f
-    unfolding conditionWord
-    condition-right few block =
-        let l = listed-length listed in
-        rows-right (sweep 1 (omega arith) (omega arith) listed) (omega arith) block is-condition (above-first c g)
-        (marks-condition (kept-least 1 (omega arith)) (omega arith))
+    condition-right : (block : ℕ) → Right xs block (truthsOf ws marks 1 c g block) f
+    unfolding truthsOf conditionWord
+    condition-right block = rows-right both-sweep block is-condition (above-first c g) condition-marked
 
-    both-listed : (z : Atom) → among (atomsOf (conjunction f h)) z ≡ true → among xs z ≡ true
-    unfolding atomsOf
-    both-listed z m = go (either f h z m)
+    searched-both : searched ws marks 1 c g (blocksOf (length xs)) ≡ branchesOf (satisfiable (conjunction f h)) (satisfiable (conjunction f (negation h)))
+    unfolding truthsOf
+    searched-both = searched-by 1 (omega arith) (omega arith) listed few c (above-first c g) f condition-right condition-listed
+
+  -- the atoms listed are those of both
+  module _ {xs : List Atom} (listed : Listed ws marks 1 (above c g) xs) where
+    in-list : {i : ℕ} {e : Formula} → TruthRow ws i e → i < above c g → 1 ≤ getD marks i 0 → (z : Atom) → among (atomsOf e) z ≡ true → among xs z ≡ true
+    in-list t l m z a = go (rows-of (marks-closed (kept-least 1 (omega arith))) t l m z a)
       where
-        go : (among (atomsOf f) z ≡ true) ⊎ (among (atomsOf h) z ≡ true) → among xs z ≡ true
-        go (inl p) = condition-listed z p
-        go (inr q) = guard-listed 1 (omega arith) (omega arith) listed z q
+        go : RowOf (AtLeast 1) ws marks (above c g) z → among xs z ≡ true
+        go (row-of i {x = x} l a e p) = sym (among-same xs x z e) ∙ listed-in listed i x l (record { marks = p; atoms = atom-op a }) a
 
     counted : length (differentAtoms (conjunction f h)) ≡ length xs
     counted =
         apart-length (different-apart (atomsOf (conjunction f h))) (listed-apart distinct listed (above-within c g (countIn ws) low high))
         (λ z. among-different (atomsOf (conjunction f h)) z
-        ∙ both-ways (among (atomsOf (conjunction f h)) z) (among xs z) (both-listed z) (listed-part (omega arith) marks-parts listed z))
-
-    searched-both : length xs ≤ 10
-        → searched ws marks 1 c g (blocksOf (length xs)) ≡ branchesOf (satisfiable (conjunction f h)) (satisfiable (conjunction f (negation h)))
-    searched-both few = searched-by 1 (omega arith) (omega arith) listed c f few (condition-right few) condition-listed
+        ∙ both-ways (among (atomsOf (conjunction f h)) z) (among xs z)
+        (with-atoms f h xs (in-list is-condition (above-first c g) (marks-condition (kept-least 1 (omega arith)) (omega arith)))
+        (in-list is-guard (above-second c g) (marks-guard (kept-least 1 (omega arith)) (omega arith))) z)
+        (listed-part (omega arith) marks-parts listed z))
 
   -- ---- the guard alone
 
@@ -308,7 +349,7 @@ module _ (ws : List ℕ) (c g : ℕ) (f h : Formula) (space : Space ws 0) (disti
             (rows-of (marks-closed (kept-least 2 (omega arith))) is-guard (above-second c g) (marks-guard (kept-least 2 (omega arith)) (omega arith)) z q);
       }
 
-  truth-right : (xs : List Atom) (block : ℕ) → Right xs block (conditionWord (words ws marks 2 block (above g g)) g 2) (constantly true)
+  truth-right : (xs : List Atom) (block : ℕ) → Right xs block (conditionWord (words ws marks 2 (numbersFrom ws marks 2 (above g g)) block (above g g)) g 2) (constantly true)
   unfolding conditionWord spreadOf
   truth-right xs block = right-constant true
 
@@ -324,7 +365,7 @@ module _ (ws : List ℕ) (c g : ℕ) (f h : Formula) (space : Space ws 0) (disti
         → searched ws marks 2 g g (blocksOf (length xs)) ≡ branchesOf (satisfiable (conjunction f h)) (satisfiable (conjunction f (negation h)))
     unfolding atomsOf among
     searched-alone few d s =
-        searched-by 2 (omega arith) (omega arith) listed g (constantly true) few (truth-right xs) (λ z p. absurd (false≢true p))
+        searched-by 2 (omega arith) (omega arith) listed few g (above-second c g) (constantly true) (truth-right xs) (λ z p. absurd (false≢true p))
         ∙ ap₂ branchesOf (alone-is h d s) (alone-is (negation h) (apart-negation d) s)
 
   -- ---- the decision
@@ -337,8 +378,8 @@ module _ (ws : List ℕ) (c g : ℕ) (f h : Formula) (space : Space ws 0) (disti
         let m = rank-fewer ws marks 1 2 (above c g) (omega arith) in
         omega arith
 
-    listed-decides : decided ws c g ≡ decisionOf f h
-    unfolding decided decisionOf atomsFrom
+    listed-decides : decidedAnew ws c g ≡ decisionOf f h
+    unfolding decidedAnew decisionOf atomsFrom
     listed-decides = rw (sym (listed-length all), sym (listed-length own), counted all) (go (leb (length xs) 10) refl)
       where
         two : (t : Bool) → eqb (rank ws marks 3 (above c g)) 0 ≡ t → length xs ≤ 10
@@ -354,9 +395,25 @@ module _ (ws : List ℕ) (c g : ℕ) (f h : Formula) (space : Space ws 0) (disti
         go true e = let l = leb-true (length xs) 10 e in rw (le-ltb 10 (length xs) l) (two (eqb (rank ws marks 3 (above c g)) 0) refl l)
         go false e = rw (lt-ltb 10 (length xs) (leb-false (length xs) 10 e))
 
-  decides-by : SomeList ws marks 1 (above c g) → SomeList ws marks 2 (above c g) → satisfiable f ≡ true → decided ws c g ≡ decisionOf f h
+  decides-by : SomeList ws marks 1 (above c g) → SomeList ws marks 2 (above c g) → satisfiable f ≡ true → decidedAnew ws c g ≡ decisionOf f h
   decides-by (some-list all) (some-list own) = listed-decides all own
 
   -- of rows that stand for the condition and the guard the code's decision is that of the rules, if the condition is satisfiable
-  pub decides : satisfiable f ≡ true → decided ws c g ≡ decisionOf f h
+  pub decides : satisfiable f ≡ true → decidedAnew ws c g ≡ decisionOf f h
   decides = decides-by (list-made (omega arith) marks-parts (above c g)) (list-made (omega arith) marks-parts (above c g))
+
+  -- the truths of the condition over the atoms of both
+  pub truths : atomsFrom ws c g 1 ≤ 10 → Truths ws c g f h
+  unfolding atomsFrom
+  truths few = go (list-made (omega arith) marks-parts (above c g))
+    where
+      go : SomeList ws marks 1 (above c g) → Truths ws c g f h
+      go (some-list {xs = xs} l) =
+          let n = listed-length l in
+          record {
+            atoms = xs;
+            listed = l;
+            condition = condition-listed l (omega arith);
+            guard = guard-listed 1 (omega arith) (omega arith) l (omega arith) c (above-first c g);
+            right = condition-right l (omega arith);
+          }

@@ -1,4 +1,4 @@
--- `checker::forks::rewind` meets its contract: its nine stores put back the numbers of the fork. Assumes nothing.
+-- `checker::forks::rewind` meets its contract: its ten stores put back the numbers of the fork. Assumes nothing.
 use borrow.Author.Needs.{needs}
 use Prim.Native.Nat.{_-_}
 use native.Mathlib.Omega.{arith}
@@ -28,6 +28,7 @@ rewind-spec =
     (λ c. search needs)
     (λ c. search needs)
     (λ c. search needs)
+    (λ c. simp length-set (omega arith))
     (λ c. simp length-set (omega arith))
     (λ c. simp length-set (omega arith))
     (λ c. simp length-set (omega arith))

@@ -1,8 +1,6 @@
 -- `checker::path::choose` meets its contract: the branch that the decision allows, or both. Assumes nothing.
 use borrow.Author.Needs.{needs}
-use mathlib.Core.Path.{sym, _∙_}
-use Rattle.checker.specs.Code.Paths.Decisions.{decide-needs, chooses-as, chooses-no-truth, chooses-many, chooses-both, chooses-true, chooses-false}
-use Rattle.checker.specs.Code.State.Laws.{room-space}
+use Rattle.checker.specs.Code.Paths.Decisions.{decide-needs, decided-space, decided-lent, chooses-as, chooses-no-truth, chooses-many, chooses-both, chooses-true, chooses-false}
 use Rattle.checker.proofs.path.choose.Statement.{statement}
 use Rattle.checker.proofs.path.choose.Tie as tie
 
@@ -10,25 +8,25 @@ returns : tie.Need-returns
 returns c = let a = c .before .before .args in chooses-no-truth (a .n) (a .t) (a .p) (a .space .now) (c .if1 .taken)
 
 decide-requires : tie.Need-decide-requires
-decide-requires c κs = decide-needs (c .before .before .before .args .space .now) (c .before .before .before .args .t) (c .before .before .before .args .p) (c .before .if1 .left) (c .before .before .before .pre)
+decide-requires c κs = decide-needs (c .before .before .before .before .args .space .now) (c .before .before .before .before .args .t) (c .before .before .before .before .args .p) (c .before .before .if1 .left) (c .before .before .before .before .pre)
 
 assume-requires : tie.Need-assume-requires
-assume-requires c κs = (room-space (c .before .before .before .before .before .before .before .pre .room), c .before .before .before .before .before .before .before .pre .room .lent)
+assume-requires c κs = let d = c .before .before .before .before .before .decide .ensures in let r = c .before .before .before .before .before .before .before .before .before .before .pre .room in (decided-space r d, decided-lent r d)
 
 assume-requires-2 : tie.Need-assume-requires-2
-assume-requires-2 c κs = (room-space (c .before .before .before .before .before .before .before .pre .room), c .before .before .before .before .before .before .before .pre .room .lent)
+assume-requires-2 c κs = let d = c .before .before .before .before .before .decide .ensures in let r = c .before .before .before .before .before .before .before .before .before .before .pre .room in (decided-space r d, decided-lent r d)
 
 returns-2 : tie.Need-returns-2
-returns-2 c = chooses-many (c .before .before .before .before .before .before .pre .room) (c .before .before .before .before .before .before .args .t) (c .before .before .before .before .if1 .left) (sym (c .enum-told .given .1) ∙ c .before .before .decide .ensures .is)
+returns-2 c = chooses-many (c .before .before .before .before .before .before .before .before .before .pre .room) (c .before .before .before .before .decide .ensures) (c .before .before .before .before .before .before .before .before .before .args .n) (c .before .before .before .before .before .before .before .before .before .args .t) (c .before .before .before .before .before .before .before .if1 .left) (c .enum-told .given .1)
 
 returns-3 : tie.Need-returns-3
-returns-3 c = chooses-both (c .before .before .before .before .before .before .pre .room) (c .before .before .before .before .before .before .args .t) (c .before .before .before .before .if1 .left) (sym (c .enum-told2 .given .1) ∙ c .before .before .decide .ensures .is)
+returns-3 c = chooses-both (c .before .before .before .before .before .before .before .before .before .pre .room) (c .before .before .before .before .decide .ensures) (c .before .before .before .before .before .before .before .before .before .args .n) (c .before .before .before .before .before .before .before .before .before .args .t) (c .before .before .before .before .before .before .before .if1 .left) (c .enum-told2 .given .1)
 
 returns-4 : tie.Need-returns-4
-returns-4 c = chooses-as (c .before .before .assume .ensures) (chooses-true (c .before .before .before .before .before .before .before .before .before .before .pre .room) (c .before .before .before .before .before .before .before .before .before .before .args .t) (c .before .before .before .before .before .before .before .before .if1 .left) (sym (c .before .before .before .before .enum-told3 .given .1) ∙ c .before .before .before .before .before .before .decide .ensures .is))
+returns-4 c = chooses-as (c .before .before .assume .ensures) (chooses-true (c .before .before .before .before .before .before .before .before .before .before .before .before .before .pre .room) (c .before .before .before .before .before .before .before .before .decide .ensures) (c .before .before .before .before .before .before .before .before .before .before .before .before .before .args .n) (c .before .before .before .before .before .before .before .before .before .before .before .before .before .args .t) (c .before .before .before .before .before .before .before .before .before .before .before .if1 .left) (c .before .before .before .before .enum-told3 .given .1))
 
 returns-5 : tie.Need-returns-5
-returns-5 c = chooses-as (c .before .before .assume2 .ensures) (chooses-false (c .before .before .before .before .before .before .before .before .before .before .pre .room) (c .before .before .before .before .before .before .before .before .before .before .args .t) (c .before .before .before .before .before .before .before .before .if1 .left) (sym (c .before .before .before .before .enum-told4 .given .1) ∙ c .before .before .before .before .before .before .decide .ensures .is))
+returns-5 c = chooses-as (c .before .before .assume2 .ensures) (chooses-false (c .before .before .before .before .before .before .before .before .before .before .before .before .before .pre .room) (c .before .before .before .before .before .before .before .before .decide .ensures) (c .before .before .before .before .before .before .before .before .before .before .before .before .before .args .n) (c .before .before .before .before .before .before .before .before .before .before .before .before .before .args .t) (c .before .before .before .before .before .before .before .before .before .before .before .if1 .left) (c .before .before .before .before .enum-told4 .given .1))
 
 pub choose-spec : {M : Type 1} → statement M
 choose-spec =

@@ -1,6 +1,9 @@
 -- `checker::steps::branch` meets its contract: the branch that is taken, or the first one and a fork. Assumes nothing.
 use borrow.Author.Needs.{needs}
-use Rattle.checker.specs.Code.Going.Branching.{both-lent, both-space, both-forkable, branched-first, branched-second, branched-none, branched-both}
+use mathlib.Core.Path.{_∙_}
+use native.Mathlib.Omega.{arith}
+use lib.ListN.{length-set}
+use Rattle.checker.specs.Code.Going.Branching.{both-lent, stored-lent, stored-space, both-forkable, branched-first, branched-second, branched-none, branched-both}
 use Rattle.checker.proofs.steps.branch.Statement.{statement}
 use Rattle.checker.proofs.steps.branch.Tie as tie
 
@@ -9,10 +12,16 @@ fork-requires c κs =
     let p = c .before .before .before .before .before .before .before .before .before .before .before .before .before .before .pre in
     both-forkable (p .0) (c .before .before .enum-told3 .given .1) (c .before .before .before .before .before .before .choose .ensures) (p .1 .1 .1 .1) (c .before .before .before .before .before .before .before .before .before .before .wait .ensures) (p .1 .0) (p .1 .1 .0) (p .1 .1 .1 .0)
 
+slice-write-space : tie.Need-slice-write-space
+slice-write-space c =
+    let p = c .before .before .before .before .before .before .before .before .before .before .before .before .before .before .before .before .before .pre in
+    let l = both-lent (p .0) (c .before .before .before .before .before .enum-told3 .given .1) (c .before .before .before .before .before .before .before .before .before .choose .ensures) in
+    omega (arith, l)
+
 assume-requires : tie.Need-assume-requires
 assume-requires c κs =
     let p = c .before .before .before .before .before .before .before .before .before .before .before .before .before .before .before .before .before .before .pre in
-    (both-space (p .0) (c .before .before .before .before .before .before .enum-told3 .given .1) (c .before .before .before .before .before .before .before .before .before .before .choose .ensures), both-lent (p .0) (c .before .before .before .before .before .before .enum-told3 .given .1) (c .before .before .before .before .before .before .before .before .before .before .choose .ensures))
+    (stored-space (p .0) (c .before .before .before .before .before .before .enum-told3 .given .1) (c .before .before .before .before .before .before .before .before .before .before .choose .ensures) _, stored-lent (p .0) (c .before .before .before .before .before .before .enum-told3 .given .1) (c .before .before .before .before .before .before .before .before .before .before .choose .ensures) _)
 
 returns : tie.Need-returns
 returns c = branched-first (c .before .before .before .before .before .before .before .before .wait .ensures) (c .before .before .before .before .choose .ensures) (c .enum-told .given .1)
@@ -22,6 +31,9 @@ returns-2 c = branched-second (c .before .before .before .before .before .before
 
 returns-3 : tie.Need-returns-3
 returns-3 c = branched-none (c .before .before .before .before .before .before .before .before .before .wait .ensures) (c .before .before .before .before .before .choose .ensures) (c .before .why .given .1)
+
+same-length-7 : tie.Need-same-length-7
+same-length-7 c = c .before .before .assume .kept .0 ∙ length-set (c .before .before .before .before .before .before .before .before .before .before .before .before .before .choose .last .0) 1371 _ ∙ c .before .before .before .before .before .before .before .before .before .before .before .before .before .choose .kept .0
 
 returns-4 : tie.Need-returns-4
 returns-4 c = branched-both (c .before .before .before .before .before .before .before .before .before .before .before .before .before .before .before .before .before .wait .ensures) (c .before .before .before .before .before .before .before .before .before .before .before .before .before .choose .ensures) (c .before .before .before .before .before .before .before .before .before .enum-told3 .given .1) (c .before .before .before .before .before .before .fork .ensures) (c .before .before .assume .ensures)
@@ -37,6 +49,7 @@ branch-spec =
     (λ c. search needs)
     (λ c. search needs)
     fork-requires
+    slice-write-space
     assume-requires
     (λ c. search needs)
     (λ c. search needs)
@@ -47,6 +60,6 @@ branch-spec =
     (λ c. search needs)
     (λ c. search needs)
     returns-3
-    (λ c. search needs)
+    same-length-7
     (λ c. search needs)
     returns-4)

@@ -24,7 +24,7 @@ use Rattle.checker.specs.Code.Notes.{Noting, Blocked}
 use Rattle.checker.specs.Code.Rules.{Checkable, Leaf as LeafRule, After}
 use Rattle.checker.specs.Code.Rules.Nodes.{shaped, first-of, leaf-exec, typed-exec}
 use Rattle.checker.specs.Code.State.{depthIn, typesOn, PathIn, Room}
-use Rattle.checker.specs.Code.State.Laws.{room-same, variables-kept, variables-types, path-rewound, room-less}
+use Rattle.checker.specs.Code.State.Laws.{still-known, room-same, variables-kept, variables-types, path-rewound, room-less}
 use Rattle.checker.specs.declared.operators.Step.{Step}
 use Rattle.checker.specs.declared.operators.Step.the-variants.{Gave, Stopped}
 use Rattle.checker.specs.declared.steps.Move.{Move}
@@ -120,7 +120,8 @@ module _ {limit : ℕ} {table : List ℕ} {bound base : ℕ} {ground : List Symb
           let x = enters-room in
           path-rewound (λ j l h. place j (omega arith) (omega (arith, h, x .rows))) (λ j l h. place j (omega arith) (omega (arith, h, x .writes)))
           (place 288 (omega arith) (omega arith)) (place 724 (omega arith) (omega arith)) (place 725 (omega arith) (omega arith))
-          (place 726 (omega arith) (omega arith)) (place 727 (omega arith) (omega arith)) (q .stands .state .path)
+          (place 726 (omega arith) (omega arith)) (place 727 (omega arith) (omega arith))
+          (still-known (b .beyond) block-grown (q .stands .state .path .remembers)) (q .stands .state .path)
 
       block-room : {rows : ℕ} → Room ws rows → Room left rows
       block-room x =
@@ -194,7 +195,7 @@ module _ {table ws fs : List ℕ} {n : ℕ} (x : Leafable table ws fs n) where
   pub leaf-node : 4 * n + 3 < length table
   leaf-node = omega (arith, enters-formed e .room)
 
-  pub leaf-space : 1371 ≤ length ws
+  pub leaf-space : 1415 ≤ length ws
   leaf-space = e .stands .lent
 
   pub leaf-room : Room ws 1
@@ -231,7 +232,7 @@ module _ {limit : ℕ} {table ws fs : List ℕ} {n : ℕ} (x : Enterable limit t
   pub up-node : 4 * n + 3 < length table
   up-node = omega (arith, enters-formed (x .entering) .room)
 
-  pub up-space : 1371 ≤ length ws
+  pub up-space : 1415 ≤ length ws
   up-space = x .entering .stands .lent
 
   pub up-earlier : nodeIn table n .a < n

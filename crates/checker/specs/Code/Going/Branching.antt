@@ -3,7 +3,7 @@ use mathlib.Core.List.{List}
 use mathlib.Core.Path.{_≡_, refl}
 use Prim.Native.Nat.{ℕ, _≤_, _<_}
 use native.Mathlib.Omega.{arith}
-use lib.ListN.{length}
+use lib.ListN.{length, set}
 use Rattle.script.specs.Code.Forms.{formOf}
 use Rattle.script.specs.declared.Refusal.{Refusal}
 use Rattle.rules.specs.Paths.{Path}
@@ -11,9 +11,10 @@ use Rattle.rules.specs.Symbolic.{Symbolic}
 use Rattle.terms.specs.Terms.{Space, symbolLimit}
 use Rattle.checker.specs.Code.Frames.{Waitable, Waits}
 use Rattle.checker.specs.Code.Going.{unbound, movedBy, forkedIn, framesSize, Forkable, Forks, Branched, to-first, to-second, to-both, to-none, Lasts}
-use Rattle.checker.specs.Code.Paths.{assumed}
+use Rattle.checker.specs.Code.Paths.{assumed, forgotten}
+use Rattle.checker.specs.Code.Paths.Conditions.{learns-set, learnt-room}
 use Rattle.checker.specs.Code.Rules.{Two, Chosen, both, Chooses, Decidable}
-use Rattle.checker.specs.Code.State.{depthIn, spaceSize}
+use Rattle.checker.specs.Code.State.{depthIn, knownAt, spaceSize, Room}
 use Rattle.checker.specs.Code.State.Laws.{room-space, log-from}
 use Rattle.checker.specs.declared.operators.Step.{Step}
 use Rattle.checker.specs.declared.path.Branch.{Branch}
@@ -40,11 +41,21 @@ module _ {n t q : ℕ} {ws left : List ℕ} {r : Branch} (d : Decidable ws t q) 
   pub both-same : left ≡ ws
   both-same = both-left (rw e at (h .chosen (d .valued .value) (d .path) (d .valued .means) (d .holds)))
 
-  pub both-lent : spaceSize ≤ length left
-  both-lent = rw both-same (d .room .lent)
+  both-room : Room left 1
+  both-room = rw both-same (d .room)
 
-  pub both-space : Space left 1
-  both-space = rw both-same (room-space (d .room))
+  pub both-lent : spaceSize ≤ length left
+  both-lent = both-room .lent
+
+  -- whatever is stored at the place of what is known
+  both-stored : (x : ℕ) → Room (set left knownAt x) 1
+  both-stored x = learnt-room both-room (learns-set left x)
+
+  pub stored-lent : (x : ℕ) → spaceSize ≤ length (set left knownAt x)
+  stored-lent x = both-stored x .lent
+
+  pub stored-space : (x : ℕ) → Space (set left knownAt x) 1
+  stored-space x = room-space (both-stored x)
 
 -- the path's numbers are small enough for a fork, and a new frame is none
 pub both-forkable : {n t q given x y : ℕ} {ws left fs gs : List ℕ} {r : Branch} → Decidable ws t q → r ≡ Both → Chooses n t q ws r left → depthIn ws ≤ symbolLimit
@@ -80,5 +91,5 @@ module _ {b c n t q : ℕ} {ws fs left gs : List ℕ} {r : Branch} (w : Waits n 
   pub branched-none : {x : Refusal} → r ≡ Neither x → Branched b c n t q ws fs left gs (Stopped x)
   branched-none e = to-none w (rw e at h)
 
-  pub branched-both : {end hs : List ℕ} → r ≡ Both → Forks left gs hs → end ≡ assumed left 5 q → Branched b c n t q ws fs end hs (Operand b)
+  pub branched-both : {end hs : List ℕ} → r ≡ Both → Forks left gs hs → end ≡ assumed (forgotten left) 5 q → Branched b c n t q ws fs end hs (Operand b)
   branched-both e f a = to-both w (rw e at h) f a

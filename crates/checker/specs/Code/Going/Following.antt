@@ -24,8 +24,8 @@ use Rattle.checker.specs.Code.Frames.Laws.{size-some}
 use Rattle.checker.specs.Code.Going.{first, second, goOn, for-second, for-body, forkedIn, Onward, Forking, one-left, Stands, Entering, Returning, boundTo, Forks, Branched, to-first, to-second, to-both, to-none, Came, came-operand, came-stopped}
 use Rattle.checker.specs.Code.Going.Keeping.{onward-trans, waits-onward, awaits-kept, stands-base, stands-on, stands-ruled, waits-awaits, waits-slot, waits-forked, waits-stands}
 use Rattle.checker.specs.Code.Going.Steps.{then-on}
-use Rattle.checker.specs.Code.Paths.{assumed}
-use Rattle.checker.specs.Code.Paths.Conditions.{assumed-ruled, assumed-with}
+use Rattle.checker.specs.Code.Paths.{assumed, forgotten}
+use Rattle.checker.specs.Code.Paths.Conditions.{learns-set, forgets, assumed-ruled, assumed-with}
 use Rattle.checker.specs.Code.Rules.{twoExec, restSize, withGuard, withoutGuard, Ruled, Chosen, Decidable}
 use Rattle.checker.specs.Code.Rules.Chosen.{first as chosen-first, second as chosen-second, both as chosen-both, neither as chosen-neither}
 use Rattle.checker.specs.Code.Rules.Nodes.{Rest, Branches, shaped, rest-of, several-of, branches-of, if-rest-exec, if-two, two-rest-exec}
@@ -360,12 +360,12 @@ module _ {limit : ℕ} {table : List ℕ} {bound base : ℕ} {ground : List Symb
             }
 
         takes-both : ((e f : Path → Paths) → decide n (r .value) (r .path) e f ≡ forks (e (withGuard k (r .path))) (f (withoutGuard k (r .path))))
-            → Entering limit table bound base ground (assumed ws 5 q) gs b ls
+            → Entering limit table bound base ground (assumed (forgotten ws) 5 q) gs b ls
         unfolding bind leaves
         takes-both e =
             let z = size-some (treeIn table c) in
             let o = sides .fits in
-            let u = assumed-ruled (up-room r some) 5 q in
+            let u = assumed-ruled (up-room r some) (learns-set ws 0) 5 q in
             record {
               environment = r .environment;
               path = withGuard k (r .path);
@@ -373,7 +373,9 @@ module _ {limit : ℕ} {table : List ℕ} {bound base : ℕ} {ground : List Symb
               owed = suc (x .less);
               frames = x .fewer;
               others = onto ++ r .others;
-              stands = stands-ruled both-stands u (assumed-with (up-room r some) guard-means yes (r .stands .state .path));
+              stands =
+                  stands-ruled both-stands u
+                  (assumed-with (up-room r some) (learns-set ws 0) guard-means yes (forgets (up-room r some)) (r .stands .state .path));
               low = omega (arith, after .earlier, up r some .low);
               room = room-on {n = size (treeIn table b) + suc (x .less)} (room-less (omega (arith, o, z, x .size-is, x .owed-is)) (r .room)) (u .went);
               tops = omega (arith, both-top, y .forked, forked-here, w .top, (left-top r some), o, z, x .size-is, x .frames-is, r .tops);
@@ -386,7 +388,7 @@ module _ {limit : ℕ} {table : List ℕ} {bound base : ℕ} {ground : List Symb
             }
 
       takes-either : {between hs gs : List ℕ} → Waits n 1 t q fs₁ hs → Chosen ws between n (r .value) (r .path) Both → Forks between hs gs
-          → Entering limit table bound base ground (assumed between 5 q) gs b ls
+          → Entering limit table bound base ground (assumed (forgotten between) 5 q) gs b ls
       takes-either {hs = hs} {gs = gs} w (chosen-both s v a d e) y =
           rw s (takes-both w (subst (λ (ws : List ℕ). Forks ws hs gs) s y) v a d e)
 

@@ -16,10 +16,10 @@ use Rattle.checker.specs.Code.Going.Keeping.{awaits-kept, left-kept, sta
 use Rattle.checker.specs.Code.Notes.{baseIn, Kept, Noting}
 use Rattle.checker.specs.Code.Notes.Keeping.{still-holding}
 use Rattle.checker.specs.Code.Paths.{assumed}
-use Rattle.checker.specs.Code.Paths.Conditions.{assumed-ruled, assumed-without}
+use Rattle.checker.specs.Code.Paths.Conditions.{learns-refl, assumed-ruled, assumed-without}
 use Rattle.checker.specs.Code.Rules.{withoutGuard}
-use Rattle.checker.specs.Code.State.{depthIn, Means, Variables, PathIn, Room}
-use Rattle.checker.specs.Code.State.Laws.{room-same, means-kept, variables-kept, path-rewound, room-less, room-on, room-space}
+use Rattle.checker.specs.Code.State.{depthIn, knownAt, Means, Variables, PathIn, Room}
+use Rattle.checker.specs.Code.State.Laws.{nothing-known, room-same, means-kept, variables-kept, path-kept, path-rewound, distinct-same, room-less, room-on, room-space}
 
 -- ---- the last fork
 
@@ -93,7 +93,7 @@ module _ {limit : ℕ} {table : List ℕ} {bound base : ℕ} {ground : List Symb
   row-is k l h = w .before k (omega (arith, h, f .room .rows)) (λ e. omega arith) ∙ last .onward .grown .rows k l h
 
   log-is : (k : ℕ) → 729 ≤ k → k < 729 + 4 * getD xs 726 0 → getD ws₁ k 0 ≡ getD xs k 0
-  log-is k l h = w .beyond k l ∙ last .onward .log k l h
+  log-is k l h = w .beyond k l (λ e. omega (arith, h, e, f .room .writes)) ∙ last .onward .log k l h
 
   first-is : (k : ℕ) → k < 2 * base → getD ws₁ k 0 ≡ getD xs k 0
   first-is k l = let b = few-base in w .before k (omega arith) (λ e. omega arith) ∙ last .onward .first k l
@@ -107,13 +107,13 @@ module _ {limit : ℕ} {table : List ℕ} {bound base : ℕ} {ground : List Symb
   rewound-path : PathIn ws₁ (f .path)
   rewound-path =
       path-rewound row-is log-is count-is (w .next ∙ last .slot .next) (w .condition ∙ last .slot .condition) writes-is (w .start ∙ last .slot .start)
-      (f .state .path)
+      (nothing-known (w .known)) (f .state .path)
 
   rewound-ground : Variables ws₁ base ground
   rewound-ground = variables-kept base (omega arith) first-is rewound-grown (f .ground-is)
 
   rewound-base : baseIn ws₁ ≡ base
-  rewound-base = w .beyond 1241 (omega arith) ∙ s .based
+  rewound-base = w .beyond 1241 (omega arith) (λ e. omega arith) ∙ s .based
 
   rewound-awaits : Awaits table bound base ground ws₁ hs (frameIn hs) (depthIn ws₁) (f .environment) (f .later) (f .owed) (f .frames)
   rewound-awaits =
@@ -177,8 +177,7 @@ module _ {limit : ℕ} {table : List ℕ} {bound base : ℕ} {ground : List Symb
 
     restored-path : PathIn ws₂ (f .path)
     restored-path =
-        path-rewound (λ k l h. place k (omega arith)) (λ k l h. place k (omega arith)) (place 288 (omega arith)) (place 724 (omega arith)) (place 725 (omega arith))
-        (place 726 (omega arith)) (place 727 (omega arith)) rewound-path
+        path-kept (λ k l. place k (omega arith)) restored-grown (distinct-same place (rewound-path .distinct)) rewound-path
 
     restored-depth : depthIn ws₂ ≡ depthIn ws₁
     restored-depth = place 728 (omega arith)
@@ -190,7 +189,7 @@ module _ {limit : ℕ} {table : List ℕ} {bound base : ℕ} {ground : List Symb
         let n : Noting limit table ws base = record { lent = s .lent; based = omega (arith, e); kept = s .notes } in
         still-holding n
         (λ k l. v .first k (omega (arith, l, rewound-base)) ∙ w .before k (omega arith) (λ z. omega arith))
-        (record { each = λ k l h. place k (omega arith) ∙ w .beyond k (omega arith) }) .kept
+        (record { each = λ k l h. place k (omega arith) ∙ w .beyond k (omega arith) (λ e. omega arith) }) .kept
 
     restored-stands : Stands limit table bound base ground ws₂ hs (f .environment) (f .path) (f .later) (f .owed) (f .frames) (last .others)
     restored-stands =
@@ -235,7 +234,7 @@ module _ {limit : ℕ} {table : List ℕ} {bound base : ℕ} {ground : List Symb
 
     resume-enters : Entering limit table bound base ground (assumed ws₂ 7 (secondOf hs (frameIn hs))) hs (nodeIn table (nodeOf hs (frameIn hs)) .c) ls
     resume-enters =
-        let u = assumed-ruled guard-room 7 (secondOf hs (frameIn hs)) in
+        let u = assumed-ruled guard-room (learns-refl ws₂) 7 (secondOf hs (frameIn hs)) in
         record {
           environment = f .environment;
           path = withoutGuard (f .guard) (f .path);
@@ -243,7 +242,9 @@ module _ {limit : ℕ} {table : List ℕ} {bound base : ℕ} {ground : List Symb
           owed = f .owed;
           frames = f .frames;
           others = last .others;
-          stands = stands-ruled restored-stands u (assumed-without guard-room guard-means (f .allowed) restored-path);
+          stands =
+              stands-ruled restored-stands u
+              (assumed-without guard-room (learns-refl ws₂) guard-means (f .allowed) (nothing-known (place knownAt (omega arith) ∙ w .known)) restored-path);
           low = rw node-is (f .branch);
           room =
               rw node-is
@@ -256,7 +257,7 @@ module _ {limit : ℕ} {table : List ℕ} {bound base : ℕ} {ground : List Symb
 -- ---- as the code goes back
 
 module _ {table ws fs : List ℕ} (x : Resumable table ws fs) where
-  pub resume-lent : 1371 ≤ length ws
+  pub resume-lent : 1415 ≤ length ws
   resume-lent = x .stands .lent
 
   pub resume-framed : 640 ≤ length fs
@@ -276,7 +277,7 @@ module _ {table ws fs : List ℕ} (x : Resumable table ws fs) where
       pub guard-space : Space ws₂ 1
       guard-space = room-space (guard-room (x .stands) (forkedIn fs - 1) some-is w v)
 
-      pub guard-lent : 1371 ≤ length ws₂
+      pub guard-lent : 1415 ≤ length ws₂
       guard-lent = guard-room (x .stands) (forkedIn fs - 1) some-is w v .lent
 
       pub branch-node : 4 * nodeOf hs (frameIn hs) + 3 < length table

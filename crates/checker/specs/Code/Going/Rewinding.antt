@@ -11,7 +11,7 @@ use Rattle.checker.specs.Code.Frames.{frameIn, upOf, firstOf, secondOf}
 use Rattle.checker.specs.Code.Going.{Later, Slot, Awaits, no-frame, for-only, for-first, for-second, for-body, forkedIn, framesSize, forkAt, savedFrame, savedCount, savedNext, savedCondition, savedWrites, savedStart, savedDepth, Forkable, Forks, Rewound, RestoredOne, Restorable, Restores}
 use Rattle.checker.specs.Code.Going.Keeping.{awaits-base}
 use Rattle.checker.specs.Code.Notes.{baseIn}
-use Rattle.checker.specs.Code.State.{nextIn, conditionIn, writesIn, startIn, depthIn, spaceSize, Means, Variables, oneMore}
+use Rattle.checker.specs.Code.State.{nextIn, conditionIn, writesIn, startIn, depthIn, knownAt, spaceSize, Means, Variables, oneMore}
 use Rattle.checker.specs.Code.State.Laws.{means-at, variables-kept, same-grown}
 
 -- ---- several numbers below 256 in one
@@ -81,7 +81,7 @@ module _ (ws fs : List ℕ) (can : Forkable ws fs) where
 
 -- ---- going back to a fork
 
--- six numbers in the workspace, in the order of their places, and the first three of the frames
+-- seven numbers in the workspace, in the order of their places, and the first three of the frames
 module _ (ws fs : List ℕ) (lent : spaceSize ≤ length ws) (framed : framesSize ≤ length fs) (j : ℕ) where
   abbrev y1 : List ℕ
   y1 = set ws 288 (savedCount fs j)
@@ -101,24 +101,31 @@ module _ (ws fs : List ℕ) (lent : spaceSize ≤ length ws) (framed : framesSiz
   abbrev y6 : List ℕ
   y6 = set y5 728 (savedDepth fs j)
 
-  below5 : (k : ℕ) → k < 728 → getD y6 k 0 ≡ getD y5 k 0
-  below5 k l = getD-set-other y5 728 k (savedDepth fs j) 0 λ e. omega arith
+  abbrev y7 : List ℕ
+  y7 = set y6 knownAt 0
 
-  below4 : (k : ℕ) → k < 727 → getD y6 k 0 ≡ getD y4 k 0
+  below6 : (k : ℕ) → k < knownAt → getD y7 k 0 ≡ getD y6 k 0
+  below6 k l = getD-set-other y6 knownAt k 0 0 λ e. omega arith
+
+  below5 : (k : ℕ) → k < 728 → getD y7 k 0 ≡ getD y5 k 0
+  below5 k l = below6 k (omega arith) ∙ getD-set-other y5 728 k (savedDepth fs j) 0 λ e. omega arith
+
+  below4 : (k : ℕ) → k < 727 → getD y7 k 0 ≡ getD y4 k 0
   below4 k l = below5 k (omega arith) ∙ getD-set-other y4 727 k (savedStart fs j) 0 λ e. omega arith
 
-  below3 : (k : ℕ) → k < 726 → getD y6 k 0 ≡ getD y3 k 0
+  below3 : (k : ℕ) → k < 726 → getD y7 k 0 ≡ getD y3 k 0
   below3 k l = below4 k (omega arith) ∙ getD-set-other y3 726 k (savedWrites fs j) 0 λ e. omega arith
 
-  below2 : (k : ℕ) → k < 725 → getD y6 k 0 ≡ getD y2 k 0
+  below2 : (k : ℕ) → k < 725 → getD y7 k 0 ≡ getD y2 k 0
   below2 k l = below3 k (omega arith) ∙ getD-set-other y2 725 k (savedCondition fs j) 0 λ e. omega arith
 
-  below1 : (k : ℕ) → k < 724 → getD y6 k 0 ≡ getD y1 k 0
+  below1 : (k : ℕ) → k < 724 → getD y7 k 0 ≡ getD y1 k 0
   below1 k l = below2 k (omega arith) ∙ getD-set-other y1 724 k (savedNext fs j) 0 λ e. omega arith
 
-  above : (k : ℕ) → 729 ≤ k → getD y6 k 0 ≡ getD ws k 0
-  above k l =
-      getD-set-other y5 728 k (savedDepth fs j) 0 (λ e. omega arith)
+  above : (k : ℕ) → 729 ≤ k → (k ≡ knownAt → ⊥) → getD y7 k 0 ≡ getD ws k 0
+  above k l n =
+      getD-set-other y6 knownAt k 0 0 n
+      ∙ getD-set-other y5 728 k (savedDepth fs j) 0 (λ e. omega arith)
       ∙ getD-set-other y4 727 k (savedStart fs j) 0 (λ e. omega arith)
       ∙ getD-set-other y3 726 k (savedWrites fs j) 0 (λ e. omega arith)
       ∙ getD-set-other y2 725 k (savedCondition fs j) 0 (λ e. omega arith)
@@ -134,7 +141,7 @@ module _ (ws fs : List ℕ) (lent : spaceSize ≤ length ws) (framed : framesSiz
   abbrev z3 : List ℕ
   z3 = set z2 2 j
 
-  pub gone-back : Rewound j ws fs y6 z3
+  pub gone-back : Rewound j ws fs y7 z3
   gone-back =
       record {
         same = simp length-set;
@@ -144,9 +151,10 @@ module _ (ws fs : List ℕ) (lent : spaceSize ≤ length ws) (framed : framesSiz
         condition = below3 725 (omega arith) ∙ getD-set-same y2 725 (savedCondition fs j) 0 (simp length-set (omega arith));
         writes = below4 726 (omega arith) ∙ getD-set-same y3 726 (savedWrites fs j) 0 (simp length-set (omega arith));
         start = below5 727 (omega arith) ∙ getD-set-same y4 727 (savedStart fs j) 0 (simp length-set (omega arith));
-        depth = getD-set-same y5 728 (savedDepth fs j) 0 (simp length-set (omega arith));
+        depth = below6 728 (omega arith) ∙ getD-set-same y5 728 (savedDepth fs j) 0 (simp length-set (omega arith));
         before = λ k l n. below1 k l ∙ getD-set-other ws 288 k (savedCount fs j) 0 n;
         beyond = above;
+        known = getD-set-same y6 knownAt 0 0 (simp length-set (omega arith));
         frame = getD-set-other z2 2 0 j 0 (λ e. omega arith) ∙ getD-set-other z1 1 0 (savedFrame fs j) 0 (λ e. omega arith)
             ∙ getD-set-same fs 0 (savedFrame fs j) 0 (omega arith);
         top = getD-set-other z2 2 1 j 0 (λ e. omega arith) ∙ getD-set-same z1 1 (savedFrame fs j) 0 (simp length-set (omega arith));

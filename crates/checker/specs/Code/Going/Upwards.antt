@@ -17,7 +17,7 @@ use Rattle.checker.specs.Code.Going.Steps.{Gives, gives, gives-none, yie
 use Rattle.checker.specs.Code.Rules.{oneExec, twoExec, restExec, restSize, One, Operable}
 use Rattle.checker.specs.Code.Rules.Nodes.{let-form}
 use Rattle.checker.specs.Code.State.{depthIn, Means, Variables, noVariable, oneMore, PathIn, Room, Unnoted, Valued}
-use Rattle.checker.specs.Code.State.Laws.{room-same, means-kept, variables-kept, path-rewound, room-less}
+use Rattle.checker.specs.Code.State.Laws.{still-known, room-same, means-kept, variables-kept, path-rewound, room-less}
 use Rattle.checker.specs.declared.operators.Step.{Step}
 use Rattle.checker.specs.declared.steps.Move.{Move}
 
@@ -41,7 +41,8 @@ module _ {base : ℕ} {ws left : List ℕ} (d : Shifted base ws left) where
       let r = x .rows in
       path-rewound (λ k l i. d .beyond k (omega arith) λ z. omega arith) (λ k l i. d .beyond k (omega arith) λ z. omega arith)
       (d .beyond 288 (omega arith) λ z. omega arith) (d .beyond 724 (omega arith) λ z. omega arith) (d .beyond 725 (omega arith) λ z. omega arith)
-      (d .beyond 726 (omega arith) λ z. omega arith) (d .beyond 727 (omega arith) λ z. omega arith) h
+      (d .beyond 726 (omega arith) λ z. omega arith) (d .beyond 727 (omega arith) λ z. omega arith)
+      (still-known (λ k l. d .beyond k (omega arith) λ z. omega arith) (shifted-grown x) (h .remembers)) h
 
   pub shifted-onward : {rows : ℕ} (fs : List ℕ) → Room ws rows → Onward base ws fs left fs
   shifted-onward fs x =

@@ -152,7 +152,7 @@ module _ {limit : ℕ} {table : List ℕ} {bound base : ℕ} {ground : List Symb
 
 -- after so many paths, the rest of the verdict is that of the leaves to come from node `next` on
 pub record Turn (table types : List ℕ) (depth limit n a : ℕ) (ws fs : List ℕ) (followed kind next : ℕ) : Type 0 where
-  pub whole : length ws ≡ 1371
+  pub whole : length ws ≡ 1415
   pub framed : length fs ≡ 640
   pub above : suc a ≤ n
   pub to-come : List Leaf
@@ -218,7 +218,7 @@ module _ {table types : List ℕ} {depth limit n a : ℕ} {ws fs : List ℕ} {fo
 
 -- ---- the start
 
-pub turn-start : {table types : List ℕ} {depth limit n a : ℕ} {ws fs : List ℕ} → length ws ≡ 1371 → length fs ≡ 640 → ((k : ℕ) → getD fs k 0 ≡ 0) → a < n
+pub turn-start : {table types : List ℕ} {depth limit n a : ℕ} {ws fs : List ℕ} → length ws ≡ 1415 → length fs ≡ 640 → ((k : ℕ) → getD fs k 0 ≡ 0) → a < n
     → Checkable table types depth a → Started depth (typesOn types depth) ws → Turn table types depth limit n a ws fs 0 0 a
 unfolding goOn
 turn-start {table} {types} {depth} {limit} {n} {a} {ws} {fs} whole framed zeros above q s =

@@ -19,7 +19,7 @@ use Rattle.checker.specs.Code.Log.{rightOn, symbolOn, mendsOn, mendedOn,
 use Rattle.checker.specs.Code.Log.Loops.{consistent-none, consistent-some, lookup-none, lookup-some}
 use Rattle.checker.specs.Code.Rules.{Ruled}
 use Rattle.checker.specs.Code.State.{writesIn, spaceSize, nodeLimit, Means, madeSymbol, otherSymbol, Log, noWrite, aWrite, PathIn}
-use Rattle.checker.specs.Code.State.Laws.{path-moved, means-type, means-at, log-kept}
+use Rattle.checker.specs.Code.State.Laws.{still-known, path-moved, means-type, means-at, log-kept}
 use Rattle.checker.specs.declared.log.Found.the-variants.{Value, Nothing}
 
 -- ---- a reference by its place
@@ -211,4 +211,5 @@ module _ (ws : List ℕ) (t p u q : ℕ) (lent : spaceSize ≤ length ws) (few :
       (rw (written-writes ∙ add-one (writesIn ws), written-before 727 (λ z. omega arith) (omega arith))
       (aWrite (log-kept (λ j i l. written-before j (λ z. omega arith) l) written-grown (h .log))
       (means-at written-grown written-type written-through m)
-      (means-at written-grown written-kind written-value n))) h
+      (means-at written-grown written-kind written-value n)))
+      (still-known (λ j l. written-behind j (omega arith)) written-grown (h .remembers)) h

@@ -294,6 +294,7 @@ module _ (ws : List ℕ) (depth turn : ℕ) (low : turn < 8) (lent : spaceSize �
         record {
           same = middle-length;
           before = λ k l. middle-other k (λ x y. omega arith);
+          beyond = λ k l. middle-other k (λ x y. omega arith);
           kept = λ limit base c k.
               kept-still turn (record { each = λ j d e. middle-other j e }) (omega arith) k (λ d e. absurd (omega (arith, e, middle-nothing)));
         }
@@ -354,6 +355,7 @@ module _ (ws : List ℕ) (depth turn : ℕ) (low : turn < 8) (lent : spaceSize �
         record {
           same = simp length-set middle-length;
           before = λ k l. whole-elsewhere .each k (λ e. omega arith) (λ x y. omega arith);
+          beyond = λ k l. whole-elsewhere .each k (λ e. omega arith) (λ x y. omega arith);
           kept = λ limit base c k. kept-still turn whole-elsewhere (omega arith) k (λ d e. whole-right limit base c d e);
         }
       where

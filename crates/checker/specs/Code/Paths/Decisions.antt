@@ -13,16 +13,17 @@ use Rattle.rules.specs.Satisfiable.{satisfiable, differentAtoms}
 use Rattle.rules.specs.Satisfiable.Laws.{one-branch}
 use Rattle.rules.specs.Symbolic.{Formula, negation, conjunction, Symbolic, aTruth}
 use Rattle.rules.specs.SymbolicRules.{branches, decide, atomLimit}
-use Rattle.terms.specs.Terms.{countIn, TruthRow, rowLimit}
-use Rattle.decision.specs.Code.{decided}
+use Rattle.terms.specs.Terms.{countIn, Space, TruthRow}
 use Rattle.decision.specs.Decision.{branchesOf, decisionOf}
-use Rattle.decision.specs.Decision.Laws.{decides}
+use Rattle.decision.specs.Known.{remembers-sound}
+use Rattle.decision.specs.Promise.{Asked, Decides, Decidable as DecidableRows}
 use Rattle.decision.specs.declared.Decision.{Decision}
 use Rattle.decision.specs.declared.Decision.the-variants.{TooMany, Both, OnlyTrue, OnlyFalse}
-use Rattle.checker.specs.Code.Paths.{assumed}
-use Rattle.checker.specs.Code.Paths.Conditions.{ruled-refl, assumed-ruled, assumed-with, assumed-without}
+use Rattle.checker.specs.Code.Paths.{assumed, Learns}
+use Rattle.checker.specs.Code.Paths.Conditions.{ruled-refl, learnt-room, assumed-ruled, assumed-with, assumed-without}
 use Rattle.checker.specs.Code.Rules.{Decidable, withGuard, withoutGuard, Chosen, first, second, both, neither, Chooses}
-use Rattle.checker.specs.Code.State.{conditionIn, Means, wordRow, truthRow, madeSymbol, otherSymbol, PathIn, Room}
+use Rattle.checker.specs.Code.State.{conditionIn, knownAt, spaceSize, Means, wordRow, truthRow, madeSymbol, otherSymbol, PathIn, Room}
+use Rattle.checker.specs.Code.State.Laws.{room-space}
 use Rattle.checker.specs.declared.path.Branch.{Branch}
 use Rattle.checker.specs.declared.path.Branch.the-variants.{First, Second, Neither}
 
@@ -103,50 +104,73 @@ chooses-no-truth n t q ws d = record { ruled = ruled-refl ws; chosen = λ v p m 
 below-row : {ws : List ℕ} {q : ℕ} {v : Symbolic} → Means ws 1 q v → q < countIn ws
 below-row (truthRow l r) = l
 
--- the decision of the rules is that of the code
-decision-is : (q : ℕ) (ws : List ℕ) → Room ws 1 → (D : Decision) → D ≡ decided ws (conditionIn ws) q → (g : Formula) (p : Path) → TruthRow ws q g
-    → q < countIn ws → PathIn ws p → decisionOf (p .condition) g ≡ D
-decision-is q ws room D is g p u l h =
-    sym (is
-    ∙ decides ws (conditionIn ws) q (p .condition) g (record { lent = omega (arith, room .lent); room = omega (arith, room .rows) }) (h .distinct)
-    (h .condition) u (h .inside) l (h .allowed))
+-- the rows of the path's condition and of the guard
+asked : {ws : List ℕ} {q : ℕ} {g : Formula} {p : Path} → Room ws 1 → TruthRow ws q g → q < countIn ws → PathIn ws p
+    → Asked ws (conditionIn ws) q (p .condition) g
+asked r u l h =
+    record {
+      space = record { lent = omega (arith, r .lent); room = omega (arith, r .rows) };
+      distinct = h .distinct;
+      condition = h .condition;
+      guard = u;
+      low = h .inside;
+      high = l;
+      allowed = h .allowed;
+    }
 
--- the tree of the rules by the decision of the code
-tree-is : (n q : ℕ) (ws : List ℕ) → Room ws 1 → (D : Decision) → D ≡ decided ws (conditionIn ws) q → (g : Formula) (p : Path) → TruthRow ws q g
-    → q < countIn ws → PathIn ws p → (e f : Path → Paths) → decide n (aTruth g) p e f ≡ treeOf D n (e (withGuard g p)) (f (withoutGuard g p))
-tree-is n q ws room D is g p u l h e f = decide-tree n g p e f D (decision-is q ws room D is g p u l h)
+module _ {q : ℕ} {ws xs : List ℕ} {D : Decision} (room : Room ws 1) (d : Decides ws knownAt (conditionIn ws) q D xs) where
+  learns : Learns ws xs
+  learns = record { same = d .same; before = d .before }
 
-module _ {n q : ℕ} {ws : List ℕ} (room : Room ws 1) where
-  many : TooMany ≡ decided ws (conditionIn ws) q → (v : Symbolic) (p : Path) → Means ws 1 q v → PathIn ws p → Chosen ws ws n v p (Neither (TooManyAtoms n))
-  many is v p (truthRow {f = g} l u) h = neither λ e f. tree-is n q ws room TooMany is g p u l h e f
+  -- the decision of the rules is that of the code
+  decision-is : {g : Formula} {p : Path} {E : Decision} → D ≡ E → TruthRow ws q g → q < countIn ws → PathIn ws p → decisionOf (p .condition) g ≡ E
+  decision-is {g} {p} is u l h = sym (d .rules (p .condition) g (asked room u l h) (h .remembers)) ∙ is
 
-  pub chooses-many : (t : ℕ) → t ≡ 1 → TooMany ≡ decided ws (conditionIn ws) q → Chooses n t q ws (Neither (TooManyAtoms n)) ws
-  chooses-many t x is = record { ruled = ruled-refl ws; chosen = λ v p m h. many is v p (rw x at m) h }
+  -- the tree of the rules by the decision of the code
+  tree-is : (n : ℕ) {g : Formula} {p : Path} {E : Decision} → D ≡ E → TruthRow ws q g → q < countIn ws → PathIn ws p → (e f : Path → Paths)
+      → decide n (aTruth g) p e f ≡ treeOf E n (e (withGuard g p)) (f (withoutGuard g p))
+  tree-is n {g} {p} {E} is u l h e f = decide-tree n g p e f E (decision-is is u l h)
+
+  many : (n : ℕ) → D ≡ TooMany → (v : Symbolic) (p : Path) → Means ws 1 q v → PathIn ws p → Chosen ws ws n v p (Neither (TooManyAtoms n))
+  many n is v p (truthRow l u) h = neither λ e f. tree-is n is u l h e f
+
+  pub chooses-many : (n t : ℕ) → t ≡ 1 → D ≡ TooMany → Chooses n t q ws (Neither (TooManyAtoms n)) xs
+  chooses-many n t x is = rw (d .many is) (record { ruled = ruled-refl ws; chosen = λ v p m h. many n is v p (rw x at m) h })
 
   -- nothing is assumed yet
-  two-ways : Both ≡ decided ws (conditionIn ws) q → (v : Symbolic) (p : Path) → Means ws 1 q v → PathIn ws p → Chosen ws ws n v p Branch.Both
-  two-ways is v p (truthRow {f = g} l u) h =
-      let a = both-allowed (p .condition) g (decision-is q ws room Both is g p u l h) in
-      both refl refl (a .0) (a .1) λ e f. tree-is n q ws room Both is g p u l h e f
+  two-ways : (n : ℕ) → D ≡ Both → (v : Symbolic) (p : Path) → Means ws 1 q v → PathIn ws p → Chosen ws ws n v p Branch.Both
+  two-ways n is v p (truthRow {f = g} l u) h =
+      let a = both-allowed (p .condition) g (decision-is is u l h) in
+      both refl refl (a .0) (a .1) λ e f. tree-is n is u l h e f
 
-  pub chooses-both : (t : ℕ) → t ≡ 1 → Both ≡ decided ws (conditionIn ws) q → Chooses n t q ws Branch.Both ws
-  chooses-both t x is = record { ruled = ruled-refl ws; chosen = λ v p m h. two-ways is v p (rw x at m) h }
+  pub chooses-both : (n t : ℕ) → t ≡ 1 → D ≡ Both → Chooses n t q ws Branch.Both xs
+  chooses-both n t x is = rw (d .both is) (record { ruled = ruled-refl ws; chosen = λ v p m h. two-ways n is v p (rw x at m) h })
 
-  only-true : OnlyTrue ≡ decided ws (conditionIn ws) q → (v : Symbolic) (p : Path) → Means ws 1 q v → PathIn ws p → Chosen ws (assumed ws 5 q) n v p First
-  only-true is v p (truthRow {f = g} l u) h =
-      let a = true-allowed (p .condition) g (decision-is q ws room OnlyTrue is g p u l h) in
-      first (assumed-with room (truthRow l u) a h) λ e f. tree-is n q ws room OnlyTrue is g p u l h e f
+  -- a workspace with room for a row, as before
+  pub decided-space : Space xs 1
+  decided-space = room-space (learnt-room room learns)
 
-  pub chooses-true : (t : ℕ) → t ≡ 1 → OnlyTrue ≡ decided ws (conditionIn ws) q → Chooses n t q ws First (assumed ws 5 q)
-  chooses-true t x is = record { ruled = assumed-ruled room 5 q; chosen = λ v p m h. only-true is v p (rw x at m) h }
+  pub decided-lent : spaceSize ≤ length xs
+  decided-lent = learnt-room room learns .lent
 
-  only-false : OnlyFalse ≡ decided ws (conditionIn ws) q → (v : Symbolic) (p : Path) → Means ws 1 q v → PathIn ws p → Chosen ws (assumed ws 7 q) n v p Second
-  only-false is v p (truthRow {f = g} l u) h =
-      let a = false-allowed (p .condition) g (h .allowed) (decision-is q ws room OnlyFalse is g p u l h) in
-      second (assumed-without room (truthRow l u) a h) λ e f. tree-is n q ws room OnlyFalse is g p u l h e f
+  -- what is known then is the condition's with the guard, or without it
+  only-true : (n : ℕ) → D ≡ OnlyTrue → (v : Symbolic) (p : Path) → Means ws 1 q v → PathIn ws p → Chosen ws (assumed xs 5 q) n v p First
+  only-true n is v p (truthRow {f = g} l u) h =
+      let a = true-allowed (p .condition) g (decision-is is u l h) in
+      let k = d .with-guard (p .condition) g (asked room u l h) (h .remembers) is in
+      first (assumed-with room learns (truthRow l u) a k h) λ e f. tree-is n is u l h e f
 
-  pub chooses-false : (t : ℕ) → t ≡ 1 → OnlyFalse ≡ decided ws (conditionIn ws) q → Chooses n t q ws Second (assumed ws 7 q)
-  chooses-false t x is = record { ruled = assumed-ruled room 7 q; chosen = λ v p m h. only-false is v p (rw x at m) h }
+  pub chooses-true : (n t : ℕ) → t ≡ 1 → D ≡ OnlyTrue → Chooses n t q ws First (assumed xs 5 q)
+  chooses-true n t x is = record { ruled = assumed-ruled room learns 5 q; chosen = λ v p m h. only-true n is v p (rw x at m) h }
+
+  only-false : (n : ℕ) → D ≡ OnlyFalse → (v : Symbolic) (p : Path) → Means ws 1 q v → PathIn ws p → Chosen ws (assumed xs 7 q) n v p Second
+  only-false n is v p (truthRow {f = g} l u) h =
+      let a = false-allowed (p .condition) g (h .allowed) (decision-is is u l h) in
+      let k = d .without-guard (p .condition) g (asked room u l h) (h .remembers) is in
+      second (assumed-without room learns (truthRow l u) a k h) λ e f. tree-is n is u l h e f
+
+  pub chooses-false : (n t : ℕ) → t ≡ 1 → D ≡ OnlyFalse → Chooses n t q ws Second (assumed xs 7 q)
+  chooses-false n t x is = record { ruled = assumed-ruled room learns 7 q; chosen = λ v p m h. only-false n is v p (rw x at m) h }
 
 -- ---- as the code has it
 
@@ -154,7 +178,13 @@ pub chooses-as : {n t q : ℕ} {ws left xs : List ℕ} {r : Branch} → left ≡
 chooses-as e k = rw e k
 
 -- what the decision asks
-pub decide-needs : (ws : List ℕ) (t q : ℕ) → t ≡ 1 → Decidable ws t q → (724 ≤ length ws) × ((conditionIn ws < rowLimit) × (q < rowLimit))
+pub decide-needs : (ws : List ℕ) (t q : ℕ) → t ≡ 1 → Decidable ws t q → DecidableRows ws knownAt (conditionIn ws) q
 decide-needs ws t q e d =
     let m = below-row (rw e at (d .valued .means)) in
-    (omega (arith, d .room .lent), (omega (arith, d .holds .inside, d .room .rows), omega (arith, m, d .room .rows)))
+    record {
+      behind = omega arith;
+      lent = omega (arith, d .room .lent);
+      sound = remembers-sound (omega (arith, d .room .rows)) (d .holds .remembers);
+      low = omega (arith, d .holds .inside, d .room .rows);
+      high = omega (arith, m, d .room .rows);
+    }

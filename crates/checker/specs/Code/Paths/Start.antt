@@ -5,5 +5,5 @@ use lib.ListN.{replicate, length-replicate}
 use Rattle.script.specs.Rows.Laws.{same-anywhere}
 use Rattle.checker.specs.Code.Paths.{Blank}
 
-pub blank : Blank (replicate {A = ℕ} 1371 0)
-blank = record { lent = let e = length-replicate {A = ℕ} 1371 0 in omega arith; zeros = λ k. same-anywhere 1371 0 k }
+pub blank : Blank (replicate {A = ℕ} 1415 0)
+blank = record { lent = let e = length-replicate {A = ℕ} 1415 0 in omega arith; zeros = λ k. same-anywhere 1415 0 k }

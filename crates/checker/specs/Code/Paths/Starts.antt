@@ -15,8 +15,8 @@ use Rattle.terms.specs.Terms.Laws.{pushed-length, pushed-count, pushed-above, m
 use Rattle.checker.specs.Code.Notes.{noteAt, Bare}
 use Rattle.checker.specs.Code.Paths.{Fresh, Blank, Starting}
 use Rattle.checker.specs.Code.Rules.{Started}
-use Rattle.checker.specs.Code.State.{spaceSize, typesOn, Means, Variables, noVariable, oneMore, noWrite, PathIn, Room}
-use Rattle.checker.specs.Code.State.Laws.{types-length, variables-kept, means-at, path-kept, path-rewound, distinct-same, same-grown}
+use Rattle.checker.specs.Code.State.{knownAt, spaceSize, typesOn, Means, Variables, noVariable, oneMore, noWrite, PathIn, Room}
+use Rattle.checker.specs.Code.State.Laws.{nothing-known, still-known, types-length, variables-kept, means-at, path-kept, path-rewound, distinct-same, same-grown}
 
 -- one variable more is one symbol more
 symbols-last : (s : ℕ) (ts : List ℕ) (t : ℕ) → symbols s (ts ++ (t ∷ [])) ≡ symbols s ts ++ (symbol t (s + length ts) ∷ [])
@@ -75,6 +75,7 @@ module _ {ws : List ℕ} (b : Blank ws) where
           allowed = true-satisfiable;
           log = rw (first-beyond 726 (omega arith), first-beyond 727 (omega arith)) noWrite;
           distinct = m .distinct;
+          remembers = nothing-known (first-beyond knownAt (omega arith));
         };
         variables = noVariable;
       })
@@ -183,7 +184,8 @@ module _ {types ws : List ℕ} {depth : ℕ} (l : depth ≤ symbolLimit) (s : St
   counted-path : PathIn counted (start depth)
   counted-path =
       path-rewound (counted-grown .rows) (λ k h i. absurd (omega (arith, h, i, s .writes))) (counted-before 288 (omega arith)) (counted-before 724 (omega arith))
-      (counted-before 725 (omega arith)) (counted-before 726 (omega arith)) (counted-before 727 (omega arith)) (s .path)
+      (counted-before 725 (omega arith)) (counted-before 726 (omega arith)) (counted-before 727 (omega arith))
+      (still-known (λ k h. counted-other k (λ e. omega arith) (λ e. omega arith)) counted-grown (s .path .remembers)) (s .path)
 
   counted-bare : Bare depth counted
   counted-bare =

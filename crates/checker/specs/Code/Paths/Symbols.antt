@@ -18,7 +18,7 @@ use Rattle.terms.specs.Terms.Laws.{grown-trans, added-refl, still-distinct, pus
 use Rattle.checker.specs.Code.Paths.{Fresh}
 use Rattle.checker.specs.Code.Rules.{Ruled}
 use Rattle.checker.specs.Code.State.{nextIn, Means, wordRow, truthRow, otherSymbol, PathIn, Room}
-use Rattle.checker.specs.Code.State.Laws.{path-moved, log-kept, path-added}
+use Rattle.checker.specs.Code.State.Laws.{still-known, path-moved, log-kept, path-added}
 
 -- ---- an atom that is found or made adds at most one row
 
@@ -77,7 +77,8 @@ module _ (ws : List ℕ) (room : Room ws 1) where
   numbered-path : (p : Path) → PathIn ws p → PathIn numbered (taken p)
   numbered-path p h =
       path-moved numbered-grown (numbered-distinct (h .distinct)) (numbered-other 725 λ e. omega arith) (numbered-next ∙ rw (h .next))
-      (rw (numbered-other 726 λ e. omega arith, numbered-other 727 λ e. omega arith) (log-kept (λ j i _. numbered-other j λ e. omega arith) numbered-grown (h .log))) h
+      (rw (numbered-other 726 λ e. omega arith, numbered-other 727 λ e. omega arith) (log-kept (λ j i _. numbered-other j λ e. omega arith) numbered-grown (h .log)))
+      (still-known (λ j i. numbered-other j λ e. omega arith) numbered-grown (h .remembers)) h
 
   -- at most one row more
   module _ {left : List ℕ} (same : length left ≡ length numbered) (a : Added numbered left 1) where

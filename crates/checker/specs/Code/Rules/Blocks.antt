@@ -34,6 +34,7 @@ module _ {limit : ℕ} {table ws : List ℕ} {depth a : ℕ} (q : Checkable tabl
         same = refl;
         before = λ i l. refl;
         between = λ i l h. refl;
+        beyond = λ i l. refl;
         kept = n .kept;
       }
 
@@ -52,6 +53,7 @@ module _ {limit : ℕ} {table ws : List ℕ} {depth a : ℕ} (q : Checkable tabl
           same = j .aside .same;
           before = j .aside .before;
           between = λ k l h. j .aside .beyond k l;
+          beyond = λ k l. j .aside .beyond k (omega arith);
           kept = judged-kept;
         }
 
@@ -68,5 +70,6 @@ module _ {limit : ℕ} {table ws : List ℕ} {depth a : ℕ} (q : Checkable tabl
           same = o .same ∙ b .same;
           before = λ k l. o .before k (omega arith) ∙ b .before k l;
           between = λ k l h. o .before k h ∙ b .between k l h;
+          beyond = λ k l. o .beyond k l ∙ b .beyond k l;
           kept = o .kept limit (omega (arith, n .based, base)) (rw types (sym (b .answer))) judged-kept;
         }

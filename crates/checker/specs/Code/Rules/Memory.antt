@@ -22,7 +22,7 @@ use Rattle.checker.specs.Code.Paths.Conditions.{ruled-refl}
 use Rattle.checker.specs.Code.Paths.Symbols.{fresh-reference}
 use Rattle.checker.specs.Code.Rules.{oneExec, twoExec, Ruled, One, Two, After}
 use Rattle.checker.specs.Code.State.{nextIn, writesIn, startIn, depthIn, Means, wordRow, truthRow, madeSymbol, otherSymbol, noWrite, PathIn, Room, Went, Unnoted, Yields, ending, stopping}
-use Rattle.checker.specs.Code.State.Laws.{path-moved, means-type, means-kept, went-trans, room-on, unnoted-trans}
+use Rattle.checker.specs.Code.State.Laws.{still-known, path-moved, means-type, means-kept, went-trans, room-on, unnoted-trans}
 use Rattle.checker.specs.declared.log.Found.{Found}
 use Rattle.checker.specs.declared.log.Found.the-variants.{Value, Nothing}
 use Rattle.checker.specs.declared.operators.Step.the-variants.{Gave, Stopped}
@@ -100,7 +100,7 @@ module _ (n t q : ℕ) {ws : List ℕ} where
     fresh : Fresh (t + 2) ws (2 * nextIn ws) numbered
     fresh = fresh-reference ws x (t + 2) (λ e. omega arith) (λ e. omega arith)
 
-    pub ref-lent : 1371 ≤ length numbered
+    pub ref-lent : 1415 ≤ length numbered
     ref-lent = omega (arith, length-set ws 724 (nextIn ws + 1), x .lent)
 
     pub ref-few : writesIn numbered < 128
@@ -258,7 +258,8 @@ module _ (n t : ℕ) {ws : List ℕ} {b : Bool} (e : b ≡ consistentOn ws (star
     emptied-path h =
         let k = emptied-other 288 (λ e. omega arith) in
         path-moved emptied-grown (still-distinct emptied-grown (omega (arith, k)) (h .distinct)) (emptied-other 725 (λ e. omega arith))
-        (emptied-other 724 (λ e. omega arith) ∙ h .next) (rw (emptied-writes, emptied-start) noWrite) h
+        (emptied-other 724 (λ e. omega arith) ∙ h .next) (rw (emptied-writes, emptied-start) noWrite)
+        (still-known (λ j l. emptied-other j λ e. omega arith) emptied-grown (h .remembers)) h
 
     emptied-went : Went ws emptied 144 0
     emptied-went =

@@ -10,10 +10,11 @@ use lib.Dec.{eqb}
 use lib.ListN.{length, getD, getElem?, length-append}
 use borrow.Author.Tests.{eqb-true, eqb-false}
 use Rattle.rules.specs.Paths.{Path, Write}
-use Rattle.rules.specs.Symbolic.{Symbolic, typeOf}
+use Rattle.rules.specs.Symbolic.{Formula, Symbolic, typeOf}
 use Rattle.terms.specs.Terms.{countIn, Space, Grown, Distinct, Added}
 use Rattle.terms.specs.Terms.Laws.{grown-refl, grown-trans, sum-kept, truth-kept, still-distinct}
-use Rattle.checker.specs.Code.State.{nextIn, conditionIn, writesIn, startIn, typesOn, Means, wordRow, truthRow, madeSymbol, otherSymbol, Variables, noVariable, oneMore, Log, noWrite, aWrite, PathIn, Room, Went, Unnoted}
+use Rattle.decision.specs.Known.{Remembers, remembers-kept}
+use Rattle.checker.specs.Code.State.{nextIn, conditionIn, writesIn, startIn, knownAt, typesOn, Means, wordRow, truthRow, madeSymbol, otherSymbol, Variables, noVariable, oneMore, Log, noWrite, aWrite, PathIn, Room, Went, Unnoted}
 
 -- ---- values
 
@@ -113,7 +114,7 @@ variables-at {ws} k l (oneMore {d = d} {env = env} {v = v} vs m) = go (below-or-
         record { value = a .value; found = snoc-before env v k (omega arith) ∙ a .found; means = a .means }
     go (inr e) f = record { value = v; found = snoc-at env v k (variables-length vs ∙ sym e); means = rw e m }
 
--- ---- the path
+-- ---- the log
 
 pub log-kept : {ws left : List ℕ} {begin k : ℕ} {l : List Write} → ((j : ℕ) → 729 ≤ j → j < 729 + 4 * k → getD left j 0 ≡ getD ws j 0) → Grown ws left
     → Log ws begin k l → Log left begin k l
@@ -127,10 +128,22 @@ pub log-from : {ws : List ℕ} {begin k : ℕ} {l : List Write} → Log ws begin
 log-from noWrite = omega arith
 log-from (aWrite r m n) = let h = log-from r in omega arith
 
--- the condition is where it was; next symbol and log are as said
+-- ---- what is known of the condition
+
+pub nothing-known : {ws : List ℕ} {f : Formula} → getD ws knownAt 0 ≡ 0 → Remembers ws knownAt f
+nothing-known z = record { known = λ e. absurd (omega arith) }
+
+pub still-known : {ws left : List ℕ} {f : Formula} → ((j : ℕ) → knownAt ≤ j → getD left j 0 ≡ getD ws j 0) → Grown ws left → Remembers ws knownAt f
+    → Remembers left knownAt f
+still-known b g m = remembers-kept g (λ k l _. b k l) m
+
+-- ---- the path
+
+-- the condition is where it was; next symbol, log and what is known are as said
 pub path-moved : {ws left : List ℕ} {p : Path} {n : ℕ} {l : List Write} → Grown ws left → Distinct left → conditionIn left ≡ conditionIn ws → nextIn left ≡ n
-    → Log left (startIn left) (writesIn left) l → PathIn ws p → PathIn left (record { next = n; condition = p .condition; log = l })
-path-moved g d c n l h =
+    → Log left (startIn left) (writesIn left) l → Remembers left knownAt (p .condition) → PathIn ws p
+    → PathIn left (record { next = n; condition = p .condition; log = l })
+path-moved g d c n l m h =
     record {
       next = n;
       inside = omega (arith, c, h .inside, g .grows);
@@ -138,13 +151,15 @@ path-moved g d c n l h =
       allowed = h .allowed;
       log = l;
       distinct = d;
+      remembers = m;
     }
 
 -- every place behind the rows is as before
 pub path-kept : {ws left : List ℕ} {p : Path} → ((j : ℕ) → 724 ≤ j → getD left j 0 ≡ getD ws j 0) → Grown ws left → Distinct left → PathIn ws p → PathIn left p
 path-kept b g d h =
     path-moved g d (b 725 (omega arith)) (b 724 (omega arith) ∙ h .next)
-    (rw (b 726 (omega arith), b 727 (omega arith)) (log-kept (λ j i _. b j (omega arith)) g (h .log))) h
+    (rw (b 726 (omega arith), b 727 (omega arith)) (log-kept (λ j i _. b j (omega arith)) g (h .log)))
+    (still-known (λ j i. b j (omega arith)) g (h .remembers)) h
 
 pub path-added : {ws left : List ℕ} {m : ℕ} {p : Path} → Added ws left m → Distinct left → PathIn ws p → PathIn left p
 path-added a d h = path-kept (a .beyond) (a .grown) d h
@@ -156,13 +171,14 @@ same-grown b = let e = b 288 (omega arith) in record { grows = omega arith; rows
 pub distinct-same : {ws left : List ℕ} → ((j : ℕ) → 288 ≤ j → getD left j 0 ≡ getD ws j 0) → Distinct ws → Distinct left
 distinct-same b d = let e = b 288 (omega arith) in still-distinct (same-grown b) (omega arith) d
 
--- back at the rows, the log and the numbers of a path
+-- back at the rows, the log and the numbers of a path; what is known is as said
 pub path-rewound : {xs ws : List ℕ} {p : Path} → ((k : ℕ) → 289 ≤ k → k < 289 + 3 * countIn xs → getD ws k 0 ≡ getD xs k 0)
     → ((k : ℕ) → 729 ≤ k → k < 729 + 4 * writesIn xs → getD ws k 0 ≡ getD xs k 0) → countIn ws ≡ countIn xs → nextIn ws ≡ nextIn xs
-    → conditionIn ws ≡ conditionIn xs → writesIn ws ≡ writesIn xs → startIn ws ≡ startIn xs → PathIn xs p → PathIn ws p
-path-rewound {xs} {ws} b l count next condition writes start h =
+    → conditionIn ws ≡ conditionIn xs → writesIn ws ≡ writesIn xs → startIn ws ≡ startIn xs → Remembers ws knownAt (p .condition) → PathIn xs p
+    → PathIn ws p
+path-rewound {xs} {ws} b l count next condition writes start m h =
     path-moved grown (still-distinct grown (omega (arith, count)) (h .distinct)) condition (next ∙ h .next)
-    (rw (writes, start) (log-kept l grown (h .log))) h
+    (rw (writes, start) (log-kept l grown (h .log))) m h
   where
     grown : Grown xs ws
     grown = record { grows = omega (arith, count); rows = b }

@@ -1,10 +1,10 @@
--- `decision::operand` meets its contract: a row below has its word. Assumes nothing.
+-- `decision::rows::operand` meets its contract: a row below has its word. Assumes nothing.
 use borrow.Author.Needs.{needs}
 use mathlib.Core.Path.{sym}
 use lib.Seq.{getD-take}
 use Rattle.decision.specs.Code.Laws.{operand-out}
-use Rattle.decision.proofs.operand.Statement.{statement}
-use Rattle.decision.proofs.operand.Tie as tie
+use Rattle.decision.proofs.rows.operand.Statement.{statement}
+use Rattle.decision.proofs.rows.operand.Tie as tie
 
 returns : tie.Need-returns
 returns c =

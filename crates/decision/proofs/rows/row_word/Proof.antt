@@ -1,9 +1,9 @@
--- `decision::row_word` meets its contract: by its tests. Assumes nothing.
+-- `decision::rows::row_word` meets its contract: by its tests. Assumes nothing.
 use borrow.Author.Needs.{needs}
 use borrow.Author.Tests.{eq-eqb, ne-eqb, le-leb, lt-leb}
 use Rattle.decision.specs.Code.{rowWord}
-use Rattle.decision.proofs.row_word.Statement.{statement}
-use Rattle.decision.proofs.row_word.Tie as tie
+use Rattle.decision.proofs.rows.row_word.Statement.{statement}
+use Rattle.decision.proofs.rows.row_word.Tie as tie
 
 returns : tie.Need-returns
 unfolding rowWord

@@ -1,11 +1,11 @@
--- `decision::pattern` meets its contract: by cases. Assumes nothing.
+-- `decision::rows::pattern` meets its contract: by cases. Assumes nothing.
 use borrow.Author.Needs.{needs}
 use mathlib.Core.Path.{sym, _∙_}
 use native.Mathlib.Omega.{arith}
 use Rattle.decision.specs.Code.{patternOf}
 use Rattle.decision.specs.Code.Laws.{past, pattern-many}
-use Rattle.decision.proofs.pattern.Statement.{statement}
-use Rattle.decision.proofs.pattern.Tie as tie
+use Rattle.decision.proofs.rows.pattern.Statement.{statement}
+use Rattle.decision.proofs.rows.pattern.Tie as tie
 
 returns : tie.Need-returns
 unfolding patternOf

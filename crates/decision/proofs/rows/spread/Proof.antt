@@ -1,8 +1,8 @@
--- `decision::spread` meets its contract: by the test. Assumes nothing.
+-- `decision::rows::spread` meets its contract: by the test. Assumes nothing.
 use borrow.Author.Tests.{eq-eqb, ne-eqb}
 use Rattle.decision.specs.Code.{spreadOf}
-use Rattle.decision.proofs.spread.Statement.{statement}
-use Rattle.decision.proofs.spread.Tie as tie
+use Rattle.decision.proofs.rows.spread.Statement.{statement}
+use Rattle.decision.proofs.rows.spread.Tie as tie
 
 returns : tie.Need-returns
 unfolding spreadOf

@@ -1,0 +1,121 @@
+-- `decision::decide_anew` meets its contract: the parts, one after the other. Assumes nothing.
+use mathlib.Core.Path.{_≡_, refl, sym, _∙_}
+use borrow.Author.Needs.{needs}
+use native.Mathlib.Omega.{arith}
+use Rattle.decision.specs.Code.{Room, decidedAnew, left-same, left-none}
+use Rattle.decision.specs.Code.Whole.{Prepared, room-start, room-marked, room-guard, decided-many, decided-alone, decided-both, keepable, left-with}
+use Rattle.decision.specs.Known.{blocks-most}
+use Rattle.decision.proofs.decide_anew.Statement.{statement}
+use Rattle.decision.proofs.decide_anew.Tie as tie
+
+-- the room for what is marked
+room : (c : tie.After-mark-all) → Room (c .before .before .before .before .before .args .space .now) (c .before .before .before .above .result) (c .mark-all .last .1 .1 .0)
+room c =
+    let a = c .before .before .before .before .before .args in
+    let p = c .before .before .before .before .before .pre in
+    room-marked _ (room-start (a .space .now) (a .condition) (a .guard) (c .before .before .before .above .result) (c .before .before .before .above .ensures) (omega (arith, p .behind, p .lent)) (p .low) (p .high)) (c .mark-all .ensures .1)
+
+-- what the parts give
+parts : (c : tie.After-mark-all) → Prepared (c .before .before .before .before .before .args .space .now) (c .before .before .before .before .before .args .condition) (c .before .before .before .before .before .args .guard) (c .before .before .before .above .result) (c .mark-all .last .1 .1 .0) (c .mark-all .result)
+parts c = record { up = c .before .before .before .above .ensures; marks = c .mark-all .ensures .1; counts = c .mark-all .ensures .0 }
+
+above-requires : tie.Need-above-requires
+above-requires c κs = (c .before .pre .low, c .before .pre .high)
+
+mark-all-requires : tie.Need-mark-all-requires
+mark-all-requires c κs =
+    let a = c .before .before .before .before .args in
+    let p = c .before .before .before .before .pre in
+    room-start (a .space .now) (a .condition) (a .guard) (c .before .before .above .result) (c .before .before .above .ensures) (omega (arith, p .behind, p .lent)) (p .low) (p .high)
+
+returns : tie.Need-returns
+returns c = let a = c .before .before .before .before .before .before .before .before .args in (decided-many (a .space .now) (a .condition) (a .guard) (parts (c .before .before .before)) (c .if1 .taken), left-same refl refl)
+
+search-requires : tie.Need-search-requires
+search-requires c κs =
+    let a = c .before .before .before .before .before .before .before .before .before .before .before .before .before .before .args in
+    let p = c .before .before .before .before .before .before .before .before .before .before .before .before .before .before .pre in (
+      record {
+        low = p .high;
+        high = p .high;
+        room = room-guard (a .condition) (a .guard) (room (c .before .before .before .before .before .before .before .before .before)) (c .before .before .before .before .before .before .before .before .before .before .before .before .above .ensures);
+        few = rw (c .before .blocks-of .ensures) (blocks-most _);
+      },
+      omega arith,
+    )
+
+-- the guard alone
+alone : (c : tie.After-search) → c .search .result ≡ decidedAnew (c .before .before .before .before .before .before .before .before .before .before .before .before .before .before .before .args .space .now) (c .before .before .before .before .before .before .before .before .before .before .before .before .before .before .before .args .condition) (c .before .before .before .before .before .before .before .before .before .before .before .before .before .before .before .args .guard)
+alone c =
+    let a = c .before .before .before .before .before .before .before .before .before .before .before .before .before .before .before .args in
+    decided-alone (a .space .now) (a .condition) (a .guard) (parts (c .before .before .before .before .before .before .before .before .before .before)) (c .before .before .blocks-of .result) (c .search .result) (c .before .before .before .before .before .before .before .if1 .left) (c .before .before .before .before .before .if2 .taken) (c .before .before .blocks-of .ensures) (c .search .ensures .is)
+
+slice-write-space : tie.Need-slice-write-space
+slice-write-space c = omega (arith, c .before .before .before .before .before .before .before .before .before .before .before .before .before .before .before .before .before .before .pre .lent)
+
+returns-2 : tie.Need-returns-2
+returns-2 c = (alone (c .before .before .before), left-none (sym (c .before .only-one .ensures) ∙ c .if3 .taken) refl)
+
+returns-3 : tie.Need-returns-3
+returns-3 c = (alone (c .before .before .before), left-same (sym (c .before .only-one .ensures) ∙ c .if3 .left) refl)
+
+search-requires-2 : tie.Need-search-requires-2
+search-requires-2 c κs =
+    let p = c .before .before .before .before .before .before .before .before .before .before .before .before .before .before .pre in
+    (record { low = p .low; high = p .high; room = rw (c .before .before .before .before .before .before .before .before .before .before .before .before .above .ensures) at (room (c .before .before .before .before .before .before .before .before .before)); few = rw (c .before .before .before .blocks-of2 .ensures) (blocks-most _) }, omega arith)
+
+-- the two together
+together : (c : tie.After-search2) → c .search2 .result ≡ decidedAnew (c .before .before .before .before .before .before .before .before .before .before .before .before .before .before .before .args .space .now) (c .before .before .before .before .before .before .before .before .before .before .before .before .before .before .before .args .condition) (c .before .before .before .before .before .before .before .before .before .before .before .before .before .before .before .args .guard)
+together c =
+    let a = c .before .before .before .before .before .before .before .before .before .before .before .before .before .before .before .args in
+    decided-both (a .space .now) (a .condition) (a .guard) (parts (c .before .before .before .before .before .before .before .before .before .before)) (c .before .before .before .before .blocks-of2 .result) (c .search2 .result) (c .before .before .before .before .before .before .before .if1 .left) (c .before .before .before .before .before .if2 .left) (c .before .before .before .before .blocks-of2 .ensures) (c .search2 .ensures .is)
+
+keep-requires : tie.Need-keep-requires
+keep-requires c κs =
+    let a = c .before .before .before .before .before .before .before .before .before .before .before .before .before .before .before .before .before .before .before .before .before .args in
+    let p = c .before .before .before .before .before .before .before .before .before .before .before .before .before .before .before .before .before .before .before .before .before .pre in
+    (keepable (a .space .now) (a .condition) (a .guard) (parts (c .before .before .before .before .before .before .before .before .before .before .before .before .before .before .before .before)) (a .at) (p .behind) (p .lent) (p .low) (p .high) (c .before .before .before .before .before .before .before .before .before .before .before .before .before .if1 .left), (rw (c .before .before .before .before .before .before .before .before .before .before .blocks-of2 .ensures) (blocks-most _), omega (arith, c .before .before .before .before .before .before .search2 .ensures .same)))
+
+returns-4 : tie.Need-returns-4
+returns-4 c =
+    let a = c .before .before .before .before .before .before .before .before .before .before .before .before .before .before .before .before .before .before .before .before .before .before .before .before .args in
+    (together (c .before .before .before .before .before .before .before .before .before), left-with (a .space .now) (a .condition) (a .guard) (parts (c .before .before .before .before .before .before .before .before .before .before .before .before .before .before .before .before .before .before .before)) (c .before .before .before .before .before .before .before .before .before .before .before .before .before .before .before .before .if1 .left) (c .before .before .before .before .before .before .before .before .before .before .before .before .before .blocks-of2 .ensures) (c .before .before .before .before .before .before .before .before .before .search2 .ensures) (sym (c .before .before .before .before .before .before .before .only-one2 .ensures) ∙ c .before .before .before .before .before .before .if4 .taken) (c .before .before .keep .ensures))
+
+returns-5 : tie.Need-returns-5
+returns-5 c = (together (c .before .before .before), left-same (sym (c .before .only-one2 .ensures) ∙ c .if4 .left) refl)
+
+pub decide-anew-spec : {M : Type 1} → statement M
+decide-anew-spec =
+    tie.close
+    (tie.spec
+    above-requires
+    (λ c. search needs)
+    (λ c. search needs)
+    (λ c. search needs)
+    (λ c. search needs)
+    mark-all-requires
+    (λ c. search needs)
+    returns
+    (λ c. search needs)
+    (λ c κs. search needs)
+    (λ c. search needs)
+    search-requires
+    (λ c κs. search needs)
+    (λ c. search needs)
+    slice-write-space
+    (λ c. search needs)
+    returns-2
+    (λ c. search needs)
+    returns-3
+    (λ c κs. search needs)
+    (λ c. search needs)
+    (λ c. search needs)
+    search-requires-2
+    (λ c κs. search needs)
+    (λ c. search needs)
+    (λ c. search needs)
+    keep-requires
+    (λ c. search needs)
+    returns-4
+    (λ c. search needs)
+    returns-5)
