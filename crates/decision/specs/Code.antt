@@ -6,6 +6,7 @@ pub mod Leaves
 pub mod Loops
 pub mod Ordered
 pub mod Searching
+pub mod Steady
 pub mod Whole
 use mathlib.Core.Bool.{Bool, true, false, not}
 use mathlib.Core.List.{List, [], _∷_, _++_}
@@ -195,6 +196,23 @@ evaluateRow ws ns block vs i =
 unfoldable pub evaluatedTo : List ℕ → List ℕ → List ℕ → ℕ → List ℕ → ℕ → List ℕ
 evaluatedTo ws os ns block vs zero = vs
 evaluatedTo ws os ns block vs (suc j) = evaluateRow ws ns block (evaluatedTo ws os ns block vs j) (getD os j 0)
+
+-- ---- the rows whose words may differ from block to block
+
+-- by what is said of the operands; m is the row's number, if it is an atom
+unfoldable pub changeOf : Row → ℕ → ℕ → ℕ → ℕ
+changeOf r m x y = pick (ltb (r .op) 8) (bitOr x y) (pick (ltb m 6) 0 1)
+
+unfoldable pub changeRow : List ℕ → List ℕ → List ℕ → ℕ → List ℕ
+changeRow ws ns hs i =
+    set hs i (changeOf (rowIn ws i) (getD ns i 0) (getD (take i hs) (rowIn ws i .a) 0) (getD (take i hs) (rowIn ws i .b) 0))
+
+unfoldable pub changedTo : List ℕ → List ℕ → List ℕ → List ℕ → ℕ → List ℕ
+changedTo ws os ns hs zero = hs
+changedTo ws os ns hs (suc j) = changeRow ws ns (changedTo ws os ns hs j) (getD os j 0)
+
+unfoldable pub changesOf : List ℕ → List ℕ → List ℕ → ℕ → List ℕ
+changesOf ws os ns count = changedTo ws os ns (replicate rowLimit 0) count
 
 -- ---- the blocks
 

@@ -11,6 +11,7 @@ use crate::blocks_of;
 use crate::both_found;
 use crate::branches_of;
 use crate::mark_all;
+use crate::rows::begin;
 use crate::rows::evaluate;
 use crate::rows::list_rows;
 use terms::ROWS;
@@ -170,13 +171,23 @@ pub fn compare(
     ensures { λ r. ⌜ r ≡ compared (now (space .entry)) at (now (numbers .entry)) guard ⌝ }
 {
     let mut words = [0u64; ROWS];
+    let mut later = [0u8; ROWS];
+    let more = begin(
+        space,
+        order,
+        count,
+        numbers,
+        guard + 1,
+        &mut words,
+        &mut later,
+    );
     let blocks = blocks_of(space[at + COUNT]);
     let mut yes: u64 = 0;
     let mut no: u64 = 0;
     let mut block = 0;
     while block < blocks {
         let c = known_word(space, at, block);
-        let g = guarded_word(space, order, count, numbers, block, &mut words, guard, c);
+        let g = guarded_word(space, &later, more, numbers, block, &mut words, guard, c);
         yes = yes | (c & g);
         no = no | (c & !g);
         if both_found(yes, no) {

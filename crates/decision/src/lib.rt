@@ -18,6 +18,7 @@ use crate::known::keep;
 use crate::known::list_guard;
 use crate::known::number_known;
 use crate::rows::all_numbered;
+use crate::rows::begin;
 use crate::rows::evaluate;
 use crate::rows::list_rows;
 use crate::rows::number_atoms;
@@ -253,13 +254,15 @@ fn search(
     let mut words = [0u64; ROWS];
     let mut order = [0u8; ROWS];
     let mut numbers = [NONE; ROWS];
+    let mut later = [0u8; ROWS];
     let count = list_rows(marks, n, least, &mut order);
     number_atoms(space, &order, count, &mut numbers);
+    let more = begin(space, &order, count, &numbers, n, &mut words, &mut later);
     let mut yes: u64 = 0;
     let mut no: u64 = 0;
     let mut block = 0;
     while block < blocks {
-        evaluate(space, &order, count, &numbers, block, &mut words);
+        evaluate(space, &later, more, &numbers, block, &mut words);
         let c = condition_word(&words, condition, least);
         let g = words[guard];
         truths[block as usize] = c;

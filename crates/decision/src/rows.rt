@@ -3,7 +3,7 @@ ghost use mathlib.Core.Path.{_≡_};
 ghost use Prim.Native.Nat.{_+_, _≤_, _<_};
 ghost use lib.ListN.{length, getD, take};
 ghost use Rattle.terms.specs.Terms.{rowLimit, rowsEnd};
-ghost use Rattle.decision.specs.Code.{Listable, listedRow, countAfter, Lists, Rows, numberRow, seenAt, numbersTo, isNumbered, numberedTo, spreadOf, patternOf, rowWord, evaluateRow, evaluatedTo};
+ghost use Rattle.decision.specs.Code.{Listable, listedRow, countAfter, Lists, Rows, numberRow, seenAt, numbersTo, isNumbered, numberedTo, spreadOf, patternOf, rowWord, evaluateRow, evaluatedTo, changeOf, changeRow, changedTo, changesOf};
 use crate::ATOMS;
 use crate::ONES;
 use terms::CONJUNCTION;
@@ -11,9 +11,13 @@ use terms::CONSTANT;
 use terms::EQUALITY;
 use terms::EXCLUSION;
 use terms::NEGATION;
+use terms::ROWS;
 use terms::Row;
 use terms::TRUTH;
 use terms::row_at;
+
+// The atoms with lower numbers have the same truths in every block.
+const STEADY: u8 = 6;
 
 // Row i comes next, if it has at least the mark. Answers how many rows there are then.
 fn list_row(marks: &[u8], least: u8, order: &mut [u8], i: usize, count: usize) -> usize
@@ -201,4 +205,79 @@ pub fn evaluate(
         evaluate_row(space, numbers, block, words, order[j] as usize);
         j += 1;
     }
+}
+
+// Whether the truths of a row may differ from block to block, where x and y say so of its operands: 0 if they do not. m is its number, if it is an atom.
+fn change_of(row: Row, m: u8, x: u8, y: u8) -> u8
+    ensures { λ r. ⌜ r ≡ changeOf row m x y ⌝ }
+{
+    if row.op < TRUTH {
+        return x | y;
+    }
+    if m < STEADY {
+        return 0;
+    }
+    1
+}
+
+// What is said of an operand of row i, among the rows before.
+fn change_at(changes: &[u8], a: u32, i: usize) -> u8
+    requires { ⌜ i ≤ length (now changes) ⌝ }
+    ensures { λ r. ⌜ r ≡ getD (take i (now (changes .entry))) a 0 ⌝ }
+{
+    let k = a as usize;
+    if k < i {
+        return changes[k];
+    }
+    0
+}
+
+// Whether the truths of row i may differ from block to block.
+fn change_row(space: &[u32], numbers: &[u8], changes: &mut [u8], i: usize)
+    requires { ⌜ (i < rowLimit) × (rowsEnd ≤ length (now space)) ⌝ }
+    requires { ⌜ (i < length (now numbers)) × (i < length (now changes)) ⌝ }
+    ensures { λ _. ⌜ now (changes .exit) ≡ changeRow (now (space .entry)) (now (numbers .entry)) (now (changes .entry)) i ⌝ }
+{
+    let row = row_at(space, i);
+    changes[i] = change_of(
+        row,
+        numbers[i],
+        change_at(changes, row.a, i),
+        change_at(changes, row.b, i),
+    );
+}
+
+// Whether the truths of each row may.
+fn mark_changes(space: &[u32], order: &[u8], count: usize, numbers: &[u8], changes: &mut [u8])
+    requires { ⌜ Rows (now space) (now order) count ⌝ }
+    requires { ⌜ (rowLimit ≤ length (now numbers)) × (rowLimit ≤ length (now changes)) ⌝ }
+    ensures { λ _. ⌜ now (changes .exit) ≡ changedTo (now (space .entry)) (now (order .entry)) (now (numbers .entry)) (now (changes .entry)) count ⌝ }
+{
+    let mut j = 0;
+    while j < count {
+        change_row(space, numbers, changes, order[j] as usize);
+        j += 1;
+    }
+}
+
+// The truths of the rows under the first block's assignments; and those of the rows below n whose truths may differ in another. Answers how many.
+pub fn begin(
+    space: &[u32],
+    order: &[u8],
+    count: usize,
+    numbers: &[u8],
+    n: usize,
+    words: &mut [u64],
+    later: &mut [u8],
+) -> usize
+    requires { ⌜ Rows (now space) (now order) count ⌝ }
+    requires { ⌜ (rowLimit ≤ length (now numbers)) × (rowLimit ≤ length (now words)) ⌝ }
+    requires { ⌜ (n ≤ rowLimit) × (n ≤ length (now later)) ⌝ }
+    ensures { λ _. ⌜ now (words .exit) ≡ evaluatedTo (now (space .entry)) (now (order .entry)) (now (numbers .entry)) 0 (now (words .entry)) count ⌝ }
+    ensures { λ r. ⌜ Lists (changesOf (now (space .entry)) (now (order .entry)) (now (numbers .entry)) count) n 1 (now (later .entry)) r (now (later .exit)) ⌝ }
+{
+    evaluate(space, order, count, numbers, 0, words);
+    let mut changes = [0u8; ROWS];
+    mark_changes(space, order, count, numbers, &mut changes);
+    list_rows(&changes, n, 1, later)
 }

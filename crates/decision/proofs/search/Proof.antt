@@ -5,17 +5,17 @@ use borrow.Author.Needs.{needs}
 use Prim.Native.Nat.{_-_}
 use native.Mathlib.Omega.{arith}
 use lib.ListN.{length-set}
-use Rattle.decision.specs.Code.{Rows}
+use Rattle.decision.specs.Code.{Rows, changesOf}
 use Rattle.decision.specs.Code.Searching.{rows-listed, order-long, Looking, looking, Prepared, looking-on, looking-both, looking-end}
 use Rattle.decision.proofs.search.Statement.{statement}
 use Rattle.decision.proofs.search.Tie as tie
 
 abbrev Inv-loop : tie.InvT-loop
-Inv-loop space condition guard marks least blocks truths₀ n words₀ order numbers count yes₀ no₀ block₀ truths words yes' no' block =
+Inv-loop space condition guard marks least blocks truths₀ n words₀ numbers later count more yes₀ no₀ block₀ truths words yes' no' block =
     Looking space condition guard marks least blocks truths₀ truths words yes' no' block
 
 abbrev μ-loop : tie.MeasureT-loop
-μ-loop space condition guard marks least blocks truths₀ n words₀ order numbers count yes₀ no₀ block₀ truths words yes' no' block =
+μ-loop space condition guard marks least blocks truths₀ n words₀ numbers later count more yes₀ no₀ block₀ truths words yes' no' block =
     blocks - block
 
 -- the rows are in order
@@ -48,11 +48,23 @@ number-atoms-requires : tie.Need-number-atoms-requires Inv-loop μ-loop
 number-atoms-requires c κs =
     (rows (c .before .before .before), omega arith)
 
+slice-aggregate-begin : tie.Need-slice-aggregate-begin Inv-loop μ-loop
+slice-aggregate-begin c = sym (c .before .before .before .before .before .before .list-rows .ensures .same)
+
+slice-aggregate-begin-2 : tie.Need-slice-aggregate-begin-2 Inv-loop μ-loop
+slice-aggregate-begin-2 c = search needs
+
+begin-requires : tie.Need-begin-requires Inv-loop μ-loop
+begin-requires c κs =
+    let e = c .before .before .before .before .before .before .before .before .before .before .before .above .ensures in
+    let r = c .before .before .before .before .before .before .before .before .before .before .before .before .before .before .before .pre .0 .room in
+    (rows (c .before .before .before .before .before .before .before .before .before), ((omega (arith, c .before .before .before .before .before .number-atoms .kept .1 .1 .1 .0), omega arith), (omega (arith, r .few), omega (arith, r .few))))
+
 loop-holds : tie.Need-loop-holds Inv-loop μ-loop
-loop-holds c = looking (c .before .before .before .before .before .before .before .before .before .before .before .args .truths .now) (c .before .before .before .before .before .before .before .before .before .before .before .pre .0)
+loop-holds c = looking (prepared (c .before .before .before .before .before .before .before .before)) (c .before .before .before .before .before .before .before .before .before .before .before .before .before .before .before .before .before .before .pre .0) (c .before .before .before .before .before .before .before .before .before .before .before .before .before .before .before .before .before .before .args .truths .now) _ (c .before .before .begin .ensures .0)
 
 slice-aggregate-evaluate : tie.Need-slice-aggregate-evaluate Inv-loop μ-loop
-slice-aggregate-evaluate c = sym (c .before .before .before .before .before .before .before .before .list-rows .ensures .same)
+slice-aggregate-evaluate c = sym (c .before .before .before .before .before .begin .ensures .1 .same)
 
 slice-aggregate-evaluate-2 : tie.Need-slice-aggregate-evaluate-2 Inv-loop μ-loop
 slice-aggregate-evaluate-2 c = search needs
@@ -61,37 +73,53 @@ slice-aggregate-evaluate-3 : tie.Need-slice-aggregate-evaluate-3 Inv-loop μ-loo
 slice-aggregate-evaluate-3 c = sym (c .before .before .before .before .loop .inv .whole)
 
 evaluate-requires : tie.Need-evaluate-requires Inv-loop μ-loop
-evaluate-requires c κs = (rows (c .before .before .before .before .before .before .before .before .before .before), (omega (arith, c .before .before .before .before .before .before .number-atoms .kept .1 .1 .1 .0), omega (arith, c .before .before .before .before .loop .inv .whole)))
+evaluate-requires c κs =
+    let a = c .before .before .before .before .before .before .before .before .before .before .before .before .before .before .before .before .before .before .before .before .before .before .before .args in
+    let e = c .before .before .before .before .before .before .before .before .before .before .before .before .before .before .before .before .before .before .before .above .ensures in
+    let r = c .before .before .before .before .before .before .before .before .before .before .before .before .before .before .before .before .before .before .before .before .before .before .before .pre .0 .room in
+    let l = c .before .before .before .before .before .before .before .begin .ensures .1 in
+    let s = changesOf (a .space .now) (c .before .before .before .before .before .before .before .before .before .before .before .before .before .before .before .before .before .list-rows .last .1 .1 .1 .0) (c .before .before .before .before .before .before .before .before .before .before .before .before .before .number-atoms .last .1 .1 .1 .0) (c .before .before .before .before .before .before .before .before .before .before .before .before .before .before .before .before .before .list-rows .result) in
+    let f = order-long s 1 (c .before .before .before .before .before .before .before .before .before .before .before .before .before .before .before .before .before .before .before .above .result) (c .before .before .before .before .before .before .before .begin .result) (c .before .before .before .before .before .before .before .begin .last .1 .1 .1 .1 .1 .1 .0) (omega (arith, r .few)) (l .many) (l .same) in
+    (rows-listed (a .space .now) s 1 (c .before .before .before .before .before .before .before .before .before .before .before .before .before .before .before .before .before .before .before .above .result) (c .before .before .before .before .before .before .before .begin .last .1 .1 .1 .1 .1 .1 .0) (c .before .before .before .before .before .before .before .begin .result) (r .lent) (omega (arith, r .few)) f (l .many) (l .rows), (omega (arith, c .before .before .before .before .before .before .before .before .before .before .before .before .before .number-atoms .kept .1 .1 .1 .0), omega (arith, c .before .before .before .before .loop .inv .whole)))
 
 slice-aggregate-condition-word : tie.Need-slice-aggregate-condition-word Inv-loop μ-loop
 slice-aggregate-condition-word c = search needs
 
 condition-word-requires : tie.Need-condition-word-requires Inv-loop μ-loop
-condition-word-requires c κs = omega (arith, c .before .before .evaluate .kept .1 .1 .1 .1 .1 .0, c .before .before .before .before .before .before .before .loop .inv .whole, c .before .before .before .before .before .before .before .before .before .before .before .before .before .before .before .before .before .before .before .pre .0 .low)
+condition-word-requires c κs = omega (arith, c .before .before .evaluate .kept .1 .1 .1 .1 .1 .0, c .before .before .before .before .before .before .before .loop .inv .whole, c .before .before .before .before .before .before .before .before .before .before .before .before .before .before .before .before .before .before .before .before .before .before .before .before .before .before .pre .0 .low)
+
+mul-g : tie.Need-mul-g Inv-loop μ-loop
+mul-g c = omega (arith, c .before .before .before .before .before .before .before .before .before .before .before .before .before .before .before .before .before .before .before .before .before .before .before .before .before .before .before .pre .0 .high)
 
 array-read-g : tie.Need-array-read-g Inv-loop μ-loop
-array-read-g c = c .before .before .before .before .before .before .before .before .before .before .before .before .before .before .before .before .before .before .before .before .pre .0 .high
+array-read-g c = c .before .before .before .before .before .before .before .before .before .before .before .before .before .before .before .before .before .before .before .before .before .before .before .before .before .before .before .pre .0 .high
+
+cast-truths : tie.Need-cast-truths Inv-loop μ-loop
+cast-truths c = omega (arith, c .before .before .before .before .before .before .before .loop-test .taken, c .before .before .before .before .before .before .before .before .before .before .before .before .before .before .before .before .before .before .before .before .before .before .before .before .before .before .before .pre .0 .few)
+
+mul-truths : tie.Need-mul-truths Inv-loop μ-loop
+mul-truths c = omega (arith, c .before .before .before .before .before .before .before .loop-test .taken, c .before .before .before .before .before .before .before .before .before .before .before .before .before .before .before .before .before .before .before .before .before .before .before .before .before .before .before .pre .0 .few)
 
 slice-write-truths : tie.Need-slice-write-truths Inv-loop μ-loop
-slice-write-truths c = omega (arith, c .before .before .before .before .before .before .before .before .loop .inv .same, c .before .before .before .before .before .before .before .before .before .before .before .before .before .before .before .before .before .before .before .before .pre .1, c .before .before .before .before .before .before .before .before .before .before .before .before .before .before .before .before .before .before .before .before .pre .0 .few)
+slice-write-truths c = omega (arith, c .before .before .before .before .before .before .before .before .loop .inv .same, c .before .before .before .before .before .before .before .before .before .before .before .before .before .before .before .before .before .before .before .before .before .before .before .before .before .before .before .pre .1, c .before .before .before .before .before .before .before .before .before .before .before .before .before .before .before .before .before .before .before .before .before .before .before .before .before .before .before .pre .0 .few)
 
 same-length : tie.Need-same-length Inv-loop μ-loop
 same-length c = length-set (c .before .before .before .before .before .before .before .before .before .before .loop .truths) (c .before .before .before .before .before .before .before .before .before .before .loop .block) (c .before .before .condition-word .result) ∙ c .before .before .before .before .before .before .before .before .before .before .loop .inv .same
 
 returns : tie.Need-returns Inv-loop μ-loop
 returns c =
-    let k = looking-on (prepared (c .before .before .before .before .before .before .before .before .before .before .before .before)) (c .before .before .before .before .before .before .before .before .before .before .loop .inv) (c .before .before .before .before .before .before .before .before .before .before .before .before .before .before .before .before .before .before .before .before .before .before .pre .0 .few) (c .before .before .before .before .before .before .before .before .before .before .before .before .before .before .before .before .before .before .before .before .before .before .pre .1) (c .before .before .before .before .before .before .before .before .before .loop-test .taken) (c .before .before .before .before .before .evaluate .ensures) (c .before .before .condition-word .ensures) refl in
+    let k = looking-on (prepared (c .before .before .before .before .before .before .before .before .before .before .before .before .before .before .before .before .before .before .before)) (c .before .before .before .before .before .before .before .before .before .before .before .before .before .before .before .before .before .before .before .before .before .before .before .before .before .before .before .before .before .pre .0) (c .before .before .before .before .before .before .before .before .before .before .before .before .before .begin .last .1 .1 .1 .1 .1 .1 .0) (c .before .before .before .before .before .before .before .before .before .before .before .before .before .begin .result) (c .before .before .before .before .before .before .before .before .before .before .before .before .before .begin .ensures .1 .many) (c .before .before .before .before .before .before .before .before .before .before .before .before .before .begin .ensures .1 .rows) (c .before .before .before .before .before .before .before .before .before .before .loop .inv) (c .before .before .before .before .before .before .before .before .before .before .before .before .before .before .before .before .before .before .before .before .before .before .before .before .before .before .before .before .before .pre .1) (c .before .before .before .before .before .before .before .before .before .loop-test .taken) (c .before .before .before .before .before .evaluate .ensures) (c .before .before .condition-word .ensures) refl in
     looking-both k (c .before .both-found .result) (c .before .both-found .ensures) (c .if1 .taken)
 
 add-block : tie.Need-add-block Inv-loop μ-loop
-add-block c = search needs
+add-block c = omega (arith, c .before .before .before .before .before .before .before .before .before .loop-test .taken, c .before .before .before .before .before .before .before .before .before .before .before .before .before .before .before .before .before .before .before .before .before .before .before .before .before .before .before .before .before .pre .0 .few)
 
 loop-less : tie.Need-loop-less Inv-loop μ-loop
 loop-less c = search needs
 
 loop-again : tie.Need-loop-again Inv-loop μ-loop
 loop-again c =
-    looking-on (prepared (c .before .before .before .before .before .before .before .before .before .before .before .before)) (c .before .before .before .before .before .before .before .before .before .before .loop .inv) (c .before .before .before .before .before .before .before .before .before .before .before .before .before .before .before .before .before .before .before .before .before .before .pre .0 .few) (c .before .before .before .before .before .before .before .before .before .before .before .before .before .before .before .before .before .before .before .before .before .before .pre .1) (c .before .before .before .before .before .before .before .before .before .loop-test .taken) (c .before .before .before .before .before .evaluate .ensures) (c .before .before .condition-word .ensures) refl
+    looking-on (prepared (c .before .before .before .before .before .before .before .before .before .before .before .before .before .before .before .before .before .before .before)) (c .before .before .before .before .before .before .before .before .before .before .before .before .before .before .before .before .before .before .before .before .before .before .before .before .before .before .before .before .before .pre .0) (c .before .before .before .before .before .before .before .before .before .before .before .before .before .begin .last .1 .1 .1 .1 .1 .1 .0) (c .before .before .before .before .before .before .before .before .before .before .before .before .before .begin .result) (c .before .before .before .before .before .before .before .before .before .before .before .before .before .begin .ensures .1 .many) (c .before .before .before .before .before .before .before .before .before .before .before .before .before .begin .ensures .1 .rows) (c .before .before .before .before .before .before .before .before .before .before .loop .inv) (c .before .before .before .before .before .before .before .before .before .before .before .before .before .before .before .before .before .before .before .before .before .before .before .before .before .before .before .before .before .pre .1) (c .before .before .before .before .before .before .before .before .before .loop-test .taken) (c .before .before .before .before .before .evaluate .ensures) (c .before .before .condition-word .ensures) refl
 
 same-length-2 : tie.Need-same-length-2 Inv-loop μ-loop
 same-length-2 c = c .before .before .loop .inv .same
@@ -111,6 +139,11 @@ search-spec =
     slice-aggregate-number-atoms
     (λ c. search needs)
     number-atoms-requires
+    slice-aggregate-begin
+    slice-aggregate-begin-2
+    (λ c. search needs)
+    (λ c. search needs)
+    begin-requires
     loop-holds
     slice-aggregate-evaluate
     slice-aggregate-evaluate-2
@@ -118,10 +151,10 @@ search-spec =
     evaluate-requires
     slice-aggregate-condition-word
     condition-word-requires
-    (λ c. search needs)
+    mul-g
     array-read-g
-    (λ c. search needs)
-    (λ c. search needs)
+    cast-truths
+    mul-truths
     slice-write-truths
     (λ c κs. search needs)
     same-length

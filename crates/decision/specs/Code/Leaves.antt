@@ -13,7 +13,7 @@ use lib.Seq.{take-suc-set, getD-set-other}
 use Rattle.script.specs.Tests.{pick}
 use Rattle.terms.specs.Terms.{rowIn, rowLimit, rowsEnd}
 use Rattle.terms.specs.declared.Row.{Row}
-use Rattle.decision.specs.Code.{Room, marked, seenAfter, rank, rowWord, countAfter, listedRow, rowsFrom, Lists, seenAt, numberRow, seenTo, numbersTo, isNumbered, numberedTo, evaluateRow, evaluatedTo, knownRow, knownNumbers, keepRow, keptRows, keepWord, keptWords, kept, Keepable, guardMarks, guardRows, GuardListed, guardedWords, guardedWord}
+use Rattle.decision.specs.Code.{Room, marked, seenAfter, rank, rowWord, countAfter, listedRow, rowsFrom, Lists, seenAt, numberRow, seenTo, numbersTo, isNumbered, numberedTo, evaluateRow, evaluatedTo, changeOf, changeRow, changedTo, changesOf, knownRow, knownNumbers, keepRow, keptRows, keepWord, keptWords, kept, Keepable, guardMarks, guardRows, GuardListed, guardedWords, guardedWord}
 use Rattle.decision.specs.Code.Laws.{seen-grows}
 
 -- at the end of a loop: what holds after i turns, where no more than n are made and no fewer
@@ -191,6 +191,41 @@ pub evaluating-end : {ws os ns : List ℕ} {block count : ℕ} {vs ls : List ℕ
     → ls ≡ evaluatedTo ws os ns block vs count
 evaluating-end {ws} {os} {ns} {block} {count} {vs} {ls} {j} k h =
     ended (λ (m : ℕ). ls ≡ evaluatedTo ws os ns block vs m) j count (k .within) h (k .words)
+
+-- ---- whether the words of the rows may differ
+
+pub changed-row : (ws ns hs : List ℕ) (i : ℕ) (r : Row) (x y w : ℕ) → r ≡ rowIn ws i → x ≡ getD (take i hs) (r .a) 0
+    → y ≡ getD (take i hs) (r .b) 0 → w ≡ changeOf r (getD ns i 0) x y → set hs i w ≡ changeRow ws ns hs i
+unfolding changeRow
+changed-row ws ns hs i r x y w e ex ey ew =
+    ap (λ (v : ℕ). set hs i v) (rw (ew, ex, ey))
+    ∙ ap (λ (q : Row). set hs i (changeOf q (getD ns i 0) (getD (take i hs) (q .a) 0) (getD (take i hs) (q .b) 0))) e
+
+-- of the first j rows it is said
+pub record Changing (ws os ns : List ℕ) (count : ℕ) (vs ls : List ℕ) (j : ℕ) : Type 0 where
+  pub within : j ≤ count
+  pub same : length ls ≡ length vs
+  pub changes : ls ≡ changedTo ws os ns vs j
+
+pub changing : (ws os ns : List ℕ) (count : ℕ) (vs : List ℕ) → Changing ws os ns count vs vs 0
+unfolding changedTo
+changing ws os ns count vs = record { within = omega arith; same = refl; changes = refl }
+
+pub changing-on : {ws os ns : List ℕ} {count : ℕ} {vs ls : List ℕ} {j : ℕ} (out : List ℕ) → Changing ws os ns count vs ls j → j < count
+    → out ≡ changeRow ws ns ls (getD os j 0) → Changing ws os ns count vs out (j + 1)
+unfolding changedTo changeRow
+changing-on {ws} {os} {ns} {count} {vs} {ls} {j} out k h eo =
+    record { within = omega arith; same = rw eo (length-set ls (getD os j 0) _ ∙ k .same); changes = rw (add-one j, eo, k .changes) }
+
+pub changing-end : {ws os ns : List ℕ} {count : ℕ} {vs ls : List ℕ} {j : ℕ} → Changing ws os ns count vs ls j → count ≤ j
+    → ls ≡ changedTo ws os ns vs count
+changing-end {ws} {os} {ns} {count} {vs} {ls} {j} k h =
+    ended (λ (m : ℕ). ls ≡ changedTo ws os ns vs m) j count (k .within) h (k .changes)
+
+pub begun : (ws os ns : List ℕ) (count n : ℕ) {hs start out : List ℕ} {r : ℕ} → hs ≡ changedTo ws os ns (replicate rowLimit 0) count
+    → Lists hs n 1 start r out → Lists (changesOf ws os ns count) n 1 start r out
+unfolding changesOf
+begun ws os ns count n e l = rw e at l
 
 -- ---- what is known: the first j atoms have their numbers
 

@@ -9,10 +9,10 @@ use native.Mathlib.Numerals.{add-one}
 use native.Mathlib.Omega.{arith}
 use lib.Dec.{ltb}
 use lib.ListN.{length, getD, take, set, length-set, length-append, length-replicate, replicate, List·getD-append}
-use lib.Seq.{take-suc, take-suc-set, getD-take, getD-at, getD-set-same, getD-set-other}
+use lib.Seq.{take-suc, take-suc-set, take-set-le, getD-take, getD-at, getD-set-same, getD-set-other}
 use Rattle.script.specs.Tests.{pick}
 use Rattle.terms.specs.Terms.{rowIn, rowLimit}
-use Rattle.decision.specs.Code.{seenAfter, rank, rowWord, wordOf, words, rowsFrom, seenAt, seenTo, numberRow, numbersTo, isNumbered, numberedTo, noNumbers, numbersFrom, evaluateRow, evaluatedTo}
+use Rattle.decision.specs.Code.{seenAfter, rank, rowWord, wordOf, words, rowsFrom, seenAt, seenTo, numberRow, numbersTo, isNumbered, numberedTo, noNumbers, numbersFrom, evaluateRow, evaluatedTo, changeRow, changedTo}
 use Rattle.decision.specs.Code.Laws.{words-length}
 
 -- ---- the first rows alone count
@@ -42,6 +42,11 @@ module _ (ws : List ℕ) (xs ys : List ℕ) where
   evaluated-alike ns block vs zero h = refl
   evaluated-alike ns block vs (suc m) h =
       ap₂ (evaluateRow ws ns block) (evaluated-alike ns block vs m (λ j l. h j (omega arith))) (h m (omega arith))
+
+  pub changed-alike : (ns hs : List ℕ) (m : ℕ) → Alike m → changedTo ws xs ns hs m ≡ changedTo ws ys ns hs m
+  unfolding changedTo
+  changed-alike ns hs zero h = refl
+  changed-alike ns hs (suc m) h = ap₂ (changeRow ws ns) (changed-alike ns hs m (λ j l. h j (omega arith))) (h m (omega arith))
 
 -- the first rows of a longer list
 pub taken-alike : (os rows : List ℕ) (count : ℕ) → take count os ≡ rows → (j : ℕ) → j < count → getD os j 0 ≡ getD rows j 0
@@ -89,82 +94,113 @@ module _ (ms : List ℕ) (least : ℕ) where
           let r = ih (omega arith) in
           omega arith
 
--- ---- words
+-- ---- a list that is filled row by row, each by what stands before it
 
--- the rows without the mark have no word
-pub record Bare (ms : List ℕ) (least n : ℕ) (vs : List ℕ) : Type 0 where
-  pub long : n ≤ length vs
-  pub none : (i : ℕ) → i < n → getD ms i 0 < least → getD vs i 0 ≡ 0
+module _ (F : List ℕ → ℕ → ℕ) where
+  unfoldable pub filledTo : List ℕ → List ℕ → ℕ → List ℕ
+  filledTo os vs zero = vs
+  filledTo os vs (suc j) = set (filledTo os vs j) (getD os j 0) (F (take (getD os j 0) (filledTo os vs j)) (getD os j 0))
 
-module _ (ws ms : List ℕ) (least : ℕ) (ns : List ℕ) (block : ℕ) where
-  abbrev rows : ℕ → List ℕ
-  rows n = rowsFrom ms least n
+  pub filled-alike : (xs ys vs : List ℕ) (m : ℕ) → ((j : ℕ) → j < m → getD xs j 0 ≡ getD ys j 0) → filledTo xs vs m ≡ filledTo ys vs m
+  unfolding filledTo
+  filled-alike xs ys vs zero h = refl
+  filled-alike xs ys vs (suc m) h = rw (filled-alike xs ys vs m (λ j l. h j (omega arith)), h m (omega arith)) refl
 
-  abbrev after : List ℕ → ℕ → List ℕ
-  after vs n = evaluatedTo ws (rows n) ns block vs (length (rows n))
+  module _ (ms : List ℕ) (least : ℕ) (vs : List ℕ) where
+    abbrev rows : ℕ → List ℕ
+    rows n = rowsFrom ms least n
 
-  after-skip : (vs : List ℕ) (n : ℕ) → getD ms n 0 < least → after vs (suc n) ≡ after vs n
-  after-skip vs n h = ap (λ (l : List ℕ). evaluatedTo ws l ns block vs (length l)) (rows-skip ms least n h)
+    -- by the rows below n that have at least the mark
+    unfoldable pub after : ℕ → List ℕ
+    after n = filledTo (rows n) vs (length (rows n))
 
-  after-more : (vs : List ℕ) (n : ℕ) → least ≤ getD ms n 0 → after vs (suc n) ≡ evaluateRow ws ns block (after vs n) n
-  unfolding evaluatedTo
-  after-more vs n h =
-      ap (λ (l : List ℕ). evaluatedTo ws l ns block vs (length l)) (rows-more ms least n h)
-      ∙ ap (evaluatedTo ws (rows n ++ (n ∷ [])) ns block vs) (rows-longer ms least n)
-      ∙ ap₂ (evaluateRow ws ns block)
-      (evaluated-alike ws (rows n ++ (n ∷ [])) (rows n) ns block vs (length (rows n)) (longer-alike (rows n) n))
-      (getD-at (rows n) n [] 0 (length (rows n)) refl)
+    after-skip : (n : ℕ) → getD ms n 0 < least → after (suc n) ≡ after n
+    unfolding after
+    after-skip n h = ap (λ (l : List ℕ). filledTo l vs (length l)) (rows-skip ms least n h)
 
-  after-length : (vs : List ℕ) (n : ℕ) → length (after vs n) ≡ length vs
-  unfolding evaluatedTo evaluateRow
-  after-length vs n = go (length (rows n))
-    where
-      go : (m : ℕ) → length (evaluatedTo ws (rows n) ns block vs m) ≡ length vs
-      go zero = refl
-      go (suc m) = length-set (evaluatedTo ws (rows n) ns block vs m) _ _ ∙ go m
+    after-more : (n : ℕ) → least ≤ getD ms n 0 → after (suc n) ≡ set (after n) n (F (take n (after n)) n)
+    unfolding after filledTo
+    after-more n h =
+        let a = getD-at (rows n) n [] 0 (length (rows n)) refl in
+        let b = filled-alike (rows n ++ (n ∷ [])) (rows n) vs (length (rows n)) (longer-alike (rows n) n) in
+        ap (λ (l : List ℕ). filledTo l vs (length l)) (rows-more ms least n h)
+        ∙ ap (filledTo (rows n ++ (n ∷ [])) vs) (rows-longer ms least n) ∙ rw (a, b) refl
 
-  -- rows from n on are as they were
-  after-above : (vs : List ℕ) (n k : ℕ) → n ≤ k → getD (after vs n) k 0 ≡ getD vs k 0
-  unfolding evaluatedTo evaluateRow
-  after-above vs n k h = go (length (rows n)) (omega arith)
-    where
-      go : (m : ℕ) → m ≤ length (rows n) → getD (evaluatedTo ws (rows n) ns block vs m) k 0 ≡ getD vs k 0
-      go zero l = refl
-      go (suc m) l =
-          let b = rows-below ms least n m (omega arith) in
-          getD-set-other (evaluatedTo ws (rows n) ns block vs m) (getD (rows n) m 0) k _ 0 (λ e. omega arith) ∙ go m (omega arith)
+    after-none : after 0 ≡ vs
+    unfolding after filledTo rowsFrom
+    after-none = refl
 
-  after-words : (vs : List ℕ) (n : ℕ) → Bare ms least n vs → take n (after vs n) ≡ words ws ms least ns block n
-  unfolding words wordOf evaluateRow
-  after-words vs zero b = refl
-  after-words vs (suc n) b =
-      let l = b .long in
-      go (after-words vs n (record { long = omega arith; none = λ i h. b .none i (omega arith) })) (ltb (getD ms n 0) least) refl
-    where
-      go : take n (after vs n) ≡ words ws ms least ns block n → (t : Bool) → ltb (getD ms n 0) least ≡ t
-          → take (suc n) (after vs (suc n))
-          ≡ words ws ms least ns block n ++ (wordOf (words ws ms least ns block n) (rowIn ws n) (getD ms n 0) least (getD ns n 0) block ∷ [])
-      go ih true e =
-          let h = ltb-true (getD ms n 0) least e in
-          let l = b .long in
-          let k = after-length vs n in
-          rw (e, after-skip vs n h, take-suc (after vs n) n 0 (omega arith), ih, after-above vs n n (omega arith), b .none n (omega arith) h) refl
-      go ih false e =
-          let h = ltb-false (getD ms n 0) least e in
-          let l = b .long in
-          let k = after-length vs n in
-          rw (e, after-more vs n h, take-suc-set (after vs n) n _ (omega arith), ih) refl
+    -- by cases: a row without the mark, or with it
+    module _ (P : ℕ → List ℕ → Type 0) (base : P 0 vs) (skip : (n : ℕ) → getD ms n 0 < least → P n (after n) → P (suc n) (after n))
+        (more : (n : ℕ) → least ≤ getD ms n 0 → P n (after n) → P (suc n) (set (after n) n (F (take n (after n)) n))) where
+      row-by-row : (n : ℕ) → P n (after n)
+      row-by-row zero = rw after-none base
+      row-by-row (suc n) = go (ltb (getD ms n 0) least) refl (row-by-row n)
+        where
+          go : (t : Bool) → ltb (getD ms n 0) least ≡ t → P n (after n) → P (suc n) (after (suc n))
+          go true e p = let h = ltb-true (getD ms n 0) least e in rw (after-skip n h) (skip n h p)
+          go false e p = let h = ltb-false (getD ms n 0) least e in rw (after-more n h) (more n h p)
 
-  -- as the code has the rows
-  module _ (os : List ℕ) (count n : ℕ) (many : count ≡ length (rowsFrom ms least n)) (is : take count os ≡ rowsFrom ms least n) where
-    listed-after : (vs : List ℕ) → evaluatedTo ws os ns block vs count ≡ after vs n
-    listed-after vs = evaluated-alike ws os (rows n) ns block vs count (taken-alike os (rows n) count is) ∙ ap (evaluatedTo ws (rows n) ns block vs) many
+    pub after-length : (n : ℕ) → length (after n) ≡ length vs
+    after-length = row-by-row (λ n l. length l ≡ length vs) refl (λ n h p. p) (λ n h p. length-set (after n) n _ ∙ p)
 
-    pub evaluated-words : (vs : List ℕ) → Bare ms least n vs → take n (evaluatedTo ws os ns block vs count) ≡ words ws ms least ns block n
-    evaluated-words vs b = ap (take n) (listed-after vs) ∙ after-words vs n b
+    -- rows from n on, and those without the mark, are as they were
+    after-above : (k n : ℕ) → n ≤ k → getD (after n) k 0 ≡ getD vs k 0
+    after-above k =
+        row-by-row (λ n l. n ≤ k → getD l k 0 ≡ getD vs k 0) (λ h. refl) (λ n h p l. p (omega arith))
+        (λ n h p l. getD-set-other (after n) n k _ 0 (λ e. omega arith) ∙ p (omega arith))
 
-    pub evaluated-length : (vs : List ℕ) → length (evaluatedTo ws os ns block vs count) ≡ length vs
-    evaluated-length vs = ap length (listed-after vs) ∙ after-length vs n
+    pub after-kept : (k : ℕ) → getD ms k 0 < least → (n : ℕ) → getD (after n) k 0 ≡ getD vs k 0
+    after-kept k m =
+        row-by-row (λ n l. getD l k 0 ≡ getD vs k 0) refl (λ n h p. p)
+        (λ n h p. getD-set-other (after n) n k _ 0 (λ e. differ n h e) ∙ p)
+      where
+        differ : (n : ℕ) → least ≤ getD ms n 0 → k ≡ n → ⊥
+        differ n h e = let q : getD ms n 0 < least = rw e at m in omega arith
+
+    -- a row that has the mark has what stands before it makes of it
+    pub after-fixed : (k n : ℕ) → k < n → n ≤ length vs → least ≤ getD ms k 0 → getD (after n) k 0 ≡ F (take k (after n)) k
+    after-fixed k n h l m =
+        row-by-row (λ n v. k < n → n ≤ length vs → getD v k 0 ≡ F (take k v) k) (λ h l. absurd (omega arith)) unmarked marked n h l
+      where
+        unmarked : (n : ℕ) → getD ms n 0 < least → (k < n → n ≤ length vs → getD (after n) k 0 ≡ F (take k (after n)) k) → k < suc n → suc n ≤ length vs
+            → getD (after n) k 0 ≡ F (take k (after n)) k
+        unmarked n u p h l = p (other (ℕ-discrete k n)) (omega arith)
+          where
+            other : Dec (k ≡ n) → k < n
+            other (yes e) = let q : least ≤ getD ms n 0 = rw e at m in absurd (omega arith)
+            other (no e) = omega arith
+
+        marked : (n : ℕ) → least ≤ getD ms n 0 → (k < n → n ≤ length vs → getD (after n) k 0 ≡ F (take k (after n)) k) → k < suc n → suc n ≤ length vs
+            → getD (set (after n) n (F (take n (after n)) n)) k 0 ≡ F (take k (set (after n) n (F (take n (after n)) n))) k
+        marked n u p h l = go (ℕ-discrete k n)
+          where
+            go : Dec (k ≡ n) → getD (set (after n) n (F (take n (after n)) n)) k 0 ≡ F (take k (set (after n) n (F (take n (after n)) n))) k
+            go (yes e) =
+                let s = after-length n in
+                rw (e, take-set-le n (after n) n (F (take n (after n)) n) (omega arith))
+                (getD-set-same (after n) n (F (take n (after n)) n) 0 (omega arith))
+            go (no e) =
+                rw (take-set-le k (after n) n (F (take n (after n)) n) (omega arith))
+                (getD-set-other (after n) n k (F (take n (after n)) n) 0 e ∙ p (omega arith) (omega arith))
+
+    -- what it should be, if the rows without the mark are that already
+    module _ (all : List ℕ) (want : (i : ℕ) → i < length all → least ≤ getD ms i 0 → getD all i 0 ≡ F (take i all) i)
+        (there : (i : ℕ) → i < length all → getD ms i 0 < least → getD vs i 0 ≡ getD all i 0) where
+      pub after-all : (n : ℕ) → n ≤ length vs → n ≤ length all → take n (after n) ≡ take n all
+      after-all n k l = row-by-row (λ n v. n ≤ length vs → n ≤ length all → take n v ≡ take n all) (λ k l. refl) unmarked marked n k l
+        where
+          unmarked : (n : ℕ) → getD ms n 0 < least → (n ≤ length vs → n ≤ length all → take n (after n) ≡ take n all) → suc n ≤ length vs → suc n ≤ length all
+              → take (suc n) (after n) ≡ take (suc n) all
+          unmarked n u p k l =
+              let s = after-length n in
+              rw (take-suc (after n) n 0 (omega arith), take-suc all n 0 (omega arith), p (omega arith) (omega arith), after-above n n (omega arith), there n (omega arith) u) refl
+
+          marked : (n : ℕ) → least ≤ getD ms n 0 → (n ≤ length vs → n ≤ length all → take n (after n) ≡ take n all) → suc n ≤ length vs → suc n ≤ length all
+              → take (suc n) (set (after n) n (F (take n (after n)) n)) ≡ take (suc n) all
+          marked n u p k l =
+              let s = after-length n in
+              rw (take-suc-set (after n) n (F (take n (after n)) n) (omega arith), take-suc all n 0 (omega arith), p (omega arith) (omega arith), want n (omega arith) u) refl
 
 -- ---- numbers
 
