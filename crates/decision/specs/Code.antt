@@ -21,7 +21,7 @@ use Rattle.terms.specs.declared.Row.{Row}
 use Rattle.decision.specs.Decision.{branchesOf, onlyOne}
 use Rattle.decision.specs.declared.Counts.{Counts}
 use Rattle.decision.specs.declared.Decision.{Decision}
-use Rattle.decision.specs.declared.Decision.the-variants.{TooMany}
+use Rattle.decision.specs.declared.Decision.the-variants.{TooMany, OnlyTrue, OnlyFalse}
 
 -- the row after the greater of two
 unfoldable pub above : ℕ → ℕ → ℕ
@@ -368,13 +368,30 @@ marksFrom ws c g = marked ws (above c g) (startMarks c g)
 unfoldable pub atomsFrom : List ℕ → ℕ → ℕ → ℕ → ℕ
 atomsFrom ws c g least = rank ws (marksFrom ws c g) least (above c g)
 
--- a guard that shares no atom with the condition is decided alone
+-- 'a and b' and 'a and not b' have the conjunct b
+unfoldable pub isLink : ℕ → Bool
+isLink op = pick (eqb op 5) true (eqb op 7)
+
+-- the operator with which row i has row g as a conjunct, at most so many rows down; 0 if it does not have it
+unfoldable pub conjunctAt : List ℕ → ℕ → ℕ → ℕ → ℕ
+conjunctAt ws g zero i = 0
+conjunctAt ws g (suc n) i =
+    pick (isLink (rowIn ws i .op))
+    (pick (eqb (rowIn ws i .b) g) (rowIn ws i .op) (pick (ltb (rowIn ws i .a) i) (conjunctAt ws g n (rowIn ws i .a)) 0))
+    0
+
+unfoldable pub conjunctOf : List ℕ → ℕ → ℕ → ℕ
+conjunctOf ws c g = conjunctAt ws g (c + 1) c
+
+-- a guard that shares no atom with the condition is decided alone, and one that is a conjunct of it by how it is
 unfoldable pub decidedAnew : List ℕ → ℕ → ℕ → Decision
 decidedAnew ws c g =
     pick (ltb 10 (atomsFrom ws c g 1)) TooMany
     (pick (eqb (atomsFrom ws c g 3) 0)
     (searched ws (marksFrom ws c g) 2 g g (blocksOf (atomsFrom ws c g 2)))
-    (searched ws (marksFrom ws c g) 1 c g (blocksOf (atomsFrom ws c g 1))))
+    (pick (eqb (conjunctOf ws c g) 5) OnlyTrue
+    (pick (eqb (conjunctOf ws c g) 7) OnlyFalse
+    (searched ws (marksFrom ws c g) 1 c g (blocksOf (atomsFrom ws c g 1))))))
 
 -- the atoms of what is known have their numbers; every atom of the guard has one
 unfoldable pub recalled : List ℕ → ℕ → List ℕ
@@ -388,8 +405,8 @@ unfoldable pub decided : List ℕ → ℕ → ℕ → ℕ → Decision
 decided ws at c g =
     pick (eqb (getD ws at 0) 1) (pick (recalls ws at g) (compared ws at (recalled ws at) g) (decidedAnew ws c g)) (decidedAnew ws c g)
 
--- what is left of the numbers after a decision by the rows: if one branch is impossible, nothing is known where the guard was decided alone, and the truths
--- of the condition are where it was not
+-- what is left of the numbers after a decision by the rows: if one branch is impossible, nothing is known where the guard was decided alone or as a
+-- conjunct, and the truths of the condition are where it was not
 pub data LeftAnew (ws : List ℕ) (at c g : ℕ) (r : Decision) (left : List ℕ) : Type 0 where
   left-same : onlyOne r ≡ false → left ≡ ws → LeftAnew ws at c g r left
   left-none : onlyOne r ≡ true → left ≡ set ws at 0 → LeftAnew ws at c g r left

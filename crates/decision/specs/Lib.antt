@@ -6,5 +6,6 @@ pub mod Marks
 pub mod Atoms
 pub mod Listed
 pub mod Words
+pub mod Conjuncts
 pub mod Known
 pub mod Promise

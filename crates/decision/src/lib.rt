@@ -10,9 +10,11 @@ ghost use Rattle.decision.specs.Code.{above as after, Room, Low, operand
 ghost use Rattle.decision.specs.Promise.{Decidable, Decides};
 ghost use Rattle.terms.specs.Terms.{rowLimit};
 
+mod conjuncts;
 mod known;
 mod rows;
 
+use crate::conjuncts::conjunct;
 use crate::known::compare;
 use crate::known::keep;
 use crate::known::list_guard;
@@ -276,8 +278,8 @@ fn search(
     branches_of(yes, no)
 }
 
-// The decision by the rows: of the guard alone, if it shares no atom with the condition. If one branch is impossible, the condition's truths are known then,
-// or nothing is.
+// The decision by the rows: of the guard alone, if it shares no atom with the condition, and without a search, if it is a conjunct of it. If one branch is
+// impossible, the condition's truths are known then, or nothing is.
 fn decide_anew(space: &mut [u32], at: usize, condition: u32, guard: u32) -> Decision
     requires { ⌜ Decidable (now space) at condition guard ⌝ }
     ensures { λ r. ⌜ r ≡ decidedAnew (now (space .entry)) condition guard ⌝ }
@@ -309,6 +311,15 @@ fn decide_anew(space: &mut [u32], at: usize, condition: u32, guard: u32) -> Deci
             return alone;
         }
         return alone;
+    }
+    let link = conjunct(space, c, guard);
+    if link == CONJUNCTION {
+        space[at] = 0;
+        return Decision::OnlyTrue;
+    }
+    if link == EXCLUSION {
+        space[at] = 0;
+        return Decision::OnlyFalse;
     }
     let blocks = blocks_of(counts.all);
     let decision = search(space, c, g, &marks, CONDITION, blocks, &mut truths);

@@ -3,7 +3,7 @@ use mathlib.Core.Path.{_≡_, refl, sym, _∙_}
 use borrow.Author.Needs.{needs}
 use native.Mathlib.Omega.{arith}
 use Rattle.decision.specs.Code.{Room, decidedAnew, left-same, left-none}
-use Rattle.decision.specs.Code.Whole.{Prepared, room-start, room-marked, room-guard, decided-many, decided-alone, decided-both, keepable, left-with}
+use Rattle.decision.specs.Code.Whole.{Prepared, room-start, room-marked, room-guard, decided-many, decided-alone, decided-with, decided-without, decided-both, keepable, left-with}
 use Rattle.decision.specs.Known.{blocks-most}
 use Rattle.decision.proofs.decide_anew.Statement.{statement}
 use Rattle.decision.proofs.decide_anew.Tie as tie
@@ -59,30 +59,51 @@ returns-2 c = (alone (c .before .before .before), left-none (sym (c .before .onl
 returns-3 : tie.Need-returns-3
 returns-3 c = (alone (c .before .before .before), left-same (sym (c .before .only-one .ensures) ∙ c .if3 .left) refl)
 
+conjunct-requires : tie.Need-conjunct-requires
+conjunct-requires c κs = let p = c .before .before .before .before .before .before .before .before .before .before .before .pre in (omega (arith, p .behind, p .lent), p .low)
+
+slice-write-space-2 : tie.Need-slice-write-space-2
+slice-write-space-2 c = omega (arith, c .before .before .before .before .before .before .before .before .before .before .before .before .before .pre .lent)
+
+-- a conjunct of the condition
+returns-4 : tie.Need-returns-4
+returns-4 c =
+    let a = c .before .before .before .before .before .before .before .before .before .before .before .before .before .args in
+    (decided-with (a .space .now) (a .condition) (a .guard) (parts (c .before .before .before .before .before .before .before .before)) (c .before .conjunct .result) (c .before .before .before .before .before .if1 .left) (c .before .before .before .if2 .left) (c .before .conjunct .ensures) (c .if4 .taken), left-none refl refl)
+
+slice-write-space-3 : tie.Need-slice-write-space-3
+slice-write-space-3 c = omega (arith, c .before .before .before .before .before .before .before .before .before .before .before .before .before .before .pre .lent)
+
+-- the negation of one
+returns-5 : tie.Need-returns-5
+returns-5 c =
+    let a = c .before .before .before .before .before .before .before .before .before .before .before .before .before .before .args in
+    (decided-without (a .space .now) (a .condition) (a .guard) (parts (c .before .before .before .before .before .before .before .before .before)) (c .before .before .conjunct .result) (c .before .before .before .before .before .before .if1 .left) (c .before .before .before .before .if2 .left) (c .before .before .conjunct .ensures) (c .if5 .taken), left-none refl refl)
+
 search-requires-2 : tie.Need-search-requires-2
 search-requires-2 c κs =
-    let p = c .before .before .before .before .before .before .before .before .before .before .before .before .before .before .pre in
-    (record { low = p .low; high = p .high; room = rw (c .before .before .before .before .before .before .before .before .before .before .before .before .above .ensures) at (room (c .before .before .before .before .before .before .before .before .before)); few = rw (c .before .before .before .blocks-of2 .ensures) (blocks-most _) }, omega arith)
+    let p = c .before .before .before .before .before .before .before .before .before .before .before .before .before .before .before .before .before .before .pre in
+    (record { low = p .low; high = p .high; room = rw (c .before .before .before .before .before .before .before .before .before .before .before .before .before .before .before .before .above .ensures) at (room (c .before .before .before .before .before .before .before .before .before .before .before .before .before)); few = rw (c .before .before .before .blocks-of2 .ensures) (blocks-most _) }, omega arith)
 
 -- the two together
-together : (c : tie.After-search2) → c .search2 .result ≡ decidedAnew (c .before .before .before .before .before .before .before .before .before .before .before .before .before .before .before .args .space .now) (c .before .before .before .before .before .before .before .before .before .before .before .before .before .before .before .args .condition) (c .before .before .before .before .before .before .before .before .before .before .before .before .before .before .before .args .guard)
+together : (c : tie.After-search2) → c .search2 .result ≡ decidedAnew (c .before .before .before .before .before .before .before .before .before .before .before .before .before .before .before .before .before .before .before .args .space .now) (c .before .before .before .before .before .before .before .before .before .before .before .before .before .before .before .before .before .before .before .args .condition) (c .before .before .before .before .before .before .before .before .before .before .before .before .before .before .before .before .before .before .before .args .guard)
 together c =
-    let a = c .before .before .before .before .before .before .before .before .before .before .before .before .before .before .before .args in
-    decided-both (a .space .now) (a .condition) (a .guard) (parts (c .before .before .before .before .before .before .before .before .before .before)) (c .before .before .before .before .blocks-of2 .result) (c .search2 .result) (c .before .before .before .before .before .before .before .if1 .left) (c .before .before .before .before .before .if2 .left) (c .before .before .before .before .blocks-of2 .ensures) (c .search2 .ensures .is)
+    let a = c .before .before .before .before .before .before .before .before .before .before .before .before .before .before .before .before .before .before .before .args in
+    decided-both (a .space .now) (a .condition) (a .guard) (parts (c .before .before .before .before .before .before .before .before .before .before .before .before .before .before)) (c .before .before .before .before .before .before .before .conjunct .result) (c .before .before .before .before .blocks-of2 .result) (c .search2 .result) (c .before .before .before .before .before .before .before .before .before .before .before .if1 .left) (c .before .before .before .before .before .before .before .before .before .if2 .left) (c .before .before .before .before .before .before .before .conjunct .ensures) (c .before .before .before .before .before .before .if4 .left) (c .before .before .before .before .before .if5 .left) (c .before .before .before .before .blocks-of2 .ensures) (c .search2 .ensures .is)
 
 keep-requires : tie.Need-keep-requires
 keep-requires c κs =
-    let a = c .before .before .before .before .before .before .before .before .before .before .before .before .before .before .before .before .before .before .before .before .before .args in
-    let p = c .before .before .before .before .before .before .before .before .before .before .before .before .before .before .before .before .before .before .before .before .before .pre in
-    (keepable (a .space .now) (a .condition) (a .guard) (parts (c .before .before .before .before .before .before .before .before .before .before .before .before .before .before .before .before)) (a .at) (p .behind) (p .lent) (p .low) (p .high) (c .before .before .before .before .before .before .before .before .before .before .before .before .before .if1 .left), (rw (c .before .before .before .before .before .before .before .before .before .before .blocks-of2 .ensures) (blocks-most _), omega (arith, c .before .before .before .before .before .before .search2 .ensures .same)))
+    let a = c .before .before .before .before .before .before .before .before .before .before .before .before .before .before .before .before .before .before .before .before .before .before .before .before .before .args in
+    let p = c .before .before .before .before .before .before .before .before .before .before .before .before .before .before .before .before .before .before .before .before .before .before .before .before .before .pre in
+    (keepable (a .space .now) (a .condition) (a .guard) (parts (c .before .before .before .before .before .before .before .before .before .before .before .before .before .before .before .before .before .before .before .before)) (a .at) (p .behind) (p .lent) (p .low) (p .high) (c .before .before .before .before .before .before .before .before .before .before .before .before .before .before .before .before .before .if1 .left), (rw (c .before .before .before .before .before .before .before .before .before .before .blocks-of2 .ensures) (blocks-most _), omega (arith, c .before .before .before .before .before .before .search2 .ensures .same)))
 
-returns-4 : tie.Need-returns-4
-returns-4 c =
-    let a = c .before .before .before .before .before .before .before .before .before .before .before .before .before .before .before .before .before .before .before .before .before .before .before .before .args in
-    (together (c .before .before .before .before .before .before .before .before .before), left-with (a .space .now) (a .condition) (a .guard) (parts (c .before .before .before .before .before .before .before .before .before .before .before .before .before .before .before .before .before .before .before)) (c .before .before .before .before .before .before .before .before .before .before .before .before .before .before .before .before .if1 .left) (c .before .before .before .before .before .before .before .before .before .before .before .before .before .blocks-of2 .ensures) (c .before .before .before .before .before .before .before .before .before .search2 .ensures) (sym (c .before .before .before .before .before .before .before .only-one2 .ensures) ∙ c .before .before .before .before .before .before .if4 .taken) (c .before .before .keep .ensures))
+returns-6 : tie.Need-returns-6
+returns-6 c =
+    let a = c .before .before .before .before .before .before .before .before .before .before .before .before .before .before .before .before .before .before .before .before .before .before .before .before .before .before .before .before .args in
+    (together (c .before .before .before .before .before .before .before .before .before), left-with (a .space .now) (a .condition) (a .guard) (parts (c .before .before .before .before .before .before .before .before .before .before .before .before .before .before .before .before .before .before .before .before .before .before .before)) (c .before .before .before .before .before .before .before .before .before .before .before .before .before .before .before .before .before .before .before .before .if1 .left) (c .before .before .before .before .before .before .before .before .before .before .before .before .before .blocks-of2 .ensures) (c .before .before .before .before .before .before .before .before .before .search2 .ensures) (sym (c .before .before .before .before .before .before .before .only-one2 .ensures) ∙ c .before .before .before .before .before .before .if6 .taken) (c .before .before .keep .ensures))
 
-returns-5 : tie.Need-returns-5
-returns-5 c = (together (c .before .before .before), left-same (sym (c .before .only-one2 .ensures) ∙ c .if4 .left) refl)
+returns-7 : tie.Need-returns-7
+returns-7 c = (together (c .before .before .before), left-same (sym (c .before .only-one2 .ensures) ∙ c .if6 .left) refl)
 
 pub decide-anew-spec : {M : Type 1} → statement M
 decide-anew-spec =
@@ -107,6 +128,15 @@ decide-anew-spec =
     returns-2
     (λ c. search needs)
     returns-3
+    conjunct-requires
+    (λ c. search needs)
+    slice-write-space-2
+    (λ c. search needs)
+    returns-4
+    (λ c. search needs)
+    slice-write-space-3
+    (λ c. search needs)
+    returns-5
     (λ c κs. search needs)
     (λ c. search needs)
     (λ c. search needs)
@@ -116,6 +146,6 @@ decide-anew-spec =
     (λ c. search needs)
     keep-requires
     (λ c. search needs)
-    returns-4
+    returns-6
     (λ c. search needs)
-    returns-5)
+    returns-7)

@@ -1,13 +1,13 @@
 -- The decision from its parts. Assumes nothing.
 use mathlib.Core.Bool.{Bool, true, false}
 use mathlib.Core.List.{List}
-use mathlib.Core.Path.{_≡_, refl, ap, ap₂, _∙_}
+use mathlib.Core.Path.{_≡_, refl, sym, ap, ap₂, _∙_}
 use Prim.Native.Nat.{ℕ, _+_, _≤_, _<_}
 use borrow.Author.Tests.{lt-ltb, le-ltb, eq-eqb, ne-eqb}
 use native.Mathlib.Omega.{arith}
 use lib.ListN.{length, getD, take}
 use Rattle.terms.specs.Terms.{rowLimit, rowsEnd}
-use Rattle.decision.specs.Code.{above, Room, marked, rank, Rows, numberedTo, noNumbers, countsOf, blocksOf, searched, Searched, knownSize, knownNumbers, kept, Keepable, guardMarks, guardRows, compared, startMarks, marksFrom, atomsFrom, recalled, recalls, decidedAnew, decided, LeftAnew, left-kept}
+use Rattle.decision.specs.Code.{above, Room, marked, rank, Rows, numberedTo, noNumbers, countsOf, blocksOf, searched, Searched, knownSize, knownNumbers, kept, Keepable, guardMarks, guardRows, compared, startMarks, marksFrom, atomsFrom, conjunctOf, recalled, recalls, decidedAnew, decided, LeftAnew, left-kept}
 use Rattle.decision.specs.Code.Laws.{above-second, above-within, marked-length}
 use Rattle.decision.specs.Code.Ordered.{numbered-alike, taken-alike}
 use Rattle.decision.specs.Code.Searching.{rows-listed, order-long}
@@ -15,7 +15,7 @@ use Rattle.decision.specs.Decision.{onlyOne}
 use Rattle.decision.specs.Marks.{start-length}
 use Rattle.decision.specs.declared.Counts.{Counts}
 use Rattle.decision.specs.declared.Decision.{Decision}
-use Rattle.decision.specs.declared.Decision.the-variants.{TooMany}
+use Rattle.decision.specs.declared.Decision.the-variants.{TooMany, OnlyTrue, OnlyFalse}
 
 module _ (ws : List ℕ) (c g : ℕ) where
   pub room-start : (n : ℕ) → n ≡ above c g → rowsEnd ≤ length ws → c < rowLimit → g < rowLimit → Room ws n (startMarks c g)
@@ -60,14 +60,45 @@ module _ (ws : List ℕ) (c g : ℕ) where
         let f = parts-shared in
         rw (le-ltb 10 (atomsFrom ws c g 1) (omega arith), eq-eqb (atomsFrom ws c g 3) 0 (omega arith), ed, eb, parts-marks, parts-own)
 
-    -- the two together
-    pub decided-both : (blocks : ℕ) (d : Decision) → k .all ≤ 10 → (k .shared ≡ 0 → ⊥) → blocks ≡ blocksOf (k .all) → d ≡ searched ws ms 1 c g blocks
-        → d ≡ decidedAnew ws c g
+    -- the guard is a conjunct of the condition
+    pub decided-with : (link : ℕ) → k .all ≤ 10 → (k .shared ≡ 0 → ⊥) → link ≡ conjunctOf ws c g → link ≡ 5 → OnlyTrue ≡ decidedAnew ws c g
     unfolding decidedAnew
-    decided-both blocks d h z eb ed =
+    decided-with link h z el l =
         let e = parts-all in
         let f = parts-shared in
-        rw (le-ltb 10 (atomsFrom ws c g 1) (omega arith), ne-eqb (atomsFrom ws c g 3) 0 (λ q. z (f ∙ q)), ed, eb, parts-marks, e)
+        rw (le-ltb 10 (atomsFrom ws c g 1) (omega arith), ne-eqb (atomsFrom ws c g 3) 0 (λ q. z (f ∙ q)), eq-eqb (conjunctOf ws c g) 5 (sym el ∙ l))
+
+    -- its negation is one
+    pub decided-without : (link : ℕ) → k .all ≤ 10 → (k .shared ≡ 0 → ⊥) → link ≡ conjunctOf ws c g → link ≡ 7 → OnlyFalse ≡ decidedAnew ws c g
+    unfolding decidedAnew
+    decided-without link h z el l =
+        let e = parts-all in
+        let f = parts-shared in
+        let m : conjunctOf ws c g ≡ 7 = sym el ∙ l in
+        rw (
+          le-ltb 10 (atomsFrom ws c g 1) (omega arith),
+          ne-eqb (atomsFrom ws c g 3) 0 (λ q. z (f ∙ q)),
+          ne-eqb (conjunctOf ws c g) 5 (λ q. omega arith),
+          eq-eqb (conjunctOf ws c g) 7 m,
+        )
+
+    -- the two together
+    pub decided-both : (link blocks : ℕ) (d : Decision) → k .all ≤ 10 → (k .shared ≡ 0 → ⊥) → link ≡ conjunctOf ws c g → (link ≡ 5 → ⊥) → (link ≡ 7 → ⊥)
+        → blocks ≡ blocksOf (k .all) → d ≡ searched ws ms 1 c g blocks → d ≡ decidedAnew ws c g
+    unfolding decidedAnew
+    decided-both link blocks d h z el m n eb ed =
+        let e = parts-all in
+        let f = parts-shared in
+        rw (
+          le-ltb 10 (atomsFrom ws c g 1) (omega arith),
+          ne-eqb (atomsFrom ws c g 3) 0 (λ q. z (f ∙ q)),
+          ne-eqb (conjunctOf ws c g) 5 (λ q. m (el ∙ q)),
+          ne-eqb (conjunctOf ws c g) 7 (λ q. n (el ∙ q)),
+          ed,
+          eb,
+          parts-marks,
+          e,
+        )
 
     -- what is kept then
     pub keepable : (at : ℕ) → rowsEnd ≤ at → at + knownSize ≤ length ws → c < rowLimit → g < rowLimit → k .all ≤ 10 → Keepable ws at ms n

@@ -21,12 +21,14 @@ use Rattle.rules.specs.Symbolic.Laws.{sameAtom-sym, sameAtom-trans}
 use Rattle.terms.specs.Terms.{rowIn, countIn, rowLimit, Space, TruthRow, AtomRow, Distinct}
 use Rattle.decision.specs.Atoms.{assign, assign-respects, numberOf, number-less, number-assigns, apart-length, different-apart}
 use Rattle.decision.specs.Bits.{bit, bit-zero, some-bit, or-second-most}
-use Rattle.decision.specs.Code.{above, seenAfter, rank, words, spreadOf, numbersFrom, blocksOf, together, conditionWord, trueWord, falseWord, nonZero, searchedBy, searched, truthsOf, startMarks, marksFrom, atomsFrom, decidedAnew}
+use Rattle.decision.specs.Code.{above, seenAfter, rank, words, spreadOf, numbersFrom, blocksOf, together, conditionWord, trueWord, falseWord, nonZero, searchedBy, searched, truthsOf, startMarks, marksFrom, atomsFrom, conjunctOf, decidedAnew}
 use Rattle.decision.specs.Code.Laws.{above-first, above-second, above-within}
 use Rattle.decision.specs.Code.Loops.{together-grows}
 use Rattle.decision.specs.Code.Ordered.{numbered-rank}
+use Rattle.decision.specs.Conjuncts.{linked-branches}
 use Rattle.decision.specs.Decision.{branchesOf, decisionOf}
-use Rattle.decision.specs.declared.Decision.the-variants.{TooMany}
+use Rattle.decision.specs.declared.Decision.{Decision}
+use Rattle.decision.specs.declared.Decision.the-variants.{TooMany, OnlyTrue, OnlyFalse}
 use Rattle.decision.specs.Listed.{Counted, Listed, SomeList, some-list, list-made, rank-counted, listed-length, listed-in, listed-part, listed-apart, listed-assigns}
 use Rattle.decision.specs.Marks.{Within, part, Parts, Kept, AtLeast, Odd, kept-least, kept-odd, marked-keeps, closed-first, closed-second, parts-marked, start-length, start-parts, start-first, start-second}
 use Rattle.decision.specs.Words.{Assigned, Right, right-negation, right-conjunction, right-constant, Closed, RowOf, row-of, rows-of, Sweep, either, atom-op, rank-grows, rows-listed, rows-right}
@@ -378,19 +380,26 @@ module _ (ws : List ℕ) (c g : ℕ) (f h : Formula) (space : Space ws 0) (disti
         let m = rank-fewer ws marks 1 2 (above c g) (omega arith) in
         omega arith
 
+    abbrev searching : Decision
+    searching = searched ws marks 1 c g (blocksOf (length xs))
+
+    -- a guard that is a conjunct is not searched for
+    abbrev linking : Decision
+    linking = pick (eqb (conjunctOf ws c g) 5) OnlyTrue (pick (eqb (conjunctOf ws c g) 7) OnlyFalse searching)
+
     listed-decides : decidedAnew ws c g ≡ decisionOf f h
     unfolding decidedAnew decisionOf atomsFrom
     listed-decides = rw (sym (listed-length all), sym (listed-length own), counted all) (go (leb (length xs) 10) refl)
       where
         two : (t : Bool) → eqb (rank ws marks 3 (above c g)) 0 ≡ t → length xs ≤ 10
-            → pick t (searched ws marks 2 g g (blocksOf (length ys))) (searched ws marks 1 c g (blocksOf (length xs)))
+            → pick t (searched ws marks 2 g g (blocksOf (length ys))) linking
             ≡ branchesOf (satisfiable (conjunction f h)) (satisfiable (conjunction f (negation h)))
         two true e l = searched-alone own (few-own l) (guard-apart (eqb-true (rank ws marks 3 (above c g)) 0 e)) allowed
-        two false e l = searched-both all l
+        two false e l = linked-branches is-condition is-guard searching allowed (searched-both all l)
 
         go : (t : Bool) → leb (length xs) 10 ≡ t
             → pick (ltb 10 (length xs)) TooMany
-            (pick (eqb (rank ws marks 3 (above c g)) 0) (searched ws marks 2 g g (blocksOf (length ys))) (searched ws marks 1 c g (blocksOf (length xs))))
+            (pick (eqb (rank ws marks 3 (above c g)) 0) (searched ws marks 2 g g (blocksOf (length ys))) linking)
             ≡ pick t (branchesOf (satisfiable (conjunction f h)) (satisfiable (conjunction f (negation h)))) TooMany
         go true e = let l = leb-true (length xs) 10 e in rw (le-ltb 10 (length xs) l) (two (eqb (rank ws marks 3 (above c g)) 0) refl l)
         go false e = rw (lt-ltb 10 (length xs) (leb-false (length xs) 10 e))
