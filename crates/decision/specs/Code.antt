@@ -405,11 +405,20 @@ unfoldable pub decided : List ℕ → ℕ → ℕ → ℕ → Decision
 decided ws at c g =
     pick (eqb (getD ws at 0) 1) (pick (recalls ws at g) (compared ws at (recalled ws at) g) (decidedAnew ws c g)) (decidedAnew ws c g)
 
--- what is left of the numbers after a decision by the rows: if one branch is impossible, nothing is known where the guard was decided alone or as a
--- conjunct, and the truths of the condition are where it was not
+-- the guard is decided without the condition's truths: it shares no atom with it, or is a conjunct of it
+unfoldable pub aside : List ℕ → ℕ → ℕ → Bool
+aside ws c g = pick (eqb (atomsFrom ws c g 3) 0) true (isLink (conjunctOf ws c g))
+
+-- what is left of the numbers after a decision by the rows: if one branch is impossible, the truths of the condition are known where they were computed,
+-- and nothing is where they were not
 pub data LeftAnew (ws : List ℕ) (at c g : ℕ) (r : Decision) (left : List ℕ) : Type 0 where
   left-same : onlyOne r ≡ false → left ≡ ws → LeftAnew ws at c g r left
-  left-none : onlyOne r ≡ true → left ≡ set ws at 0 → LeftAnew ws at c g r left
-  left-kept : onlyOne r ≡ true → atomsFrom ws c g 1 ≤ 10 → (ts : List ℕ)
+  left-none : onlyOne r ≡ true → aside ws c g ≡ true → left ≡ set ws at 0 → LeftAnew ws at c g r left
+  left-kept : onlyOne r ≡ true → aside ws c g ≡ false → atomsFrom ws c g 1 ≤ 10 → (ts : List ℕ)
       → ((b : ℕ) → b < blocksOf (atomsFrom ws c g 1) → getD ts b 0 ≡ truthsOf ws (marksFrom ws c g) 1 c g b)
       → left ≡ kept ws at (marksFrom ws c g) (above c g) (blocksOf (atomsFrom ws c g 1)) ts → LeftAnew ws at c g r left
+
+-- and after any: by what is known no number changes
+pub data LeftBy (ws : List ℕ) (at c g : ℕ) (r : Decision) (left : List ℕ) : Type 0 where
+  by-known : getD ws at 0 ≡ 1 → recalls ws at g ≡ true → left ≡ ws → LeftBy ws at c g r left
+  by-rows : pick (eqb (getD ws at 0) 1) (recalls ws at g) false ≡ false → LeftAnew ws at c g r left → LeftBy ws at c g r left

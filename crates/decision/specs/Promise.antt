@@ -9,7 +9,7 @@ use lib.ListN.{length, getD}
 use Rattle.rules.specs.Satisfiable.{satisfiable}
 use Rattle.rules.specs.Symbolic.{Formula, negation, conjunction}
 use Rattle.terms.specs.Terms.{countIn, rowLimit, rowsEnd, Space, TruthRow, Distinct}
-use Rattle.decision.specs.Code.{knownSize, Sound, decided}
+use Rattle.decision.specs.Code.{knownSize, Sound, decided, LeftBy}
 use Rattle.decision.specs.Decision.{decisionOf}
 use Rattle.decision.specs.Known.{Remembers}
 use Rattle.decision.specs.declared.Decision.{Decision}
@@ -35,6 +35,7 @@ pub record Asked (ws : List ℕ) (c g : ℕ) (f h : Formula) : Type 0 where
 
 pub record Decides (ws : List ℕ) (at c g : ℕ) (r : Decision) (left : List ℕ) : Type 0 where
   pub is : r ≡ decided ws at c g
+  pub leaves : LeftBy ws at c g r left
   pub same : length left ≡ length ws
   pub before : (k : ℕ) → k < at → getD left k 0 ≡ getD ws k 0
   pub beyond : (k : ℕ) → at + knownSize ≤ k → getD left k 0 ≡ getD ws k 0

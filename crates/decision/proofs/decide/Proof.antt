@@ -3,7 +3,7 @@ use mathlib.Core.Path.{_≡_, sym, _∙_}
 use borrow.Author.Needs.{needs}
 use native.Mathlib.Omega.{arith}
 use Rattle.decision.specs.Code.{recalled, recalls}
-use Rattle.decision.specs.Code.Whole.{decided-unknown, decided-known, decided-other, numbers-known, recalls-is, guard-long, guard-rows}
+use Rattle.decision.specs.Code.Whole.{decided-unknown, decided-known, decided-other, unknown, not-recalled, numbers-known, recalls-is, guard-long, guard-rows}
 use Rattle.decision.specs.Promise.Laws.{anew-promised, known-promised}
 use Rattle.decision.proofs.decide.Statement.{statement}
 use Rattle.decision.proofs.decide.Tie as tie
@@ -24,7 +24,7 @@ known c =
 returns : tie.Need-returns
 returns c =
     let a = c .before .before .before .before .before .before .before .args in
-    anew-promised (decided-unknown (a .space .now) (a .at) (a .condition) (a .guard) (c .before .before .decide-anew .result) (c .before .before .before .before .if1 .taken) (c .before .before .decide-anew .ensures .0)) (c .before .before .before .before .before .before .before .pre) (c .before .before .decide-anew .ensures .0) (c .before .before .decide-anew .ensures .1)
+    anew-promised (decided-unknown (a .space .now) (a .at) (a .condition) (a .guard) (c .before .before .decide-anew .result) (c .before .before .before .before .if1 .taken) (c .before .before .decide-anew .ensures .0)) (c .before .before .before .before .before .before .before .pre) (unknown (a .space .now) (a .at) (a .guard) (c .before .before .before .before .if1 .taken)) (c .before .before .decide-anew .ensures .0) (c .before .before .decide-anew .ensures .1)
 
 all-numbered-requires : tie.Need-all-numbered-requires
 all-numbered-requires c κs =
@@ -59,7 +59,7 @@ returns-2 c =
 returns-3 : tie.Need-returns-3
 returns-3 c =
     let a = c .before .before .before .before .before .before .before .before .before .before .before .before .before .before .before .before .before .before .before .before .args in
-    anew-promised (decided-other (a .space .now) (a .at) (a .condition) (a .guard) (c .before .before .decide-anew2 .result) (c .before .before .before .before .before .before .before .before .before .before .before .before .before .before .before .before .before .if1 .left) (sym (known (c .before .before .before .before .before)) ∙ c .before .before .before .before .if2 .left) (c .before .before .decide-anew2 .ensures .0)) (c .before .before .before .before .before .before .before .before .before .before .before .before .before .before .before .before .before .before .before .before .pre) (c .before .before .decide-anew2 .ensures .0) (c .before .before .decide-anew2 .ensures .1)
+    anew-promised (decided-other (a .space .now) (a .at) (a .condition) (a .guard) (c .before .before .decide-anew2 .result) (c .before .before .before .before .before .before .before .before .before .before .before .before .before .before .before .before .before .if1 .left) (sym (known (c .before .before .before .before .before)) ∙ c .before .before .before .before .if2 .left) (c .before .before .decide-anew2 .ensures .0)) (c .before .before .before .before .before .before .before .before .before .before .before .before .before .before .before .before .before .before .before .before .pre) (not-recalled (a .space .now) (a .at) (a .guard) (sym (known (c .before .before .before .before .before)) ∙ c .before .before .before .before .if2 .left)) (c .before .before .decide-anew2 .ensures .0) (c .before .before .decide-anew2 .ensures .1)
 
 pub decide-spec : {M : Type 1} → statement M
 decide-spec =

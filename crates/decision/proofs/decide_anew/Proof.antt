@@ -3,7 +3,7 @@ use mathlib.Core.Path.{_≡_, refl, sym, _∙_}
 use borrow.Author.Needs.{needs}
 use native.Mathlib.Omega.{arith}
 use Rattle.decision.specs.Code.{Room, decidedAnew, left-same, left-none}
-use Rattle.decision.specs.Code.Whole.{Prepared, room-start, room-marked, room-guard, decided-many, decided-alone, decided-with, decided-without, decided-both, keepable, left-with}
+use Rattle.decision.specs.Code.Whole.{Prepared, room-start, room-marked, room-guard, decided-many, decided-alone, decided-with, decided-without, decided-both, aside-alone, aside-with, aside-without, aside-not, keepable, left-with}
 use Rattle.decision.specs.Known.{blocks-most}
 use Rattle.decision.proofs.decide_anew.Statement.{statement}
 use Rattle.decision.proofs.decide_anew.Tie as tie
@@ -54,7 +54,7 @@ slice-write-space : tie.Need-slice-write-space
 slice-write-space c = omega (arith, c .before .before .before .before .before .before .before .before .before .before .before .before .before .before .before .before .before .before .pre .lent)
 
 returns-2 : tie.Need-returns-2
-returns-2 c = (alone (c .before .before .before), left-none (sym (c .before .only-one .ensures) ∙ c .if3 .taken) refl)
+returns-2 c = (alone (c .before .before .before), left-none (sym (c .before .only-one .ensures) ∙ c .if3 .taken) (aside-alone (c .before .before .before .before .before .before .before .before .before .before .before .before .before .before .before .before .before .before .args .space .now) (c .before .before .before .before .before .before .before .before .before .before .before .before .before .before .before .before .before .before .args .condition) (c .before .before .before .before .before .before .before .before .before .before .before .before .before .before .before .before .before .before .args .guard) (parts (c .before .before .before .before .before .before .before .before .before .before .before .before .before)) (c .before .before .before .before .before .before .before .before .if2 .taken)) refl)
 
 returns-3 : tie.Need-returns-3
 returns-3 c = (alone (c .before .before .before), left-same (sym (c .before .only-one .ensures) ∙ c .if3 .left) refl)
@@ -69,7 +69,7 @@ slice-write-space-2 c = omega (arith, c .before .before .before .before .before 
 returns-4 : tie.Need-returns-4
 returns-4 c =
     let a = c .before .before .before .before .before .before .before .before .before .before .before .before .before .args in
-    (decided-with (a .space .now) (a .condition) (a .guard) (parts (c .before .before .before .before .before .before .before .before)) (c .before .conjunct .result) (c .before .before .before .before .before .if1 .left) (c .before .before .before .if2 .left) (c .before .conjunct .ensures) (c .if4 .taken), left-none refl refl)
+    (decided-with (a .space .now) (a .condition) (a .guard) (parts (c .before .before .before .before .before .before .before .before)) (c .before .conjunct .result) (c .before .before .before .before .before .if1 .left) (c .before .before .before .if2 .left) (c .before .conjunct .ensures) (c .if4 .taken), left-none refl (aside-with (a .space .now) (a .condition) (a .guard) (parts (c .before .before .before .before .before .before .before .before)) (c .before .conjunct .result) (c .before .before .before .if2 .left) (c .before .conjunct .ensures) (c .if4 .taken)) refl)
 
 slice-write-space-3 : tie.Need-slice-write-space-3
 slice-write-space-3 c = omega (arith, c .before .before .before .before .before .before .before .before .before .before .before .before .before .before .pre .lent)
@@ -78,7 +78,7 @@ slice-write-space-3 c = omega (arith, c .before .before .before .before .before 
 returns-5 : tie.Need-returns-5
 returns-5 c =
     let a = c .before .before .before .before .before .before .before .before .before .before .before .before .before .before .args in
-    (decided-without (a .space .now) (a .condition) (a .guard) (parts (c .before .before .before .before .before .before .before .before .before)) (c .before .before .conjunct .result) (c .before .before .before .before .before .before .if1 .left) (c .before .before .before .before .if2 .left) (c .before .before .conjunct .ensures) (c .if5 .taken), left-none refl refl)
+    (decided-without (a .space .now) (a .condition) (a .guard) (parts (c .before .before .before .before .before .before .before .before .before)) (c .before .before .conjunct .result) (c .before .before .before .before .before .before .if1 .left) (c .before .before .before .before .if2 .left) (c .before .before .conjunct .ensures) (c .if5 .taken), left-none refl (aside-without (a .space .now) (a .condition) (a .guard) (parts (c .before .before .before .before .before .before .before .before .before)) (c .before .before .conjunct .result) (c .before .before .before .before .if2 .left) (c .before .before .conjunct .ensures) (c .if5 .taken)) refl)
 
 search-requires-2 : tie.Need-search-requires-2
 search-requires-2 c κs =
@@ -100,7 +100,7 @@ keep-requires c κs =
 returns-6 : tie.Need-returns-6
 returns-6 c =
     let a = c .before .before .before .before .before .before .before .before .before .before .before .before .before .before .before .before .before .before .before .before .before .before .before .before .before .before .before .before .args in
-    (together (c .before .before .before .before .before .before .before .before .before), left-with (a .space .now) (a .condition) (a .guard) (parts (c .before .before .before .before .before .before .before .before .before .before .before .before .before .before .before .before .before .before .before .before .before .before .before)) (c .before .before .before .before .before .before .before .before .before .before .before .before .before .before .before .before .before .before .before .before .if1 .left) (c .before .before .before .before .before .before .before .before .before .before .before .before .before .blocks-of2 .ensures) (c .before .before .before .before .before .before .before .before .before .search2 .ensures) (sym (c .before .before .before .before .before .before .before .only-one2 .ensures) ∙ c .before .before .before .before .before .before .if6 .taken) (c .before .before .keep .ensures))
+    (together (c .before .before .before .before .before .before .before .before .before), left-with (a .space .now) (a .condition) (a .guard) (parts (c .before .before .before .before .before .before .before .before .before .before .before .before .before .before .before .before .before .before .before .before .before .before .before)) (aside-not (a .space .now) (a .condition) (a .guard) (parts (c .before .before .before .before .before .before .before .before .before .before .before .before .before .before .before .before .before .before .before .before .before .before .before)) (c .before .before .before .before .before .before .before .before .before .before .before .before .before .before .before .before .conjunct .result) (c .before .before .before .before .before .before .before .before .before .before .before .before .before .before .before .before .before .before .if2 .left) (c .before .before .before .before .before .before .before .before .before .before .before .before .before .before .before .before .conjunct .ensures) (c .before .before .before .before .before .before .before .before .before .before .before .before .before .before .before .if4 .left) (c .before .before .before .before .before .before .before .before .before .before .before .before .before .before .if5 .left)) (c .before .before .before .before .before .before .before .before .before .before .before .before .before .before .before .before .before .before .before .before .if1 .left) (c .before .before .before .before .before .before .before .before .before .before .before .before .before .blocks-of2 .ensures) (c .before .before .before .before .before .before .before .before .before .search2 .ensures) (sym (c .before .before .before .before .before .before .before .only-one2 .ensures) ∙ c .before .before .before .before .before .before .if6 .taken) (c .before .before .keep .ensures))
 
 returns-7 : tie.Need-returns-7
 returns-7 c = (together (c .before .before .before), left-same (sym (c .before .only-one2 .ensures) ∙ c .if6 .left) refl)

@@ -5,9 +5,11 @@ use mathlib.Core.Path.{_≡_, refl, sym, ap, ap₂, _∙_}
 use Prim.Native.Nat.{ℕ, _+_, _≤_, _<_}
 use borrow.Author.Tests.{lt-ltb, le-ltb, eq-eqb, ne-eqb}
 use native.Mathlib.Omega.{arith}
+use lib.Dec.{eqb}
 use lib.ListN.{length, getD, take}
+use Rattle.script.specs.Tests.{pick}
 use Rattle.terms.specs.Terms.{rowLimit, rowsEnd}
-use Rattle.decision.specs.Code.{above, Room, marked, rank, Rows, numberedTo, noNumbers, countsOf, blocksOf, searched, Searched, knownSize, knownNumbers, kept, Keepable, guardMarks, guardRows, compared, startMarks, marksFrom, atomsFrom, conjunctOf, recalled, recalls, decidedAnew, decided, LeftAnew, left-kept}
+use Rattle.decision.specs.Code.{above, Room, marked, rank, Rows, numberedTo, noNumbers, countsOf, blocksOf, searched, Searched, knownSize, knownNumbers, kept, Keepable, guardMarks, guardRows, compared, startMarks, marksFrom, atomsFrom, conjunctOf, isLink, recalled, recalls, decidedAnew, aside, decided, LeftAnew, left-kept}
 use Rattle.decision.specs.Code.Laws.{above-second, above-within, marked-length}
 use Rattle.decision.specs.Code.Ordered.{numbered-alike, taken-alike}
 use Rattle.decision.specs.Code.Searching.{rows-listed, order-long}
@@ -100,6 +102,28 @@ module _ (ws : List ℕ) (c g : ℕ) where
           e,
         )
 
+    -- whether the condition's truths were computed
+    pub aside-alone : k .shared ≡ 0 → aside ws c g ≡ true
+    unfolding aside
+    aside-alone z = let f = parts-shared in rw (eq-eqb (atomsFrom ws c g 3) 0 (omega arith)) refl
+
+    pub aside-with : (link : ℕ) → (k .shared ≡ 0 → ⊥) → link ≡ conjunctOf ws c g → link ≡ 5 → aside ws c g ≡ true
+    unfolding aside isLink
+    aside-with link z el l = let f = parts-shared in rw (ne-eqb (atomsFrom ws c g 3) 0 (λ q. z (f ∙ q)), eq-eqb (conjunctOf ws c g) 5 (sym el ∙ l)) refl
+
+    pub aside-without : (link : ℕ) → (k .shared ≡ 0 → ⊥) → link ≡ conjunctOf ws c g → link ≡ 7 → aside ws c g ≡ true
+    unfolding aside isLink
+    aside-without link z el l =
+        let f = parts-shared in
+        let m : conjunctOf ws c g ≡ 7 = sym el ∙ l in
+        rw (ne-eqb (atomsFrom ws c g 3) 0 (λ q. z (f ∙ q)), ne-eqb (conjunctOf ws c g) 5 (λ q. omega arith), eq-eqb (conjunctOf ws c g) 7 m) refl
+
+    pub aside-not : (link : ℕ) → (k .shared ≡ 0 → ⊥) → link ≡ conjunctOf ws c g → (link ≡ 5 → ⊥) → (link ≡ 7 → ⊥) → aside ws c g ≡ false
+    unfolding aside isLink
+    aside-not link z el n m =
+        let f = parts-shared in
+        rw (ne-eqb (atomsFrom ws c g 3) 0 (λ q. z (f ∙ q)), ne-eqb (conjunctOf ws c g) 5 (λ q. n (el ∙ q)), ne-eqb (conjunctOf ws c g) 7 (λ q. m (el ∙ q))) refl
+
     -- what is kept then
     pub keepable : (at : ℕ) → rowsEnd ≤ at → at + knownSize ≤ length ws → c < rowLimit → g < rowLimit → k .all ≤ 10 → Keepable ws at ms n
     unfolding countsOf
@@ -113,11 +137,11 @@ module _ (ws : List ℕ) (c g : ℕ) where
         all : Counts → ℕ
         all x = x .all
 
-    pub left-with : {at blocks : ℕ} {r : Decision} {start ts left : List ℕ} → k .all ≤ 10 → blocks ≡ blocksOf (k .all) → Searched ws ms 1 c g blocks start r ts → onlyOne r ≡ true
+    pub left-with : {at blocks : ℕ} {r : Decision} {start ts left : List ℕ} → aside ws c g ≡ false → k .all ≤ 10 → blocks ≡ blocksOf (k .all) → Searched ws ms 1 c g blocks start r ts → onlyOne r ≡ true
         → left ≡ kept ws at ms n blocks ts → LeftAnew ws at c g r left
-    left-with {ts = ts} few eb s t e =
+    left-with {ts = ts} n few eb s t e =
         let a = parts-all in
-        left-kept t (omega arith) ts (λ b h. rw parts-marks at (s .truths t b (rw (eb ∙ ap blocksOf a) h)))
+        left-kept t n (omega arith) ts (λ b h. rw parts-marks at (s .truths t b (rw (eb ∙ ap blocksOf a) h)))
         (e ∙ rw (parts-marks, p .up, eb, a) refl)
 
 pub room-marked : {ws : List ℕ} {n : ℕ} {start : List ℕ} (ms : List ℕ) → Room ws n start → ms ≡ marked ws n start → Room ws n ms
@@ -148,6 +172,17 @@ module _ (ws : List ℕ) (at c g : ℕ) (r : Decision) where
   pub decided-other : getD ws at 0 ≡ 1 → recalls ws at g ≡ false → r ≡ decidedAnew ws c g → r ≡ decided ws at c g
   unfolding decided
   decided-other o t e = rw (eq-eqb (getD ws at 0) 1 o, t) e
+
+-- it is not decided by what is known
+pub unknown : (ws : List ℕ) (at g : ℕ) → (getD ws at 0 ≡ 1 → ⊥) → pick (eqb (getD ws at 0) 1) (recalls ws at g) false ≡ false
+unknown ws at g n = rw (ne-eqb (getD ws at 0) 1 n) refl
+
+pub not-recalled : (ws : List ℕ) (at g : ℕ) → recalls ws at g ≡ false → pick (eqb (getD ws at 0) 1) (recalls ws at g) false ≡ false
+not-recalled ws at g e = go (eqb (getD ws at 0) 1)
+  where
+    go : (t : Bool) → pick t (recalls ws at g) false ≡ false
+    go true = e
+    go false = refl
 
 module _ (ws : List ℕ) (at g : ℕ) (os : List ℕ) (count : ℕ) (ns : List ℕ) (many : count ≡ length (guardRows ws g)) (rows : take count os ≡ guardRows ws g) where
   pub numbers-known : ns ≡ knownNumbers ws at noNumbers (getD ws (at + 1) 0) → ns ≡ recalled ws at

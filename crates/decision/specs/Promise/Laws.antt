@@ -4,7 +4,7 @@ use mathlib.Core.List.{List}
 use mathlib.Core.Path.{_≡_, refl, sym, ap, _∙_}
 use Prim.Native.Nat.{ℕ, _≤_, _<_}
 use native.Mathlib.Omega.{arith}
-use lib.Dec.{leb}
+use lib.Dec.{leb, eqb}
 use lib.ListN.{length, getD, set, length-set}
 use lib.Seq.{getD-set-same, getD-set-other}
 use Rattle.script.specs.Tests.{pick}
@@ -12,7 +12,7 @@ use Rattle.rules.specs.Satisfiable.{differentAtoms, satisfiable}
 use Rattle.rules.specs.Symbolic.{Formula, negation, conjunction}
 use Rattle.rules.specs.SymbolicRules.{atomLimit}
 use Rattle.terms.specs.Terms.{countIn, rowLimit}
-use Rattle.decision.specs.Code.{above, blocksOf, truthsOf, marksFrom, atomsFrom, kept, Keepable, compared, recalled, recalls, decidedAnew, decided, LeftAnew, left-same, left-none, left-kept}
+use Rattle.decision.specs.Code.{above, blocksOf, truthsOf, marksFrom, atomsFrom, kept, Keepable, compared, recalled, recalls, decidedAnew, decided, LeftAnew, left-same, left-none, left-kept, LeftBy, by-known, by-rows}
 use Rattle.decision.specs.Code.Laws.{above-within, marked-length}
 use Rattle.decision.specs.Decision.{branchesOf, onlyOne, decisionOf}
 use Rattle.decision.specs.Decision.Laws.{decides, truths}
@@ -65,10 +65,11 @@ not-then : {r s : Decision} {b c : Bool} → r ≡ s → onlyOne r ≡ b → onl
 not-then q e f n = n (sym e ∙ ap onlyOne q ∙ f)
 
 module _ {ws : List ℕ} {at c g : ℕ} {r : Decision} (anew : r ≡ decided ws at c g) where
-  same-decides : onlyOne r ≡ false → r ≡ decidedAnew ws c g → Decides ws at c g r ws
-  same-decides t e =
+  same-decides : LeftBy ws at c g r ws → onlyOne r ≡ false → r ≡ decidedAnew ws c g → Decides ws at c g r ws
+  same-decides b t e =
       record {
         is = anew;
+        leaves = b;
         same = refl;
         before = λ k l. refl;
         beyond = λ k l. refl;
@@ -79,10 +80,11 @@ module _ {ws : List ℕ} {at c g : ℕ} {r : Decision} (anew : r ≡ decided ws 
         without-guard = λ f h a m q. absurd (not-then q t refl false≢true);
       }
 
-  none-decides : Decidable ws at c g → onlyOne r ≡ true → r ≡ decidedAnew ws c g → Decides ws at c g r (set ws at 0)
-  none-decides d t e =
+  none-decides : LeftBy ws at c g r (set ws at 0) → Decidable ws at c g → onlyOne r ≡ true → r ≡ decidedAnew ws c g → Decides ws at c g r (set ws at 0)
+  none-decides b d t e =
       record {
         is = anew;
+        leaves = b;
         same = length-set ws at 0;
         before = λ k h. getD-set-other ws at k 0 0 (λ q. omega arith);
         beyond = λ k h. getD-set-other ws at k 0 0 (λ q. omega arith);
@@ -120,10 +122,11 @@ module _ {ws : List ℕ} {at c g : ℕ} {r : Decision} (anew : r ≡ decided ws 
         kept-known able blocks most ts (omega arith) (above-within c g (countIn ws) (a .low) (a .high)) (a .distinct) (t .listed) f h (ap blocksOf (sym l))
         (t .condition) (t .guard) (λ b h. rw (right b h) (t .right b))
 
-    kept-decides : onlyOne r ≡ true → r ≡ decidedAnew ws c g → Decides ws at c g r left
-    kept-decides t e =
+    kept-decides : LeftBy ws at c g r left → onlyOne r ≡ true → r ≡ decidedAnew ws c g → Decides ws at c g r left
+    kept-decides b t e =
         record {
           is = anew;
+          leaves = b;
           same = kept-length able blocks most ts;
           before = kept-before able blocks most ts;
           beyond = kept-beyond able blocks most ts;
@@ -136,16 +139,18 @@ module _ {ws : List ℕ} {at c g : ℕ} {r : Decision} (anew : r ≡ decided ws 
 
   -- ---- the promise
 
-  pub anew-promised : {left : List ℕ} → Decidable ws at c g → r ≡ decidedAnew ws c g → LeftAnew ws at c g r left → Decides ws at c g r left
-  anew-promised d e (left-same t l) = rw l (same-decides t e)
-  anew-promised d e (left-none t l) = rw l (none-decides d t e)
-  anew-promised d e (left-kept t few ts right l) = rw l (kept-decides d few ts right t e)
+  pub anew-promised : {left : List ℕ} → Decidable ws at c g → pick (eqb (getD ws at 0) 1) (recalls ws at g) false ≡ false → r ≡ decidedAnew ws c g
+      → LeftAnew ws at c g r left → Decides ws at c g r left
+  anew-promised d b e (left-same t l) = rw l (same-decides (by-rows b (left-same t refl)) t e)
+  anew-promised d b e (left-none t n l) = rw l (none-decides (by-rows b (left-none t n refl)) d t e)
+  anew-promised d b e (left-kept t n few ts right l) = rw l (kept-decides d few ts right (by-rows b (left-kept t n few ts right refl)) t e)
 
   -- by what is known: no number changes
   pub known-promised : Decidable ws at c g → getD ws at 0 ≡ 1 → recalls ws at g ≡ true → r ≡ compared ws at (recalled ws at) g → Decides ws at c g r ws
   known-promised d o all e =
       record {
         is = anew;
+        leaves = by-known o all refl;
         same = refl;
         before = λ k l. refl;
         beyond = λ k l. refl;
