@@ -17,13 +17,12 @@ use Rattle.rules.specs.Satisfiable.{holds, atomsOf, among}
 use Rattle.rules.specs.Satisfiable.Laws.{among-same, among-append}
 use Rattle.rules.specs.Symbolic.Laws.{sameAtom-trans}
 use Rattle.rules.specs.Symbolic.{Atom, Formula, constantly, atom, negation, conjunction, equality, sameAtom}
-use Rattle.terms.specs.Terms.{rowIn, countIn, bitOf, TruthRow, constantRow, atomRow, negationRow, conjunctionRow, equalityRow, exclusionRow, AtomRow, truthSymbolRow, pairRow, differenceRow, Distinct}
+use Rattle.terms.specs.Terms.{rowIn, bitOf, TruthRow, constantRow, atomRow, negationRow, conjunctionRow, equalityRow, exclusionRow, AtomRow, truthSymbolRow, pairRow, differenceRow}
 use Rattle.terms.specs.declared.Row.{Row}
 use Rattle.decision.specs.Atoms.{assign, assign-respects}
 use Rattle.decision.specs.Bits.{bit, bit-and, bit-xor, bit-not}
 use Rattle.decision.specs.Code.{ones, spreadOf, patternOf, rank, rowWord, wordOf, words}
 use Rattle.decision.specs.Code.Laws.{seen-grows, words-length}
-use Rattle.decision.specs.Listed.{Counted, Listed, rank-counted, listed-in, listed-assigns}
 use Rattle.decision.specs.Marks.{Operand, AtLeast}
 use Rattle.decision.specs.Patterns.{pattern-bit, pattern-small, spread-bit, spread-small}
 

@@ -4,7 +4,7 @@ ghost use mathlib.Core.Path.{_≡_};
 ghost use Prim.Native.Nat.{_+_, _*_, _≤_, _<_};
 ghost use lib.ListN.{length, getD};
 ghost use Rattle.terms.specs.Terms.{rowIn, rowLimit, rowsEnd};
-ghost use Rattle.decision.specs.Code.{Room, Rows, seenAfter, rank, knownSize, knownWord, knownNumbers, Sound, keepRow, Keepable, keptRows, keepWord, keptWords, kept, guardRows, GuardListed, guardedWord, guardedWords, Comparable, compared};
+ghost use Rattle.decision.specs.Code.{Rows, seenAfter, rank, knownSize, knownWord, knownNumbers, Sound, keepRow, Keepable, keptRows, keepWord, keptWords, kept, GuardListed, guardedWord, guardedWords, Comparable, compared};
 use crate::CONDITION;
 use crate::Decision;
 use crate::blocks_of;

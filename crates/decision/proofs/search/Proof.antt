@@ -1,6 +1,6 @@
 -- `decision::search` meets its contract. The loop's invariant: `yes` and `no` are what the blocks before this one have, and so are the truths.
 -- Assumes nothing.
-use mathlib.Core.Path.{_≡_, refl, sym, ap, _∙_}
+use mathlib.Core.Path.{refl, sym, _∙_}
 use borrow.Author.Needs.{needs}
 use Prim.Native.Nat.{_-_}
 use native.Mathlib.Omega.{arith}

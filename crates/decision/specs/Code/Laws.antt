@@ -10,12 +10,11 @@ use native.Mathlib.Omega.{arith}
 use lib.Bits.{bitOr}
 use lib.Dec.{leb, ltb, eqb}
 use lib.ListN.{length, getD, take, set, length-set, length-append, length-take, List·getD-eq-default}
-use lib.Seq.{take-suc-set}
 use Rattle.script.specs.Tests.{pick}
 use Rattle.terms.specs.Terms.{rowIn}
 use Rattle.terms.specs.declared.Row.{Row}
 use Rattle.decision.specs.declared.Counts.{Counts}
-use Rattle.decision.specs.Code.{above, Room, operandBelow, reached, markRow, marked, seenAfter, rank, tally, Visited, spreadOf, patternOf, rowWord, wordOf, words}
+use Rattle.decision.specs.Code.{above, Room, operandBelow, reached, markRow, marked, seenAfter, rank, tally, Visited, spreadOf, patternOf, wordOf, words}
 
 -- ---- above
 
@@ -121,10 +120,6 @@ pub rank-none : (ws ms : List ℕ) (least : ℕ) → rank ws ms least 0 ≡ 0
 unfolding rank
 rank-none ws ms least = refl
 
-pub rank-on : (ws ms : List ℕ) (least i : ℕ) → rank ws ms least (i + 1) ≡ seenAfter (rowIn ws i .op) (getD ms i 0) least (rank ws ms least i)
-unfolding rank
-rank-on ws ms least i = rw (add-one i)
-
 module _ (op mark least : ℕ) where
   -- counted before or after is the same
   pub seen-sum : (a b : ℕ) → seenAfter op mark least a + b ≡ a + seenAfter op mark least b
@@ -204,12 +199,6 @@ module _ {ws ms : List ℕ} (i : ℕ) (k : Counts) where
         counts = tally-other (r .op) (getD ms i 0) k h ∙ ap (λ (q : Row). tally (q .op) (getD ms i 0) k) e;
         marks = eo ∙ ap (λ (q : Row). markRow ms q i) e;
       }
-
-pub room-below : {ws ms : List ℕ} {n : ℕ} (i : ℕ) → Room ws n ms → i < n → Room ws (i + 1) ms
-room-below i r h =
-    let f = r .few in
-    let m = r .marks in
-    record { lent = r .lent; few = omega arith; marks = omega arith }
 
 -- ---- words
 

@@ -8,16 +8,14 @@ use native.Mathlib.Decide.{le-ind}
 use native.Mathlib.Nat.{zero-add}
 use native.Mathlib.Numerals.{add-one}
 use native.Mathlib.Omega.{arith}
-use lib.Bits.{bitAnd, bitOr}
+use lib.Bits.{bitOr}
 use lib.Dec.{eqb}
-use lib.ListN.{length, getD, take, length-set}
-use lib.Seq.{getD-take}
-use Rattle.script.specs.Tests.{pick}
+use lib.ListN.{length, getD}
 use Rattle.script.specs.Tests.Laws.{both-true}
 use Rattle.terms.specs.Terms.{rowIn, rowLimit}
 use Rattle.decision.specs.Bits.{or-first-most}
-use Rattle.decision.specs.Code.{above, Room, markRow, marked, seenAfter, rank, tally, countsOf, Low, Visited, together, nonZero}
-use Rattle.decision.specs.Code.Laws.{above-first, above-second, markRow-length, marked-none, marked-on, rank-none, rank-on, seen-sum, seen-most}
+use Rattle.decision.specs.Code.{Room, markRow, marked, seenAfter, rank, tally, countsOf, Low, Visited, together, nonZero}
+use Rattle.decision.specs.Code.Laws.{markRow-length, marked-none, marked-on, rank-none, seen-sum, seen-most}
 use Rattle.decision.specs.Decision.{branchesOf}
 use Rattle.decision.specs.Marks.{row-above, marked-above}
 use Rattle.decision.specs.declared.Counts.{Counts}

@@ -5,15 +5,13 @@ use mathlib.Core.Path.{_≡_, refl, sym, ap, ap₂, _∙_}
 use Prim.Native.Nat.{ℕ, zero, suc, _+_, _≤_, _<_}
 use borrow.Author.Tests.{ltb-true, ltb-false, lt-ltb, le-ltb}
 use native.Mathlib.Decide.{ℕ-discrete}
-use native.Mathlib.Numerals.{add-one}
 use native.Mathlib.Omega.{arith}
 use lib.Dec.{ltb}
-use lib.ListN.{length, getD, take, set, length-set, length-append, length-replicate, replicate, List·getD-append}
+use lib.ListN.{length, getD, take, set, length-set, length-append, length-replicate, List·getD-append}
 use lib.Seq.{take-suc, take-suc-set, take-set-le, getD-take, getD-at, getD-set-same, getD-set-other}
 use Rattle.script.specs.Tests.{pick}
 use Rattle.terms.specs.Terms.{rowIn, rowLimit}
-use Rattle.decision.specs.Code.{seenAfter, rank, rowWord, wordOf, words, rowsFrom, seenAt, seenTo, numberRow, numbersTo, isNumbered, numberedTo, noNumbers, numbersFrom, evaluateRow, evaluatedTo, changeRow, changedTo}
-use Rattle.decision.specs.Code.Laws.{words-length}
+use Rattle.decision.specs.Code.{seenAfter, rank, words, rowsFrom, seenAt, seenTo, numberRow, numbersTo, numberedTo, noNumbers, numbersFrom, evaluateRow, evaluatedTo, changeRow, changedTo}
 
 -- ---- the first rows alone count
 

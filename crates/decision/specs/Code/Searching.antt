@@ -2,23 +2,23 @@
 use mathlib.Core.Bool.{Bool, true, false, _&&_, false≢true}
 use mathlib.Core.List.{List}
 use mathlib.Core.Path.{_≡_, refl, sym, ap, ap₂, _∙_}
-use Prim.Native.Nat.{ℕ, zero, suc, _+_, _-_, _≤_, _<_}
-use borrow.Author.Tests.{lt-ltb, eqb-true, eqb-false}
+use Prim.Native.Nat.{ℕ, _+_, _-_, _≤_, _<_}
+use borrow.Author.Tests.{eqb-true}
 use native.Mathlib.Decide.{ℕ-discrete}
 use native.Mathlib.Omega.{arith}
 use lib.Bits.{bitAnd, bitOr, and-zero-l}
-use lib.Dec.{ltb, eqb}
-use lib.ListN.{length, getD, take, set, length-set, replicate, length-replicate, getD-replicate}
+use lib.Dec.{eqb}
+use lib.ListN.{length, getD, take, set, length-set, replicate, length-replicate}
 use lib.Seq.{take-length, getD-set-same, getD-set-other}
 use Rattle.script.specs.Rows.Laws.{same-anywhere}
 use Rattle.script.specs.Tests.{pick}
-use Rattle.terms.specs.Terms.{rowIn, rowLimit, rowsEnd}
-use Rattle.decision.specs.Code.{above, Room, wordOf, words, rowsFrom, Listable, Lists, Rows, numbersTo, noNumbers, numbersFrom, evaluatedTo, changedTo, changesOf, ones, blocksOf, together, conditionWord, trueWord, falseWord, nonZero, searchedBy, searched, truthsOf, Searchable, Searched, knownWord, guardMarks, guardRows, guardedWords, guardedWord, withKnown, withoutKnown, compared, Comparable}
-use Rattle.decision.specs.Code.Laws.{above-first, above-second, above-within}
+use Rattle.terms.specs.Terms.{rowLimit, rowsEnd}
+use Rattle.decision.specs.Code.{above, words, rowsFrom, Rows, numbersTo, noNumbers, numbersFrom, evaluatedTo, changedTo, changesOf, ones, blocksOf, conditionWord, trueWord, falseWord, nonZero, searchedBy, searched, truthsOf, Searchable, Searched, knownWord, guardMarks, guardRows, guardedWords, guardedWord, withKnown, withoutKnown, compared, Comparable}
+use Rattle.decision.specs.Code.Laws.{above-first, above-second}
 use Rattle.decision.specs.Code.Loops.{Searching, searching, searching-on, searching-both, searching-end}
 use Rattle.decision.specs.Code.Ordered.{numbers-alike, evaluated-alike, changed-alike, taken-alike, rows-few, rows-below}
 use Rattle.decision.specs.Code.Steady.{Steadily, first-steadily, first-length, later-words, later-length, later-steadily}
-use Rattle.decision.specs.Decision.{branchesOf, onlyOne}
+use Rattle.decision.specs.Decision.{branchesOf}
 use Rattle.decision.specs.declared.Decision.{Decision}
 use Rattle.decision.specs.declared.Decision.the-variants.{Both}
 

@@ -3,9 +3,9 @@
 use mathlib.Core.Bool.{Bool, true, false, not, _&&_, false≢true}
 use mathlib.Core.List.{List}
 use mathlib.Core.Logic.{_⊎_, inl, inr}
-use mathlib.Core.Path.{_≡_, refl, sym, ap, ap₂, _∙_}
+use mathlib.Core.Path.{_≡_, refl, sym, ap, _∙_}
 use Prim.Native.Nat.{ℕ, zero, suc, _+_, _*_, _/_, _%_, _≤_, _<_}
-use borrow.Author.Tests.{ltb-true, ltb-false, lt-ltb, le-ltb}
+use borrow.Author.Tests.{ltb-true, ltb-false, le-ltb}
 use native.Mathlib.Decide.{ℕ-discrete}
 use native.Mathlib.Omega.{arith}
 use lib.Dec.{ltb}
@@ -15,15 +15,16 @@ use Rattle.script.specs.Tests.{pick}
 use Rattle.rules.specs.Satisfiable.{holds, atomsOf, among, satisfiable}
 use Rattle.rules.specs.Satisfiable.Laws.{satisfiable-if}
 use Rattle.rules.specs.Symbolic.{Atom, Formula, negation, conjunction}
-use Rattle.terms.specs.Terms.{rowIn, countIn, rowLimit, rowsEnd, AtomRow, Distinct, Grown}
+use Rattle.terms.specs.Terms.{rowIn, countIn, rowLimit, AtomRow, Distinct, Grown}
 use Rattle.terms.specs.Terms.Laws.{atom-kept}
 use Rattle.decision.specs.Atoms.{assign, assign-respects}
 use Rattle.decision.specs.Bits.{bit}
 use Rattle.decision.specs.Code.{rank, blocksOf, knownSize, knownRow, knownWord, keepRow, keptRows, keepWord, keptWords, kept, Keepable}
+use Rattle.decision.specs.Code.Leaves.{keptRows-length, keptRows-low, keptWords-length}
 use Rattle.decision.specs.Decision.Laws.{with-atoms, without-atoms}
 use Rattle.decision.specs.Known.{Numbered, Known, KnownOver}
 use Rattle.decision.specs.Listed.{Counted, Listed, listed-none, listed-skip, listed-more, rank-counted, listed-length, listed-in, listed-assigns}
-use Rattle.decision.specs.Words.{Assigned, Right, rank-grows}
+use Rattle.decision.specs.Words.{Right, rank-grows}
 
 -- ---- the rows
 
@@ -41,20 +42,6 @@ module _ {ws : List ℕ} {at : ℕ} {ms : List ℕ} {n : ℕ} (k : Keepable ws a
   abbrev after : ℕ → List ℕ
   after i = keptRows ws at ms i
 
-  one-length : (vs : List ℕ) (mark i count : ℕ) → length (keepRow vs at mark i count) ≡ length vs
-  unfolding keepRow
-  one-length vs mark i count = go (ltb mark 1) (ltb (rowIn vs i .op) 8)
-    where
-      go : (t u : Bool) → length (pick t vs (pick u vs (set vs (at + 2 + count) i))) ≡ length vs
-      go true u = refl
-      go false true = refl
-      go false false = length-set vs (at + 2 + count) i
-
-  after-length : (i : ℕ) → length (after i) ≡ length ws
-  unfolding keptRows
-  after-length zero = refl
-  after-length (suc i) = one-length (after i) (getD ms i 0) i (rank ws ms 1 i) ∙ after-length i
-
   one-other : (vs : List ℕ) (mark i count p : ℕ) → (p ≡ at + 2 + count → ⊥) → getD (keepRow vs at mark i count) p 0 ≡ getD vs p 0
   unfolding keepRow
   one-other vs mark i count p h = go (ltb mark 1) (ltb (rowIn vs i .op) 8)
@@ -64,14 +51,8 @@ module _ {ws : List ℕ} {at : ℕ} {ms : List ℕ} {n : ℕ} (k : Keepable ws a
       go false true = refl
       go false false = getD-set-other vs (at + 2 + count) p i 0 h
 
-  -- numbers before and behind the places of the rows are as they were
-  after-before : (i p : ℕ) → p < at + 2 → getD (after i) p 0 ≡ getD ws p 0
-  unfolding keptRows
-  after-before zero p h = refl
-  after-before (suc i) p h = one-other (after i) (getD ms i 0) i (rank ws ms 1 i) p (λ e. omega arith) ∙ after-before i p h
-
   after-op : (i q : ℕ) → q < rowLimit → rowIn (after i) q .op ≡ rowIn ws q .op
-  after-op i q h = let b = k .behind in after-before i (289 + 3 * q) (omega arith)
+  after-op i q h = let b = k .behind in keptRows-low ws at ms i (289 + 3 * q) (omega arith)
 
   -- of a row that is no atom with a mark nothing is kept
   counted-or : (i : ℕ) → i < rowLimit → (Counted ws ms 1 i → ⊥) → after (suc i) ≡ after i
@@ -112,7 +93,7 @@ module _ {ws : List ℕ} {at : ℕ} {ms : List ℕ} {n : ℕ} (k : Keepable ws a
       go (yes e) (inl d) ih = absurd (d (rw e at c))
       go (yes e) (inr d) ih =
           let f = few-before i l d in
-          let m = after-length i in
+          let m = keptRows-length ws at ms i in
           let b = k .lent in
           rw e (ap (λ (v : List ℕ). getD v (at + 2 + rank ws ms 1 i) 0) (counted-kept i r d) ∙ getD-set-same (after i) (at + 2 + rank ws ms 1 i) i 0 (omega arith))
       go (no e) (inl d) ih = ap (λ (v : List ℕ). getD v (at + 2 + rank ws ms 1 q) 0) (counted-or i r d) ∙ ih (omega arith)
@@ -125,6 +106,12 @@ module _ {ws : List ℕ} {at : ℕ} {ms : List ℕ} {n : ℕ} (k : Keepable ws a
   none-kept : after 0 ≡ ws
   unfolding keptRows
   none-kept = refl
+
+  -- the numbers beside the rows of the atoms are as they were
+  after-before : (i p : ℕ) → p < at + 2 → getD (after i) p 0 ≡ getD ws p 0
+  unfolding keptRows
+  after-before zero p h = refl
+  after-before (suc i) p h = one-other (after i) (getD ms i 0) i (rank ws ms 1 i) p (λ e. omega arith) ∙ after-before i p h
 
   after-behind : (i p : ℕ) → i ≤ n → at + 12 ≤ p → getD (after i) p 0 ≡ getD ws p 0
   after-behind zero p l h = ap (λ (v : List ℕ). getD v p 0) none-kept
@@ -145,13 +132,6 @@ module _ (vs : List ℕ) (at : ℕ) (ts : List ℕ) where
   abbrev stored : ℕ → List ℕ
   stored b = keptWords vs at ts b
 
-  stored-length : (b : ℕ) → length (stored b) ≡ length vs
-  unfolding keptWords keepWord
-  stored-length zero = refl
-  stored-length (suc b) =
-      length-set (set (stored b) (at + 12 + 2 * b) (getD ts b 0 % 4294967296)) (at + 12 + 2 * b + 1) (getD ts b 0 / 4294967296)
-      ∙ length-set (stored b) (at + 12 + 2 * b) (getD ts b 0 % 4294967296) ∙ stored-length b
-
   one-stored : (b p : ℕ) → (p ≡ at + 12 + 2 * b → ⊥) → (p ≡ at + 12 + 2 * b + 1 → ⊥) → getD (stored (suc b)) p 0 ≡ getD (stored b) p 0
   unfolding keptWords keepWord
   one-stored b p h i =
@@ -171,14 +151,14 @@ module _ (vs : List ℕ) (at : ℕ) (ts : List ℕ) where
   low-stored : (b : ℕ) → at + 12 + 2 * b + 1 < length vs → getD (stored (suc b)) (at + 12 + 2 * b) 0 ≡ getD ts b 0 % 4294967296
   unfolding keptWords keepWord
   low-stored b l =
-      let n = stored-length b in
+      let n = keptWords-length vs at ts b in
       getD-set-other (set (stored b) (at + 12 + 2 * b) (getD ts b 0 % 4294967296)) (at + 12 + 2 * b + 1) (at + 12 + 2 * b) (getD ts b 0 / 4294967296) 0 (λ e. omega arith)
       ∙ getD-set-same (stored b) (at + 12 + 2 * b) (getD ts b 0 % 4294967296) 0 (omega arith)
 
   high-stored : (b : ℕ) → at + 12 + 2 * b + 1 < length vs → getD (stored (suc b)) (at + 12 + 2 * b + 1) 0 ≡ getD ts b 0 / 4294967296
   unfolding keptWords keepWord
   high-stored b l =
-      let n = stored-length b in
+      let n = keptWords-length vs at ts b in
       let m = length-set (stored b) (at + 12 + 2 * b) (getD ts b 0 % 4294967296) in
       getD-set-same (set (stored b) (at + 12 + 2 * b) (getD ts b 0 % 4294967296)) (at + 12 + 2 * b + 1) (getD ts b 0 / 4294967296) 0 (omega arith)
 
@@ -234,7 +214,7 @@ module _ {ws : List ℕ} {at : ℕ} {ms : List ℕ} {n : ℕ} (k : Keepable ws a
   left = kept ws at ms n blocks ts
 
   worded-length : length worded ≡ length ws
-  worded-length = stored-length rowed at ts blocks ∙ after-length k n
+  worded-length = keptWords-length rowed at ts blocks ∙ keptRows-length ws at ms n
 
   pub kept-length : length left ≡ length ws
   unfolding kept
@@ -268,7 +248,7 @@ module _ {ws : List ℕ} {at : ℕ} {ms : List ℕ} {n : ℕ} (k : Keepable ws a
   kept-word : (b : ℕ) → b < blocks → knownWord left at b ≡ getD ts b 0
   kept-word b h =
       let l = k .lent in
-      let w = after-length k n in
+      let w = keptRows-length ws at ms n in
       let x = kept-other (at + 12 + 2 * b) (λ e. omega arith) (λ e. omega arith) ∙ stored-low rowed at ts blocks b h (omega arith) in
       let y = kept-other (at + 12 + 2 * b + 1) (λ e. omega arith) (λ e. omega arith) ∙ stored-high rowed at ts blocks b h (omega arith) in
       rw (x, y) (whole (getD ts b 0))

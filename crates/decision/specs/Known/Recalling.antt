@@ -1,30 +1,28 @@
 -- A guard whose atoms are all known is decided by what is known. Assumes nothing.
-use mathlib.Core.Bool.{Bool, true, false, _&&_, not, false≢true}
+use mathlib.Core.Bool.{Bool, true, false, false≢true}
 use mathlib.Core.List.{List, [], _∷_, _++_}
 use mathlib.Core.Logic.{_⊎_, inl, inr}
-use mathlib.Core.Path.{_≡_, refl, sym, ap, ap₂, _∙_}
+use mathlib.Core.Path.{_≡_, refl, sym, ap₂, _∙_}
 use Prim.Native.Nat.{ℕ, zero, suc, _+_, _≤_, _<_}
-use borrow.Author.Tests.{ltb-true, ltb-false, lt-ltb, le-ltb, le-leb, leb-true}
+use borrow.Author.Tests.{ltb-true, ltb-false, le-ltb, le-leb}
 use native.Mathlib.Decide.{ℕ-discrete}
-use native.Mathlib.Numerals.{add-one}
 use native.Mathlib.Omega.{arith}
-use lib.Dec.{leb, ltb}
+use lib.Dec.{ltb}
 use lib.ListN.{length, getD, set, length-set, length-append, replicate, length-replicate, getD-replicate, List·getD-append}
 use lib.Seq.{getD-at, getD-set-same, getD-set-other}
 use Rattle.script.specs.Tests.{pick}
-use Rattle.rules.specs.Satisfiable.{holds, atomsOf, among, differentAtoms, satisfiable}
+use Rattle.rules.specs.Satisfiable.{atomsOf, among, differentAtoms, satisfiable}
 use Rattle.rules.specs.Satisfiable.Laws.{among-different}
 use Rattle.rules.specs.Symbolic.{Atom, Formula, negation, conjunction}
-use Rattle.terms.specs.Terms.{rowIn, countIn, rowLimit, Space, TruthRow, AtomRow}
+use Rattle.terms.specs.Terms.{rowIn, rowLimit, TruthRow, AtomRow}
 use Rattle.decision.specs.Atoms.{atom-one, apart-fits, different-apart}
-use Rattle.decision.specs.Code.{marked, words, rowsFrom, isNumbered, numberedTo, noNumbers, blocksOf, knownRow, knownNumbers, guardMarks, guardRows, withKnown, withoutKnown, compared, recalled, recalls}
+use Rattle.decision.specs.Code.{words, rowsFrom, isNumbered, numberedTo, noNumbers, knownRow, knownNumbers, guardMarks, guardRows, withKnown, withoutKnown, compared, recalled, recalls}
 use Rattle.decision.specs.Code.Ordered.{rows-skip, rows-more}
 use Rattle.decision.specs.Decision.{branchesOf, decisionOf}
 use Rattle.decision.specs.Decision.Laws.{found-is, with-atoms, without-atoms}
 use Rattle.decision.specs.Known.{Numbered, Known}
 use Rattle.decision.specs.Marks.{kept-least, marked-keeps, closed-first, closed-second}
 use Rattle.decision.specs.Words.{Assigned, Right, right-negation, right-conjunction, Sweep, atom-op, rows-listed, rows-right}
-use Rattle.decision.specs.declared.Decision.the-variants.{TooMany}
 
 -- ---- a row that has the mark is among the rows in order
 

@@ -1,5 +1,5 @@
 -- `decision::known::compare` meets its contract. The loop's invariant: `yes` and `no` are what the blocks before this one have. Assumes nothing.
-use mathlib.Core.Path.{refl, sym, _∙_}
+use mathlib.Core.Path.{sym}
 use borrow.Author.Needs.{needs}
 use Prim.Native.Nat.{_+_, _-_}
 use native.Mathlib.Omega.{arith}

@@ -1,5 +1,4 @@
 -- `decision::rows::change_of` meets its contract: by the tests. Assumes nothing.
-use borrow.Author.Needs.{needs}
 use borrow.Author.Tests.{lt-ltb, le-ltb}
 use Rattle.decision.specs.Code.{changeOf}
 use Rattle.decision.proofs.rows.change_of.Statement.{statement}
