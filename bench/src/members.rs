@@ -127,20 +127,46 @@ pub fn nests(blocks: usize) -> Vec<Nest> {
 #[cfg(test)]
 mod tests {
     use super::*;
+    use crate::mutation::mutated;
     use conformance::library;
+    use conformance::random::Random;
 
     #[test]
-    fn small_ones_are_accepted() {
+    fn small_ones_are_accepted_by_both_programs() {
         let small = families()
             .into_iter()
             .filter(|candidate| candidate.tree.typed_work() < 20_000);
         let mut tried = 0;
         for candidate in small {
-            let answer = library::check(&candidate.text());
+            let text = candidate.text();
+            let answer = library::check(&text);
             assert!(answer.is_ok(), "{}: {answer:?}", candidate.from);
+            assert_eq!(answer, reference::check_text(&text), "{}", candidate.from);
             tried += 1;
         }
         assert!(tried > 300, "{tried}");
+    }
+
+    #[test]
+    fn changed_ones_with_one_block_have_the_answer_of_the_reference() {
+        let members: Vec<Candidate> = families()
+            .into_iter()
+            .filter(|candidate| candidate.blocks() == 1)
+            .collect();
+        let mut random = Random::new(1, 1);
+        let mut accepted = 0;
+        for (k, member) in members.iter().enumerate() {
+            let other = &members[(7 * k + 1) % members.len()];
+            for _ in 0..10 {
+                let changed = mutated(member, other, &mut random);
+                let text = changed.text();
+                let answer = library::check(&text);
+                let shown = String::from_utf8_lossy(&text);
+                assert_eq!(answer, reference::check_text(&text), "{shown}");
+                accepted += usize::from(answer.is_ok());
+            }
+        }
+        assert!(accepted > 500, "{accepted}");
     }
 
     #[test]

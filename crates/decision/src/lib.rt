@@ -1,6 +1,7 @@
 // The decision at an `if`: which branches some assignment of the atoms allows. First the rows that the condition and the guard reach are marked, and the
 // atoms among them counted. Then the rows are computed for 64 assignments at a time, one bit each. A guard that shares no atom with the condition is
-// decided alone: the condition of a path is satisfiable. What was found out of the condition is known when the next guard comes.
+// decided alone: the condition of a path is satisfiable. One that is a conjunct of the condition needs no search. What was found out of the condition is
+// known when the next guard comes.
 ghost use mathlib.Core.Bool.{_&&_};
 ghost use mathlib.Core.Path.{_≡_};
 ghost use Prim.Native.Nat.{_+_, _<_, _≤_};
