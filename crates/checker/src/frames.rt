@@ -6,6 +6,7 @@ ghost use lib.ListN.{length, set};
 ghost use Rattle.checker.specs.Code.Frames.{frameIn, upOf, framesEnd, Waitable, Waits, frameAt, waitsFor, Descends, Descendable};
 use script::Script;
 use script::table::LEAVES;
+use script::table::TYPED;
 use script::table::node_at;
 
 // Where the number of the frame stands that the next value goes to, 0 if it goes to none.
@@ -64,24 +65,24 @@ pub fn leave(frames: &mut [u32]) -> Frame
     frame
 }
 
-// Whether a node waits for its first operand: one that has such, and is no block of this kind.
-fn waits(kind: u32, block: u32) -> bool
-    ensures { λ r. ⌜ r ≡ waitsFor kind block ⌝ }
+// Whether a node waits for its first operand: one that has such, and is no typed block.
+fn waits(kind: u32) -> bool
+    ensures { λ r. ⌜ r ≡ waitsFor kind ⌝ }
 {
     if kind < LEAVES {
         return false;
     }
-    kind != block
+    kind != TYPED
 }
 
 // Node m, its first operand, that one's first and so on wait, down to one that need not. Answers that one.
-pub fn descend(table: &[u32], frames: &mut [u32], m: u32, block: u32) -> u32
+pub fn descend(table: &[u32], frames: &mut [u32], m: u32) -> u32
     requires { ⌜ Descendable (now table) (now frames) m ⌝ }
-    ensures { λ r. ⌜ Descends (now (table .entry)) block (now (frames .entry)) m r (now (frames .exit)) ⌝ }
+    ensures { λ r. ⌜ Descends (now (table .entry)) (now (frames .entry)) m r (now (frames .exit)) ⌝ }
 {
     let mut n = m;
     let mut node = node_at(table, n as usize);
-    while waits(node.kind, block) {
+    while waits(node.kind) {
         wait(frames, n, 0, 0, 0);
         n = node.a;
         node = node_at(table, n as usize);

@@ -103,7 +103,7 @@ fn walk(
 {
     let mut next = m;
     loop {
-        let inner = descend(table, frames, next, TYPED);
+        let inner = descend(table, frames, next);
         match arrive(table, space, frames, limit, inner) {
             Move::Stopped(why) => return Walked::Wrong(why),
             Move::Value(u, _) => return path_end(table, space, frames, n, u, first, wanted),
@@ -241,7 +241,7 @@ fn block_up(table: &[u32], space: &mut [u32], frames: &mut [u32], limit: u32, n:
 // A node on a path that waits for no operand: a leaf or a typed block.
 fn arrive(table: &[u32], space: &mut [u32], frames: &mut [u32], limit: u32, n: u32) -> Move
     requires { ⌜ Enterable limit (now table) (now space) (now frames) n ⌝ }
-    requires { ⌜ waitsFor (nodeIn (now table) n .kind) 13 ≡ false ⌝ }
+    requires { ⌜ waitsFor (nodeIn (now table) n .kind) ≡ false ⌝ }
     ensures { λ r. ⌜ Arrives limit (now (table .entry)) n (now (space .entry)) (now (frames .entry)) r (now (space .exit)) (now (frames .exit)) ⌝ }
 {
     if node_at(table, n as usize).kind == TYPED {

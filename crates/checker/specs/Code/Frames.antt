@@ -59,15 +59,15 @@ pub record Waits (n given x y : ℕ) (fs left : List ℕ) : Type 0 where
 abbrev pub frameAt : List ℕ → ℕ → Frame
 frameAt fs f = record { node = nodeOf fs f; given = upOf fs f % 4; x = firstOf fs f; y = secondOf fs f }
 
--- a node with a first operand that is a node, and no block of this kind
-abbrev pub waitsFor : ℕ → ℕ → Bool
-waitsFor kind block = leb 4 kind && not (eqb kind block)
+-- a node with a first operand that is a node, and no typed block
+abbrev pub waitsFor : ℕ → Bool
+waitsFor kind = leb 4 kind && not (eqb kind 13)
 
 -- from node m on down the first operands, each of which waits
-pub data Descends (table : List ℕ) (block : ℕ) : List ℕ → ℕ → ℕ → List ℕ → Type 0 where
-  down-to : {fs : List ℕ} {m : ℕ} → waitsFor (nodeIn table m .kind) block ≡ false → Descends table block fs m m fs
-  down-from : {fs between left : List ℕ} {m n : ℕ} → waitsFor (nodeIn table m .kind) block ≡ true → Waits m 0 0 0 fs between
-      → Descends table block between (nodeIn table m .a) n left → Descends table block fs m n left
+pub data Descends (table : List ℕ) : List ℕ → ℕ → ℕ → List ℕ → Type 0 where
+  down-to : {fs : List ℕ} {m : ℕ} → waitsFor (nodeIn table m .kind) ≡ false → Descends table fs m m fs
+  down-from : {fs between left : List ℕ} {m n : ℕ} → waitsFor (nodeIn table m .kind) ≡ true → Waits m 0 0 0 fs between
+      → Descends table between (nodeIn table m .a) n left → Descends table fs m n left
 
 pub record Descendable (table fs : List ℕ) (m : ℕ) : Type 0 where
   pub formed : FormedNodes table (suc m)

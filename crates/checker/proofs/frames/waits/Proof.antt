@@ -7,5 +7,5 @@ pub waits-spec : {M : Type 1} → statement M
 waits-spec =
     tie.close
     (tie.spec
-    (λ c. leaf-waits (c .before .args .kind) (c .before .args .block) (c .if1 .taken))
-    (λ c. other-waits (c .before .args .kind) (c .before .args .block) (c .if1 .left)))
+    (λ c. leaf-waits (c .before .args .kind) (c .if1 .taken))
+    (λ c. other-waits (c .before .args .kind) (c .if1 .left)))

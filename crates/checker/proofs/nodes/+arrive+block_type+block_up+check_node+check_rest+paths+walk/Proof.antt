@@ -229,7 +229,7 @@ arrive-returns t c = c .before .before .before .before .block-up .ensures
 arrive-leaf-up-requires : (t : ℕ) → arrive-lts.Need-leaf-up-requires (arrive-calls t) (arrive-at t) arrive.Post
 arrive-leaf-up-requires t c κs =
     let s = c .before .before .before .before .before .before .before .before .pre in
-    let l = waits-none _ 13 (s .1 .1) (rw (c .before .before .before .before .node-at .ensures) at (c .before .before .if1 .left)) in
+    let l = waits-none _ (s .1 .1) (rw (c .before .before .before .before .node-at .ensures) at (c .before .before .if1 .left)) in
     record { leaf = l; limit = _; enterable = s .1 .0 }
 
 arrive-returns-2 : (t : ℕ) → arrive-lts.Need-returns-2 (arrive-calls t) (arrive-at t) arrive.Post

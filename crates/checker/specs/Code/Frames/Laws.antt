@@ -105,29 +105,29 @@ module _ (n given x y : ℕ) (fs : List ℕ) (w : Waitable fs) (top : ℕ) (e : 
 
 -- ---- whether a node waits
 
-pub leaf-waits : (kind block : ℕ) → kind < 4 → false ≡ waitsFor kind block
-leaf-waits kind block h = rw (lt-leb 4 kind h)
+pub leaf-waits : (kind : ℕ) → kind < 4 → false ≡ waitsFor kind
+leaf-waits kind h = rw (lt-leb 4 kind h)
 
-pub other-waits : (kind block : ℕ) → 4 ≤ kind → not (eqb kind block) ≡ waitsFor kind block
-other-waits kind block h = rw (le-leb 4 kind h)
+pub other-waits : (kind : ℕ) → 4 ≤ kind → not (eqb kind 13) ≡ waitsFor kind
+other-waits kind h = rw (le-leb 4 kind h)
 
-pub waits-inner : (kind block : ℕ) → waitsFor kind block ≡ true → 4 ≤ kind
-waits-inner kind block e = go (leb 4 kind) refl e
+pub waits-inner : (kind : ℕ) → waitsFor kind ≡ true → 4 ≤ kind
+waits-inner kind e = go (leb 4 kind) refl e
   where
-    go : (b : Bool) → leb 4 kind ≡ b → (b && not (eqb kind block)) ≡ true → 4 ≤ kind
+    go : (b : Bool) → leb 4 kind ≡ b → (b && not (eqb kind 13)) ≡ true → 4 ≤ kind
     go true p f = leb-true 4 kind p
     go false p f = absurd (false≢true f)
 
-pub waits-other : (kind block : ℕ) → waitsFor kind block ≡ true → kind ≡ block → ⊥
-waits-other kind block e f = false≢true (sym (rw (eq-eqb kind block f) (and-false (leb 4 kind))) ∙ e)
+pub waits-other : (kind : ℕ) → waitsFor kind ≡ true → kind ≡ 13 → ⊥
+waits-other kind e f = false≢true (sym (rw (eq-eqb kind 13 f) (and-false (leb 4 kind))) ∙ e)
   where
     and-false : (b : Bool) → (b && not true) ≡ false
     and-false true = refl
     and-false false = refl
 
--- a node that does not wait is a leaf or such a block
-pub waits-none : (kind block : ℕ) → waitsFor kind block ≡ false → (kind ≡ block → ⊥) → kind < 4
-waits-none kind block e d = go (leb 4 kind) refl (rw (ne-eqb kind block d) at e)
+-- a node that does not wait is a leaf or a typed block
+pub waits-none : (kind : ℕ) → waitsFor kind ≡ false → (kind ≡ 13 → ⊥) → kind < 4
+waits-none kind e d = go (leb 4 kind) refl (rw (ne-eqb kind 13 d) at e)
   where
     go : (b : Bool) → leb 4 kind ≡ b → (b && not false) ≡ false → kind < 4
     go true p f = absurd (false≢true (sym f))
@@ -147,9 +147,9 @@ size-some (letIn n e f) = omega arith
 size-some (typedBlock n e) = omega arith
 size-some (symBlock n e) = omega arith
 
-module _ {table fs : List ℕ} {n : ℕ} (q : Descendable table fs n) (block : ℕ) (w : waitsFor (nodeIn table n .kind) block ≡ true) where
+module _ {table fs : List ℕ} {n : ℕ} (q : Descendable table fs n) (w : waitsFor (nodeIn table n .kind) ≡ true) where
   down-first : First 0 table n (treeIn table n)
-  down-first = first-of (shaped 0 (q .formed)) (some-operand (q .formed) (waits-inner _ block w))
+  down-first = first-of (shaped 0 (q .formed)) (some-operand (q .formed) (waits-inner _ w))
 
   pub down-earlier : nodeIn table n .a < n
   down-earlier = down-first .earlier

@@ -52,13 +52,13 @@ module _ {limit : ℕ} {table : List ℕ} {bound base : ℕ} {ground : List Symb
       }
 
   -- node m waits for its first operand, which is next
-  pub enters-first : waitsFor (nodeIn table m .kind) 13 ≡ true → {gs : List ℕ} → Waits m 0 0 0 fs gs
+  pub enters-first : waitsFor (nodeIn table m .kind) ≡ true → {gs : List ℕ} → Waits m 0 0 0 fs gs
       → Entering limit table bound base ground ws gs (nodeIn table m .a) ls
   unfolding goOn
   enters-first e {gs} w = by (eqb (nodeOperands (nodeIn table m .kind)) 1) refl
     where
       some : 1 ≤ nodeOperands (nodeIn table m .kind)
-      some = some-operand enters-formed (waits-inner (nodeIn table m .kind) 13 e)
+      some = some-operand enters-formed (waits-inner (nodeIn table m .kind) e)
 
       by : (b : Bool) → eqb (nodeOperands (nodeIn table m .kind)) 1 ≡ b → Entering limit table bound base ground ws gs (nodeIn table m .a) ls
       by true z =
@@ -81,7 +81,7 @@ module _ {limit : ℕ} {table : List ℕ} {bound base : ℕ} {ground : List Symb
                 q .is
                 ∙ ap (λ (x : Paths). leaves x ++ q .others)
                 (ap (λ (x : Paths). bind x (goOn limit table (q .later)))
-                (one-exec (shaped limit enters-formed) o (waits-other (nodeIn table m .kind) 13 e) (q .environment) (q .path))
+                (one-exec (shaped limit enters-formed) o (waits-other (nodeIn table m .kind) e) (q .environment) (q .path))
                 ∙ then-on (exec limit (treeIn table (nodeIn table m .a)) (q .environment) (q .path)) (oneExec (formOf (nodeIn table m .kind)) m)
                 (goOn limit table (only m ∷ q .later)) (goOn limit table (q .later)) λ v p. refl);
           }
@@ -117,15 +117,15 @@ module _ {limit : ℕ} {table : List ℕ} {bound base : ℕ} {ground : List Symb
           }
 
 pub enters-descends : {limit : ℕ} {table : List ℕ} {bound base : ℕ} {ground : List Symbolic} {ws fs gs : List ℕ} {m n : ℕ} {ls : List Leaf}
-    → Entering limit table bound base ground ws fs m ls → Descends table 13 fs m n gs → Entering limit table bound base ground ws gs n ls
+    → Entering limit table bound base ground ws fs m ls → Descends table fs m n gs → Entering limit table bound base ground ws gs n ls
 enters-descends q (down-to e) = q
 enters-descends q (down-from e w d) = enters-descends (enters-first q e w) d
 
-pub descends-other : {table : List ℕ} {fs gs : List ℕ} {m n : ℕ} → Descends table 13 fs m n gs → waitsFor (nodeIn table n .kind) 13 ≡ false
+pub descends-other : {table : List ℕ} {fs gs : List ℕ} {m n : ℕ} → Descends table fs m n gs → waitsFor (nodeIn table n .kind) ≡ false
 descends-other (down-to e) = e
 descends-other (down-from e w d) = descends-other d
 
-pub descends-tops : {table : List ℕ} {fs gs : List ℕ} {m n : ℕ} → Descends table 13 fs m n gs → topIn fs ≤ topIn gs
+pub descends-tops : {table : List ℕ} {fs gs : List ℕ} {m n : ℕ} → Descends table fs m n gs → topIn fs ≤ topIn gs
 descends-tops (down-to e) = omega arith
 descends-tops (down-from e w d) = let h = descends-tops d in let t = w .top in omega arith
 

@@ -50,7 +50,7 @@ module _ {limit : ℕ} {table : List ℕ} {n m : ℕ} {ws fs left gs : List ℕ}
   pub walking-descendable : Descendable table gs next
   walking-descendable = enters-descendable (w .can .can .entering)
 
-  module _ {inner : ℕ} {hs : List ℕ} (d : Descends table 13 gs next inner hs) where
+  module _ {inner : ℕ} {hs : List ℕ} (d : Descends table gs next inner hs) where
     inner-entering : Entering limit table (w .can .can .bound) (w .can .can .base) (w .can .can .ground) left hs inner (w .can .can .to-come)
     inner-entering = enters-descends (w .can .can .entering) d
 
