@@ -6,7 +6,7 @@ ghost use lib.ListN.{length, take};
 ghost use Rattle.script.specs.Flat.{nodesIn, tableIn};
 ghost use Rattle.script.specs.Limits.{nodeLimit, typeLimit, wordLimit};
 ghost use Rattle.script.specs.Table.{isSymNode, operands, treeTest, nodesTest, tableTest};
-ghost use Rattle.script.specs.Code.TableTests.{usesTest, depthsTest, usedTest, Lent, operandsTest, Zeros, Within, Small, Counted, Spread, UseCounts, Nestings, countsTest, deepAt, nestingTest};
+ghost use Rattle.script.specs.Code.TableTests.{usesTest, depthsTest, usedTest, Lent, operandsTest, Zeros, Within, Small, Counted, Spread, UseCounts, Nestings, countsTest, symsIn, deepAt, nestingTest};
 ghost use Rattle.script.specs.Flat.{testedBy, FormedNodes};
 ghost use Rattle.script.specs.Tests.{all, pick};
 use crate::Node;
@@ -108,8 +108,8 @@ fn spread(depths: &mut [u32], n: Node, v: u32)
     }
 }
 
-// How many `sym` are around the operands of a node that has d around it.
-fn depth_inside(n: Node, d: u32) -> u32
+// The number d, and one more for a `sym`.
+fn with_sym(n: Node, d: u32) -> u32
     requires { ⌜ d < wordLimit ⌝ }
     ensures { λ r. ⌜ r ≡ pick (isSymNode n) 1 0 + d ⌝ }
 {
@@ -117,6 +117,20 @@ fn depth_inside(n: Node, d: u32) -> u32
         return d + 1;
     }
     d
+}
+
+// How many of the first `nodes` nodes are `sym`.
+fn count_syms(table: &[u32], nodes: usize) -> u32
+    requires { ⌜ Lent (now table) nodes ⌝ }
+    ensures { λ r. ⌜ r ≡ symsIn (take nodes (nodesIn (now (table .entry)))) ⌝ }
+{
+    let mut count = 0;
+    let mut i = 0;
+    while i < nodes {
+        count = with_sym(node_at(table, i), count);
+        i += 1;
+    }
+    count
 }
 
 // How many `sym` are around each of the first `nodes` nodes: from the last down, each node tells its operands.
@@ -129,7 +143,7 @@ fn note_depths(table: &[u32], nodes: usize, depths: &mut [u32])
     while 0 < j {
         j -= 1;
         let n = node_at(table, j);
-        let inside = depth_inside(n, depths[j]);
+        let inside = with_sym(n, depths[j]);
         spread(depths, n, inside);
     }
 }
@@ -170,11 +184,14 @@ fn test_uses(table: &[u32], nodes: usize) -> Tested
     test_counts(&counts, nodes)
 }
 
-// 13 of the first `nodes` nodes, which are well formed.
+// 13 of the first `nodes` nodes, which are well formed. No more `sym` are around a node than there are.
 fn test_nesting(table: &[u32], nodes: usize) -> Tested
     requires { ⌜ FormedNodes (now table) nodes ⌝ }
     ensures { λ r. ⌜ r ≡ testedBy (depthsTest (take nodes (nodesIn (now (table .entry))))) ⌝ }
 {
+    if count_syms(table, nodes) as usize <= Script::NESTING {
+        return Tested::Passed;
+    }
     let mut depths = [0u32; Script::NODES];
     note_depths(table, nodes, &mut depths);
     test_depths(table, nodes, &depths)

@@ -1,7 +1,7 @@
 -- The tests of a table as the code makes them: its answer, one operand at a time, the counts of uses and the numbers of `sym` around that two
 -- lists hold, and the tests by these lists. Assumes nothing.
 use mathlib.Core.Bool.{Bool, false, not, _&&_}
-use mathlib.Core.List.{List}
+use mathlib.Core.List.{List, [], _∷_}
 use mathlib.Core.Option.{Option, none, some}
 use mathlib.Core.Path.{_≡_}
 use Prim.Native.Nat.{ℕ, suc, _+_, _*_, _≤_, _<_, pred}
@@ -15,6 +15,7 @@ use Rattle.script.specs.declared.Node.{Node}
 use Rattle.script.specs.declared.Refusal.{Refusal}
 use Rattle.script.specs.declared.Refusal.the-variants.{NoNode, BadTypeCode, BadOperand, NotUsedOnce, TooDeep}
 pub mod Counts
+pub mod Few
 pub mod Laws
 pub mod Lowest
 pub mod Whole
@@ -82,6 +83,11 @@ pub record Nestings (ns : List Node) (xs : List ℕ) : Type 0 where
 -- 5 by the counts of n nodes
 unfoldable pub countsTest : List ℕ → ℕ → Option Refusal
 countsTest xs n = needNone (lowest (λ i. not (eqb (getD xs i 0) 1)) (pred n)) NotUsedOnce none
+
+-- how many nodes are `sym`
+unfoldable pub symsIn : List Node → ℕ
+symsIn [] = 0
+symsIn (n ∷ ns) = pick (isSymNode n) 1 0 + symsIn ns
 
 abbrev pub deepAt : Node → ℕ → Bool
 deepAt n d = isSymNode n && leb nestingLimit d

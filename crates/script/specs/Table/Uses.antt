@@ -42,7 +42,7 @@ no-operand n k a b c = sym (List·getD-eq-default (fields n) 0 {n = k} (omega ar
 
 -- ---- how often among the first operands
 
-pick-most : (b : Bool) → pick b 1 0 ≤ 1
+pub pick-most : (b : Bool) → pick b 1 0 ≤ 1
 pick-most true = omega arith
 pick-most false = omega arith
 

@@ -19,14 +19,14 @@ loop-holds c =
     let a = c .before .before .args in
     (omega arith, depths-start (a .table .now) (a .nodes) (c .before .before .pre .0) (a .depths .now) (c .before .before .pre .1))
 
-slice-read-depth-inside : tie.Need-slice-read-depth-inside Inv-loop μ-loop
-slice-read-depth-inside c =
+slice-read-with-sym : tie.Need-slice-read-with-sym Inv-loop μ-loop
+slice-read-with-sym c =
     let s = c .before .before .before .loop .inv .1 .same in
     let r = c .before .before .before .before .before .before .pre .1 .room in
     omega arith
 
-depth-inside-requires : tie.Need-depth-inside-requires Inv-loop μ-loop
-depth-inside-requires c κs =
+with-sym-requires : tie.Need-with-sym-requires Inv-loop μ-loop
+with-sym-requires c κs =
     let a = c .before .before .before .before .before .before .args in
     let l = c .before .before .before .loop in
     let r = c .before .before .before .before .before .before .pre .1 .room in
@@ -44,7 +44,7 @@ loop-again : tie.Need-loop-again Inv-loop μ-loop
 loop-again c =
     let a = c .before .before .before .before .before .before .before .before .before .before .before .args in
     let l = c .before .before .before .before .before .before .before .before .loop in
-    (omega arith, depths-turn (a .table .now) (a .nodes) (c .before .before .before .before .before .before .before .before .before .before .before .pre .0) (length (a .depths .now)) (l .j) (c .before .before .before .before .depth-inside .result) (c .before .before .before .before .before .before .node-at .result) (l .depths) (c .before .before .spread .last .0) (c .before .before .before .before .before .before .before .loop-test .taken) (l .inv .0) (c .before .before .before .before .before .before .before .before .before .before .before .pre .1 .room) (c .before .before .before .before .before .before .node-at .ensures) (l .inv .1) (c .before .before .before .before .depth-inside .ensures) (c .before .before .spread .ensures))
+    (omega arith, depths-turn (a .table .now) (a .nodes) (c .before .before .before .before .before .before .before .before .before .before .before .pre .0) (length (a .depths .now)) (l .j) (c .before .before .before .before .with-sym .result) (c .before .before .before .before .before .before .node-at .result) (l .depths) (c .before .before .spread .last .0) (c .before .before .before .before .before .before .before .loop-test .taken) (l .inv .0) (c .before .before .before .before .before .before .before .before .before .before .before .pre .1 .room) (c .before .before .before .before .before .before .node-at .ensures) (l .inv .1) (c .before .before .before .before .with-sym .ensures) (c .before .before .spread .ensures))
 
 returns : tie.Need-returns Inv-loop μ-loop
 returns c =
@@ -62,8 +62,8 @@ note-depths-spec =
     (λ c. search needs)
     (λ c κs. search needs)
     (λ c. search needs)
-    slice-read-depth-inside
-    depth-inside-requires
+    slice-read-with-sym
+    with-sym-requires
     spread-requires
     (λ c. search needs)
     loop-again

@@ -1,28 +1,34 @@
--- `script::tests::test_nesting` meets its contract: the depths that it tests are the numbers of `sym` around. Assumes nothing.
+-- `script::tests::test_nesting` meets its contract: few `sym` are not too deep, and the depths that it tests are the numbers of `sym` around. Assumes nothing.
 use borrow.Author.Needs.{needs}
-use mathlib.Core.Path.{ap, _∙_}
+use mathlib.Core.Path.{sym, ap, _∙_}
+use native.Mathlib.Omega.{arith}
 use lib.ListN.{take}
 use Rattle.script.specs.Flat.{nodesIn}
 use Rattle.script.specs.Flat.{testedBy}
 use Rattle.script.specs.Code.TableTests.Counts.{nesting-depths}
+use Rattle.script.specs.Code.TableTests.Few.{few-shallow}
 use Rattle.script.specs.Code.TableTests.Whole.{zeros-made}
 use Rattle.script.proofs.tests.test_nesting.Statement.{statement}
 use Rattle.script.proofs.tests.test_nesting.Tie as tie
 
-note-depths-requires : tie.Need-note-depths-requires
-note-depths-requires c κs = (c .before .before .pre, zeros-made (c .before .before .args .nodes) (c .before .before .pre .most))
-
 returns : tie.Need-returns
-returns c =
-    let a = c .before .before .before .before .before .before .args in
-    c .test-depths .ensures ∙ ap testedBy (nesting-depths (take (a .nodes) (nodesIn (a .table .now))) _ (c .before .before .before .note-depths .ensures))
+returns c = sym (ap testedBy (few-shallow (take (c .before .before .before .args .nodes) (nodesIn (c .before .before .before .args .table .now))) (omega (arith, c .before .count-syms .ensures, c .if1 .taken))))
+
+note-depths-requires : tie.Need-note-depths-requires
+note-depths-requires c κs = (c .before .before .before .before .pre, zeros-made (c .before .before .before .before .args .nodes) (c .before .before .before .before .pre .most))
+
+returns-2 : tie.Need-returns-2
+returns-2 c = c .test-depths .ensures ∙ ap testedBy (nesting-depths (take (c .before .before .before .before .before .before .before .before .args .nodes) (nodesIn (c .before .before .before .before .before .before .before .before .args .table .now))) _ (c .before .before .before .note-depths .ensures))
 
 pub test-nesting-spec : {M : Type 1} → statement M
 test-nesting-spec =
     tie.close
     (tie.spec
+    (λ c κs. search needs)
+    (λ c. search needs)
+    returns
     (λ c. search needs)
     note-depths-requires
     (λ c. search needs)
     (λ c κs. search needs)
-    returns)
+    returns-2)

@@ -1,12 +1,12 @@
--- `script::tests::depth_inside` meets its contract: a `sym` is one more around its operand. Assumes nothing.
+-- `script::tests::with_sym` meets its contract: a `sym` is one more. Assumes nothing.
 use borrow.Author.Needs.{needs}
 use mathlib.Core.Path.{sym, _∙_}
 use native.Mathlib.Omega.{arith}
-use Rattle.script.proofs.tests.depth_inside.Statement.{statement}
-use Rattle.script.proofs.tests.depth_inside.Tie as tie
+use Rattle.script.proofs.tests.with_sym.Statement.{statement}
+use Rattle.script.proofs.tests.with_sym.Tie as tie
 
-pub depth-inside-spec : {M : Type 1} → statement M
-depth-inside-spec =
+pub with-sym-spec : {M : Type 1} → statement M
+with-sym-spec =
     tie.close
     (tie.spec
     (λ c κs. search needs)
