@@ -24,6 +24,7 @@ use script::table::Tested;
 use script::tests::test_table;
 use steps::Step;
 use steps::run_node;
+use steps::whole;
 use tests::right_cells;
 use tests::right_values;
 
@@ -44,14 +45,14 @@ fn run_tested(
 {
     let mut environment = [0u8; ENVIRONMENT];
     bytes::copy(values, &mut environment);
-    run_node(
+    whole(run_node(
         table,
         &mut environment,
         entries,
         cells,
         used,
         (nodes - 1) as u32,
-    )
+    ))
 }
 
 // Runs a table that is known to pass its tests, as one that was read from a text: 35, 34, and then the run.

@@ -4,7 +4,7 @@ ghost use Rattle.rules.specs.Evaluation.{eval};
 ghost use Rattle.rules.specs.Running.{valuesOf};
 ghost use Rattle.rules.specs.Running.Laws.{InRange};
 ghost use Rattle.script.specs.Code.Forms.{formOf, nodeIn, treeIn};
-ghost use Rattle.runner.specs.Code.Steps.{Variables, nextOn, boundOn, Bound, restOn, Ready, Halfway, Runs};
+ghost use Rattle.runner.specs.Code.Steps.{wholeOf, Variables, nextOn, boundOn, Bound, restOn, Ready, Halfway, Runs};
 use crate::operators::leaf;
 use crate::operators::one;
 use crate::operators::two;
@@ -20,6 +20,41 @@ use script::table::node_at;
 pub enum Step {
     Gave(Value, u32),
     Failed(u32, u32),
+}
+
+// A step with its value's number beside the others. This is how a step is handed up: a value inside it would be written in two pieces and read as one, and
+// a processor waits where these meet.
+pub enum Parts {
+    Word(u32, u32),
+    Truth(bool, u32),
+    Location(u32, u32),
+    Failed(u32, u32),
+}
+
+// A step taken apart.
+fn apart(step: Step) -> Parts
+    ensures { λ r. ⌜ wholeOf r ≡ step ⌝ }
+{
+    match step {
+        Step::Gave(v, used) => match v {
+            Value::Word(w) => Parts::Word(w, used),
+            Value::Truth(b) => Parts::Truth(b, used),
+            Value::Location(l) => Parts::Location(l, used),
+        },
+        Step::Failed(at, used) => Parts::Failed(at, used),
+    }
+}
+
+// The step that has these parts.
+pub fn whole(parts: Parts) -> Step
+    ensures { λ r. ⌜ r ≡ wholeOf parts ⌝ }
+{
+    match parts {
+        Parts::Word(w, used) => Step::Gave(Value::Word(w), used),
+        Parts::Truth(b, used) => Step::Gave(Value::Truth(b), used),
+        Parts::Location(l, used) => Step::Gave(Value::Location(l), used),
+        Parts::Failed(at, used) => Step::Failed(at, used),
+    }
 }
 
 // The operand of a node that comes after its first, or a condition that is no truth.
@@ -78,7 +113,7 @@ fn rest(
         Next::Wrong => Step::Failed(n, used),
         Next::Operand(m) => {
             let inner = bind(environment, depth, node.kind, v);
-            match run_node(table, environment, inner, cells, used, m) {
+            match whole(run_node(table, environment, inner, cells, used, m)) {
                 Step::Gave(w, count) => two(node.kind, v, w, cells, count, n),
                 Step::Failed(at, count) => Step::Failed(at, count),
             }
@@ -94,21 +129,21 @@ pub fn run_node(
     cells: &mut [u8],
     used: u32,
     n: u32,
-) -> Step
+) -> Parts
     requires { ⌜ Ready (now table) (now environment) depth (now cells) used n ⌝ }
-    ensures { λ r. ⌜ Runs (eval (treeIn (now (table .entry)) n) (valuesOf depth (now (environment .entry))) (valuesOf used (now (cells .entry)))) depth (now (environment .entry)) (now (environment .exit)) r (now (cells .entry)) (now (cells .exit)) ⌝ }
+    ensures { λ r. ⌜ Runs (eval (treeIn (now (table .entry)) n) (valuesOf depth (now (environment .entry))) (valuesOf used (now (cells .entry)))) depth (now (environment .entry)) (now (environment .exit)) (wholeOf r) (now (cells .entry)) (now (cells .exit)) ⌝ }
 {
     let node = node_at(table, n as usize);
     if node.kind < LEAVES {
-        return leaf(node.kind, node.a, environment, depth, used, n);
+        return apart(leaf(node.kind, node.a, environment, depth, used, n));
     }
-    match run_node(table, environment, depth, cells, used, node.a) {
-        Step::Failed(at, count) => Step::Failed(at, count),
+    match whole(run_node(table, environment, depth, cells, used, node.a)) {
+        Step::Failed(at, count) => Parts::Failed(at, count),
         Step::Gave(v, count) => {
             if has_one(node.kind) {
-                return one(node.kind, v, cells, count, n);
+                return apart(one(node.kind, v, cells, count, n));
             }
-            rest(table, environment, depth, cells, count, n, v)
+            apart(rest(table, environment, depth, cells, count, n, v))
         }
     }
 }

@@ -16,10 +16,10 @@ run-node-requires c κs =
 
 returns : tie.Need-returns
 returns c =
-    let p = c .before .before .before .before .before .before .before in
+    let p = c .before .before .before .before .before .before .before .before in
     let s = p .before .before .before .before .before in
     let values : Bytes (s .args .values .now) = record { byte = λ i. omega (arith, p .before .before .before .shared-slice-known2 .given i) } in
-    last-does (s .pre) _ (omega (arith, s .pre .nodesRooted .least)) values _ _ (p .copy .ensures .1) (c .before .before .before .run-node .ensures)
+    rw (c .whole .ensures) (last-does (s .pre) _ (omega (arith, s .pre .nodesRooted .least)) values _ _ (p .copy .ensures .1) (c .before .before .before .before .run-node .ensures))
 
 pub run-tested-spec : {M : Type 1} → statement M
 run-tested-spec =
@@ -31,5 +31,6 @@ run-tested-spec =
     (λ c. search needs)
     (λ c. search needs)
     run-node-requires
+    (λ c κs. search needs)
     (λ c. search needs)
     returns)

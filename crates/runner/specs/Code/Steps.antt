@@ -18,6 +18,7 @@ use Rattle.rules.specs.Running.{allBytes, valuesOf, stored, lentLimit}
 use Rattle.rules.specs.Running.Laws.{InRange, AllInRange}
 use Rattle.runner.specs.declared.steps.Next.{Next}
 use Rattle.runner.specs.declared.steps.Next.the-variants.{Operand, Wrong}
+use Rattle.runner.specs.declared.steps.Parts.{Parts}
 use Rattle.runner.specs.declared.steps.Step.{Step}
 use Rattle.runner.specs.declared.steps.Step.the-variants.{Gave, Failed}
 pub mod Nodes
@@ -44,6 +45,12 @@ pub record Variables (env : List ℕ) (depth more : ℕ) : Type 0 where
   pub room : 5 * (depth + more) ≤ length env
 
 -- ---- what a step answers, and what it leaves in the cells
+
+abbrev pub wholeOf : Parts → Step
+wholeOf (Parts.Word w used) = Gave (Word w) used
+wholeOf (Parts.Truth b used) = Gave (Truth b) used
+wholeOf (Parts.Location l used) = Gave (Location l) used
+wholeOf (Parts.Failed n used) = Failed n used
 
 abbrev pub stepOf : Outcome → Step
 stepOf (gave v cs) = Gave v (length cs)

@@ -19,8 +19,10 @@ use Rattle.script.proofs.table.has_one.Reads as has-one-reads
 use Rattle.runner.proofs.operators.leaf.Reads as leaf-reads
 use Rattle.runner.proofs.operators.one.Reads as one-reads
 use Rattle.runner.proofs.operators.two.Reads as two-reads
+use Rattle.runner.proofs.steps.apart.Reads as apart-reads
 use Rattle.runner.proofs.steps.bind.Reads as bind-reads
 use Rattle.runner.proofs.steps.next_operand.Reads as next-operand-reads
+use Rattle.runner.proofs.steps.whole.Reads as whole-reads
 use Rattle.script.proofs.table.node_at.Reads as node-at-reads
 use Rattle.runner.proofs.steps.+rest+run_node.{statement}
 use Rattle.runner.proofs.steps.+rest+run_node.Tie.{close}
@@ -55,6 +57,8 @@ rest-calls t = (
   bind-reads.Learnt,
   run-node-below t,
   run-node.Post,
+  whole-reads.Asked,
+  whole-reads.Learnt,
   two-reads.Asked,
   two-reads.Learnt,
 )
@@ -65,8 +69,12 @@ run-node-calls t = (
   node-at-reads.Learnt,
   leaf-reads.Asked,
   leaf-reads.Learnt,
+  apart-reads.Asked,
+  apart-reads.Learnt,
   run-node-below t,
   run-node.Post,
+  whole-reads.Asked,
+  whole-reads.Learnt,
   has-one-reads.Asked,
   has-one-reads.Learnt,
   one-reads.Asked,
@@ -98,16 +106,16 @@ rest-run-node-requires t c κs =
 
 rest-two-requires : (t : ℕ) → rest-lts.Need-two-requires (rest-calls t) (rest-at t) rest.Post
 rest-two-requires t c κs =
-    let p = c .before .before .before .before .before .before .before .before .before .before .before .before .before in
+    let p = c .before .before .before .before .before .before .before .before .before .before .before .before .before .before in
     let x = p .before .before .before .before .before in
     let s = x .before .before .before .before .before in
     let q = s .pre .1 in
     let node = x .before .node-at .ensures in
     let e = sym (rw node at (x .next-operand .ensures)) ∙ p .before .before .before .m .given .1 in
     let b = rw node at (p .bind .ensures) in
-    let l = c .before .before .before .before .before .before .before .before .before .before .before .before .environment .given in
-    let d = c .before .before .before .before .before .before .before .before .run-node .ensures in
-    let f = c .before .before .w .given .1 in
+    let l = c .before .before .before .before .before .before .before .before .before .before .before .before .before .environment .given in
+    let d = c .before .before .before .before .before .before .before .before .before .run-node .ensures in
+    let f = sym (c .before .before .before .before .whole .ensures) ∙ c .before .before .w .given .1 in
     (two-ready q e b l d f, two-ranged q e b l d f)
 
 rest-returns : (t : ℕ) → rest-lts.Need-returns (rest-calls t) (rest-at t) rest.Post
@@ -119,27 +127,27 @@ rest-returns t c =
 
 rest-returns-2 : (t : ℕ) → rest-lts.Need-returns-2 (rest-calls t) (rest-at t) rest.Post
 rest-returns-2 t c =
-    let p = c .before .before .before .before .before .before .before .before .before .before .before .before .before .before .before .before in
+    let p = c .before .before .before .before .before .before .before .before .before .before .before .before .before .before .before .before .before in
     let x = p .before .before .before .before .before in
     let s = x .before .before .before .before .before in
     let q = s .pre .1 in
     let node = x .before .node-at .ensures in
     let e = sym (rw node at (x .next-operand .ensures)) ∙ p .before .before .before .m .given .1 in
     let b = rw node at (p .bind .ensures) in
-    let l = c .before .before .before .before .before .before .before .before .before .before .before .before .before .before .before .environment .given in
-    two-runs q e b l (c .before .before .before .before .before .before .before .before .before .before .before .run-node .ensures) (c .before .before .before .before .before .w .given .1) (rw node at (c .before .before .two .ensures))
+    let l = c .before .before .before .before .before .before .before .before .before .before .before .before .before .before .before .before .environment .given in
+    two-runs q e b l (c .before .before .before .before .before .before .before .before .before .before .before .before .run-node .ensures) (sym (c .before .before .before .before .before .before .before .whole .ensures) ∙ c .before .before .before .before .before .w .given .1) (rw node at (c .before .before .two .ensures))
 
 rest-returns-3 : (t : ℕ) → rest-lts.Need-returns-3 (rest-calls t) (rest-at t) rest.Post
 rest-returns-3 t c =
-    let p = c .before .before .before .before .before .before .before .before .before .before .before .before in
+    let p = c .before .before .before .before .before .before .before .before .before .before .before .before .before in
     let x = p .before .before .before .before .before in
     let s = x .before .before .before .before .before in
     let q = s .pre .1 in
     let node = x .before .node-at .ensures in
     let e = sym (rw node at (x .next-operand .ensures)) ∙ p .before .before .before .m .given .1 in
     let b = rw node at (p .bind .ensures) in
-    let l = c .before .before .before .before .before .before .before .before .before .before .before .environment .given in
-    next-failed q e b l (c .before .before .before .before .before .before .before .run-node .ensures) (c .before .at .given .1)
+    let l = c .before .before .before .before .before .before .before .before .before .before .before .before .environment .given in
+    next-failed q e b l (c .before .before .before .before .before .before .before .before .run-node .ensures) (sym (c .before .before .before .whole .ensures) ∙ c .before .at .given .1)
 
 run-node-node-at-requires : (t : ℕ) → run-node-lts.Need-node-at-requires (run-node-calls t) (run-node-at t) run-node.Post
 run-node-node-at-requires t c κs =
@@ -151,10 +159,10 @@ run-node-leaf-requires t c κs =
 
 run-node-returns : (t : ℕ) → run-node-lts.Need-returns (run-node-calls t) (run-node-at t) run-node.Post
 run-node-returns t c =
-    let o = c .before .before .before in
+    let o = c .before .before .before .before in
     let s = o .before .before .before .before .before in
     let node = o .before .node-at .ensures in
-    leaf-runs (s .pre .1) (rw node at (c .before .before .if1 .taken)) (rw node at (c .leaf .ensures))
+    rw (c .apart .ensures) (leaf-runs (s .pre .1) (rw node at (c .before .before .before .if1 .taken)) (rw node at (c .before .leaf .ensures)))
 
 run-node-run-node-requires : (t : ℕ) → run-node-lts.Need-run-node-requires (run-node-calls t) (run-node-at t) run-node.Post
 run-node-run-node-requires t c κs =
@@ -166,30 +174,6 @@ run-node-run-node-requires t c κs =
 
 run-node-one-requires : (t : ℕ) → run-node-lts.Need-one-requires (run-node-calls t) (run-node-at t) run-node.Post
 run-node-one-requires t c κs =
-    let p = c .before .before .before .before .before .before .before .before .before .before in
-    let o = p .before .before .before .before in
-    let s = o .before .before .before .before .before in
-    let q = s .pre .1 in
-    let node = o .before .node-at .ensures in
-    let h = some-operand (q .formed) (rw node at (p .before .before .before .if1 .left)) in
-    let d = rw node at (p .run-node .ensures) in
-    let e = c .before .before .before .before .v .given .1 in
-    (one-ready q h d e, first-ranged q h d e)
-
-run-node-returns-2 : (t : ℕ) → run-node-lts.Need-returns-2 (run-node-calls t) (run-node-at t) run-node.Post
-run-node-returns-2 t c =
-    let p = c .before .before .before .before .before .before .before .before .before .before .before .before .before in
-    let o = p .before .before .before .before in
-    let s = o .before .before .before .before .before in
-    let q = s .pre .1 in
-    let node = o .before .node-at .ensures in
-    let h = some-operand (q .formed) (rw node at (p .before .before .before .if1 .left)) in
-    let d = rw node at (p .run-node .ensures) in
-    let k = has-one _ (rw node at (c .before .before .before .before .before .has-one .ensures)) (c .before .before .before .before .if2 .taken) in
-    one-runs q h d (c .before .before .before .before .before .before .before .v .given .1) k (rw node at (c .before .before .one .ensures))
-
-run-node-rest-requires : (t : ℕ) → run-node-lts.Need-rest-requires (run-node-calls t) (run-node-at t) run-node.Post
-run-node-rest-requires t c κs =
     let p = c .before .before .before .before .before .before .before .before .before .before .before in
     let o = p .before .before .before .before in
     let s = o .before .before .before .before .before in
@@ -197,31 +181,55 @@ run-node-rest-requires t c κs =
     let node = o .before .node-at .ensures in
     let h = some-operand (q .formed) (rw node at (p .before .before .before .if1 .left)) in
     let d = rw node at (p .run-node .ensures) in
+    let e = sym (c .before .before .before .before .before .before .whole .ensures) ∙ c .before .before .before .before .v .given .1 in
+    (one-ready q h d e, first-ranged q h d e)
+
+run-node-returns-2 : (t : ℕ) → run-node-lts.Need-returns-2 (run-node-calls t) (run-node-at t) run-node.Post
+run-node-returns-2 t c =
+    let p = c .before .before .before .before .before .before .before .before .before .before .before .before .before .before .before in
+    let o = p .before .before .before .before in
+    let s = o .before .before .before .before .before in
+    let q = s .pre .1 in
+    let node = o .before .node-at .ensures in
+    let h = some-operand (q .formed) (rw node at (p .before .before .before .if1 .left)) in
+    let d = rw node at (p .run-node .ensures) in
+    let k = has-one _ (rw node at (c .before .before .before .before .before .before .has-one .ensures)) (c .before .before .before .before .before .if2 .taken) in
+    rw (c .apart2 .ensures) (one-runs q h d (sym (c .before .before .before .before .before .before .before .before .before .before .whole .ensures) ∙ c .before .before .before .before .before .before .before .before .v .given .1) k (rw node at (c .before .before .before .one .ensures)))
+
+run-node-rest-requires : (t : ℕ) → run-node-lts.Need-rest-requires (run-node-calls t) (run-node-at t) run-node.Post
+run-node-rest-requires t c κs =
+    let p = c .before .before .before .before .before .before .before .before .before .before .before .before in
+    let o = p .before .before .before .before in
+    let s = o .before .before .before .before .before in
+    let q = s .pre .1 in
+    let node = o .before .node-at .ensures in
+    let h = some-operand (q .formed) (rw node at (p .before .before .before .if1 .left)) in
+    let d = rw node at (p .run-node .ensures) in
     let k = has-more _ h (rw node at (c .before .before .before .has-one .ensures)) (c .before .before .if2 .left) in
-    (omega (arith, s .pre .0), half-ready q h d (c .before .before .before .before .before .v .given .1) k (c .before .before .before .before .before .before .before .before .before .before .environment .given))
+    (omega (arith, s .pre .0), half-ready q h d (sym (c .before .before .before .before .before .before .before .whole .ensures) ∙ c .before .before .before .before .before .v .given .1) k (c .before .before .before .before .before .before .before .before .before .before .before .environment .given))
 
 run-node-returns-3 : (t : ℕ) → run-node-lts.Need-returns-3 (run-node-calls t) (run-node-at t) run-node.Post
 run-node-returns-3 t c =
-    let p = c .before .before .before .before .before .before .before in
+    let p = c .before .before .before .before .before .before .before .before in
     let o = p .before .before .before .before in
     let s = o .before .before .before .before .before in
     let q = s .pre .1 in
     let node = o .before .node-at .ensures in
     let h = some-operand (q .formed) (rw node at (p .before .before .before .if1 .left)) in
     let d = rw node at (p .run-node .ensures) in
-    first-failed q h d (c .before .at .given .1)
+    first-failed q h d (sym (c .before .before .before .whole .ensures) ∙ c .before .at .given .1)
 
 run-node-returns-4 : (t : ℕ) → run-node-lts.Need-returns-4 (run-node-calls t) (run-node-at t) run-node.Post
 run-node-returns-4 t c =
-    let p = c .before .before .before .before .before .before .before .before .before .before .before .before .before .before .before .before in
+    let p = c .before .before .before .before .before .before .before .before .before .before .before .before .before .before .before .before .before .before in
     let o = p .before .before .before .before in
     let s = o .before .before .before .before .before in
     let q = s .pre .1 in
     let node = o .before .node-at .ensures in
     let h = some-operand (q .formed) (rw node at (p .before .before .before .if1 .left)) in
     let d = rw node at (p .run-node .ensures) in
-    let k = has-more _ h (rw node at (c .before .before .before .before .before .before .before .before .has-one .ensures)) (c .before .before .before .before .before .before .before .if2 .left) in
-    rest-runs q h d (c .before .before .before .before .before .before .before .before .before .before .v .given .1) k (c .before .before .before .before .rest .ensures)
+    let k = has-more _ h (rw node at (c .before .before .before .before .before .before .before .before .before .has-one .ensures)) (c .before .before .before .before .before .before .before .before .if2 .left) in
+    rw (c .apart3 .ensures) (rest-runs q h d (sym (c .before .before .before .before .before .before .before .before .before .before .before .before .before .whole .ensures) ∙ c .before .before .before .before .before .before .before .before .before .before .before .v .given .1) k (c .before .before .before .before .before .rest .ensures))
 
 pub +rest+run-node-spec : {M : Type 1} → statement M
 +rest+run-node-spec =
@@ -233,6 +241,7 @@ pub +rest+run-node-spec : {M : Type 1} → statement M
     (λ c. search needs)
     (rest-bind-requires t)
     (rest-run-node-requires t)
+    (λ c κs. search needs)
     (λ c. search needs)
     (rest-two-requires t)
     (λ c. search needs)
@@ -246,17 +255,21 @@ pub +rest+run-node-spec : {M : Type 1} → statement M
     λ t. run-node-lts.spec (run-node-calls t) (run-node-at t) run-node.Post
     (run-node-node-at-requires t)
     (run-node-leaf-requires t)
+    (λ c κs. search needs)
     (λ c. search needs)
     (run-node-returns t)
     (run-node-run-node-requires t)
+    (λ c κs. search needs)
     (λ c. search needs)
     (λ c. search needs)
     (λ c κs. search needs)
     (run-node-one-requires t)
+    (λ c κs. search needs)
     (λ c. search needs)
     (λ c. search needs)
     (run-node-returns-2 t)
     (run-node-rest-requires t)
+    (λ c κs. search needs)
     (λ c. search needs)
     (λ c. search needs)
     (run-node-returns-3 t)
