@@ -3,9 +3,10 @@
 // frames of its own.
 ghost use mathlib.Core.Bool.{false, _||_};
 ghost use mathlib.Core.Path.{_≡_};
-ghost use Prim.Native.Nat.{_<_};
+ghost use Prim.Native.Nat.{_≤_, _<_};
 ghost use lib.Dec.{eqb};
-ghost use Rattle.script.specs.Code.Forms.{formOf, nodeIn, treeIn};
+ghost use Rattle.script.specs.Code.Forms.{nodeIn, treeIn};
+ghost use Rattle.script.specs.Rows.{nodeOperands};
 ghost use Rattle.rules.specs.Checking.{check, exec};
 ghost use Rattle.rules.specs.Paths.{start, leaves};
 ghost use Rattle.rules.specs.Symbolic.{symbols};
@@ -13,7 +14,7 @@ ghost use Rattle.rules.specs.SymbolicRules.{verdict};
 ghost use Rattle.checker.specs.Code.Frames.{waitsFor};
 ghost use Rattle.checker.specs.Code.Going.{Enterable, Arrives, AtEnd, PathEnds, Walkable, Walks};
 ghost use Rattle.checker.specs.Code.Notes.{Noting, Blocked};
-ghost use Rattle.checker.specs.Code.Rules.{Checkable, CheckableRest, restType, Judged};
+ghost use Rattle.checker.specs.Code.Rules.{Checkable, Judged};
 ghost use Rattle.checker.specs.Code.State.{typesOn};
 use crate::forks::SIZE;
 use crate::forks::resume;
@@ -147,28 +148,59 @@ fn paths(table: &[u32], types: &[u32], depth: usize, limit: u32, n: u32, a: u32)
     Checked::Refused(Refusal::TooManyPaths(n))
 }
 
-// Goes on with node n in typed mode, once its first operand has type t.
-fn check_rest(table: &[u32], space: &mut [u32], depth: usize, limit: u32, n: u32, t: u32) -> Checked
-    requires { ⌜ CheckableRest (now table) (now space) depth n ⌝ }
-    ensures { λ r. ⌜ Judged (restType (formOf (nodeIn (now (table .entry)) n .kind)) limit n (treeIn (now (table .entry)) (nodeIn (now (table .entry)) n .b)) (treeIn (now (table .entry)) (nodeIn (now (table .entry)) n .c)) t (typesOn (now (space .entry)) depth)) depth (now (space .entry)) r (now (space .exit)) ⌝ }
+// The answer, its numbers copied one by one: copied as they stand, they would be read in pieces that were not written as such, and a processor waits for that.
+fn copied(answer: Checked) -> Checked
+    ensures { λ r. ⌜ r ≡ answer ⌝ }
+{
+    match answer {
+        Checked::Accepted(t) => Checked::Accepted(t),
+        Checked::Refused(why) => Checked::Refused(why),
+    }
+}
+
+// The type of an operand m of a node with several.
+fn operand_type(table: &[u32], space: &mut [u32], depth: usize, limit: u32, m: u32) -> Checked
+    requires { ⌜ Checkable (now table) (now space) depth m ⌝ }
+    ensures { λ r. ⌜ Judged (check limit (treeIn (now (table .entry)) m) (typesOn (now (space .entry)) depth)) depth (now (space .entry)) r (now (space .exit)) ⌝ }
+{
+    let node = node_at(table, m as usize);
+    if node.kind < LEAVES {
+        return leaf_type(node.kind, node.a, space, depth, m);
+    }
+    if has_one(node.kind) {
+        return copied(check_node(table, space, depth, limit, m));
+    }
+    copied(check_several(table, space, depth, limit, m))
+}
+
+// Checks node n in typed mode, which has two operands or three.
+fn check_several(table: &[u32], space: &mut [u32], depth: usize, limit: u32, n: u32) -> Checked
+    requires { ⌜ Checkable (now table) (now space) depth n ⌝ }
+    requires { ⌜ 2 ≤ nodeOperands (nodeIn (now table) n .kind) ⌝ }
+    ensures { λ r. ⌜ Judged (check limit (treeIn (now (table .entry)) n) (typesOn (now (space .entry)) depth)) depth (now (space .entry)) r (now (space .exit)) ⌝ }
 {
     let node = node_at(table, n as usize);
-    let inner = bind_type(space, depth, node.kind, t);
-    match check_node(table, space, inner, limit, node.b) {
+    match operand_type(table, space, depth, limit, node.a) {
         Checked::Refused(why) => Checked::Refused(why),
-        Checked::Accepted(u) => {
-            if node.kind == IF {
-                return match check_node(table, space, depth, limit, node.c) {
-                    Checked::Refused(why) => Checked::Refused(why),
-                    Checked::Accepted(v) => if_type(t, u, v, n),
-                };
+        Checked::Accepted(t) => {
+            let inner = bind_type(space, depth, node.kind, t);
+            match operand_type(table, space, inner, limit, node.b) {
+                Checked::Refused(why) => Checked::Refused(why),
+                Checked::Accepted(u) => {
+                    if node.kind == IF {
+                        return match operand_type(table, space, depth, limit, node.c) {
+                            Checked::Refused(why) => Checked::Refused(why),
+                            Checked::Accepted(v) => if_type(t, u, v, n),
+                        };
+                    }
+                    two_type(node.kind, t, u, n)
+                }
             }
-            two_type(node.kind, t, u, n)
         }
     }
 }
 
-// Checks node n in typed mode: the environment is the types of the first `depth` variables. A first operand that is a leaf has its type at once.
+// Checks node n in typed mode: the environment is the types of the first `depth` variables.
 pub fn check_node(table: &[u32], space: &mut [u32], depth: usize, limit: u32, n: u32) -> Checked
     requires { ⌜ Checkable (now table) (now space) depth n ⌝ }
     ensures { λ r. ⌜ Judged (check limit (treeIn (now (table .entry)) n) (typesOn (now (space .entry)) depth)) depth (now (space .entry)) r (now (space .exit)) ⌝ }
@@ -178,29 +210,15 @@ pub fn check_node(table: &[u32], space: &mut [u32], depth: usize, limit: u32, n:
         return leaf_type(node.kind, node.a, space, depth, n);
     }
     if node.kind == SYM {
-        return paths(table, space, depth, limit, n, node.a);
+        return copied(paths(table, space, depth, limit, n, node.a));
     }
-    let first = node_at(table, node.a as usize);
-    if first.kind < LEAVES {
-        return match leaf_type(first.kind, first.a, space, depth, node.a) {
+    if has_one(node.kind) {
+        return match check_node(table, space, depth, limit, node.a) {
             Checked::Refused(why) => Checked::Refused(why),
-            Checked::Accepted(t) => {
-                if has_one(node.kind) {
-                    return one_type(node.kind, t, n);
-                }
-                check_rest(table, space, depth, limit, n, t)
-            }
+            Checked::Accepted(t) => one_type(node.kind, t, n),
         };
     }
-    match check_node(table, space, depth, limit, node.a) {
-        Checked::Refused(why) => Checked::Refused(why),
-        Checked::Accepted(t) => {
-            if has_one(node.kind) {
-                return one_type(node.kind, t, n);
-            }
-            check_rest(table, space, depth, limit, n, t)
-        }
-    }
+    copied(check_several(table, space, depth, limit, n))
 }
 
 // The type of a typed block on a path, whose operand is node a: what the notes say, or else what the typed rules give, which is then noted.

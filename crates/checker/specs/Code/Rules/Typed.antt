@@ -8,7 +8,7 @@ use native.Mathlib.Omega.{arith}
 use lib.Dec.{eqb}
 use borrow.Author.Tests.{eqb-true, eqb-false}
 use Rattle.script.specs.Code.Forms.{formOf, leaf-kinds, nodeIn, treeIn, formed-less}
-use Rattle.script.specs.Rows.{nodeOperands}
+use Rattle.script.specs.Rows.{rows, rowOf, takesOf, operandCount, nodeOperands}
 use Rattle.script.specs.declared.Checked.{Checked}
 use Rattle.script.specs.declared.Checked.the-variants.{Accepted, Refused}
 use Rattle.script.specs.declared.Refusal.{Refusal}
@@ -37,6 +37,16 @@ aside-trans h a b =
 
 pub aside-types : {depth : ℕ} {ws left : List ℕ} → Aside depth ws left → typesOn left depth ≡ typesOn ws depth
 aside-types {depth} {ws} {left} a = types-kept ws left depth (a .before)
+
+-- ---- several operands
+
+pub some-of : {k : ℕ} → 2 ≤ k → 1 ≤ k
+some-of h = omega (arith, h)
+
+-- a `sym` has one
+pub several-no-sym : {k : ℕ} → 2 ≤ nodeOperands k → k ≡ 14 → ⊥
+unfolding nodeOperands takesOf operandCount rowOf rows
+several-no-sym h e = let z : 2 ≤ 1 = rw e at h in omega (arith, z)
 
 -- ---- node n
 

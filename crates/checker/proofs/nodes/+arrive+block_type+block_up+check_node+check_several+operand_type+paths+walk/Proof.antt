@@ -1,4 +1,4 @@
--- The checker meets its contracts: `check_node`, `check_rest`, `paths`, `walk`, `arrive`, `block_up` and `block_type` of `checker::nodes`, which call each
+-- The checker meets its contracts: `check_node`, `check_several`, `operand_type`, `paths`, `walk`, `arrive`, `block_up` and `block_type` of `checker::nodes`, which call each
 -- other; a node's number falls on the way round. In the answers s is the start's measure and `requires`, q the `requires`, node what was read, h that it has an operand,
 -- d what that one came to, or the way down to the inner node, w what holds at a turn of the loop, b what was bound, or what a block came to. Assumes nothing.
 use borrow.Author.Needs.{needs}
@@ -13,32 +13,36 @@ use Rattle.checker.specs.Code.Going.Steps.{enters-formed, descends-other
 use Rattle.checker.specs.Code.Going.Walking.{Walking, walking-start, walking-descendable, walking-enterable, walking-earlier, walking-less, walking-on, walking-stopped, walking-end, walking-ended, Turn, turn-start, turn-walkable, turn-none, turn-wrong, turn-last, turn-more, no-frames}
 use Rattle.checker.specs.Code.Paths.Start.{blank}
 use Rattle.checker.specs.Code.Rules.Blocks.{block-small, block-recallables, block-recalled, judged-lent, block-judged, block-noted}
-use Rattle.checker.specs.Code.Rules.Typed.{leaf-judged, first-earlier, first-checkable, sym-judged, one-judged, rest-checkable, rest-judged, first-refused, bind-room, second-earlier, second-checkable, third-earlier, third-checkable, if-judged, third-refused, two-judged, second-refused}
+use Rattle.checker.specs.Code.Rules.Typed.{some-of, several-no-sym, leaf-judged, first-earlier, first-checkable, sym-judged, one-judged, rest-checkable, rest-judged, first-refused, bind-room, second-earlier, second-checkable, third-earlier, third-checkable, if-judged, third-refused, two-judged, second-refused}
 use Prim.Native.Nat.{ℕ, _<_}
 use borrow.Fn.Kinds.{In}
 use borrow.Fn.PlainCycle.{Measures, is, falls, and}
 use Rattle.checker.proofs.nodes.arrive.Reads as arrive
 use Rattle.checker.proofs.nodes.arrive.Kinds as arrive-kinds
-use Rattle.checker.proofs.nodes.+arrive+block_type+block_up+check_node+check_rest+paths+walk.Lts-arrive as arrive-lts
+use Rattle.checker.proofs.nodes.+arrive+block_type+block_up+check_node+check_several+operand_type+paths+walk.Lts-arrive as arrive-lts
 use Rattle.checker.proofs.nodes.block_type.Reads as block-type
 use Rattle.checker.proofs.nodes.block_type.Kinds as block-type-kinds
-use Rattle.checker.proofs.nodes.+arrive+block_type+block_up+check_node+check_rest+paths+walk.Lts-block_type as block-type-lts
+use Rattle.checker.proofs.nodes.+arrive+block_type+block_up+check_node+check_several+operand_type+paths+walk.Lts-block_type as block-type-lts
 use Rattle.checker.proofs.nodes.block_up.Reads as block-up
 use Rattle.checker.proofs.nodes.block_up.Kinds as block-up-kinds
-use Rattle.checker.proofs.nodes.+arrive+block_type+block_up+check_node+check_rest+paths+walk.Lts-block_up as block-up-lts
+use Rattle.checker.proofs.nodes.+arrive+block_type+block_up+check_node+check_several+operand_type+paths+walk.Lts-block_up as block-up-lts
 use Rattle.checker.proofs.nodes.check_node.Reads as check-node
 use Rattle.checker.proofs.nodes.check_node.Kinds as check-node-kinds
-use Rattle.checker.proofs.nodes.+arrive+block_type+block_up+check_node+check_rest+paths+walk.Lts-check_node as check-node-lts
-use Rattle.checker.proofs.nodes.check_rest.Reads as check-rest
-use Rattle.checker.proofs.nodes.check_rest.Kinds as check-rest-kinds
-use Rattle.checker.proofs.nodes.+arrive+block_type+block_up+check_node+check_rest+paths+walk.Lts-check_rest as check-rest-lts
+use Rattle.checker.proofs.nodes.+arrive+block_type+block_up+check_node+check_several+operand_type+paths+walk.Lts-check_node as check-node-lts
+use Rattle.checker.proofs.nodes.check_several.Reads as check-several
+use Rattle.checker.proofs.nodes.check_several.Kinds as check-several-kinds
+use Rattle.checker.proofs.nodes.+arrive+block_type+block_up+check_node+check_several+operand_type+paths+walk.Lts-check_several as check-several-lts
+use Rattle.checker.proofs.nodes.operand_type.Reads as operand-type
+use Rattle.checker.proofs.nodes.operand_type.Kinds as operand-type-kinds
+use Rattle.checker.proofs.nodes.+arrive+block_type+block_up+check_node+check_several+operand_type+paths+walk.Lts-operand_type as operand-type-lts
 use Rattle.checker.proofs.nodes.paths.Reads as paths
 use Rattle.checker.proofs.nodes.paths.Kinds as paths-kinds
-use Rattle.checker.proofs.nodes.+arrive+block_type+block_up+check_node+check_rest+paths+walk.Lts-paths as paths-lts
+use Rattle.checker.proofs.nodes.+arrive+block_type+block_up+check_node+check_several+operand_type+paths+walk.Lts-paths as paths-lts
 use Rattle.checker.proofs.nodes.walk.Reads as walk
 use Rattle.checker.proofs.nodes.walk.Kinds as walk-kinds
-use Rattle.checker.proofs.nodes.+arrive+block_type+block_up+check_node+check_rest+paths+walk.Lts-walk as walk-lts
+use Rattle.checker.proofs.nodes.+arrive+block_type+block_up+check_node+check_several+operand_type+paths+walk.Lts-walk as walk-lts
 use Rattle.checker.proofs.frames.descend.Reads as descend-reads
+use Rattle.checker.proofs.nodes.copied.Reads as copied-reads
 use Rattle.checker.proofs.nodes.path_end.Reads as path-end-reads
 use Rattle.checker.proofs.notes.note.Reads as note-reads
 use Rattle.checker.proofs.notes.recall.Reads as recall-reads
@@ -53,8 +57,8 @@ use Rattle.checker.proofs.types.one_type.Reads as one-type-reads
 use Rattle.checker.proofs.types.two_type.Reads as two-type-reads
 use Rattle.script.proofs.table.has_one.Reads as has-one-reads
 use Rattle.script.proofs.table.node_at.Reads as node-at-reads
-use Rattle.checker.proofs.nodes.+arrive+block_type+block_up+check_node+check_rest+paths+walk.{statement}
-use Rattle.checker.proofs.nodes.+arrive+block_type+block_up+check_node+check_rest+paths+walk.Tie.{close}
+use Rattle.checker.proofs.nodes.+arrive+block_type+block_up+check_node+check_several+operand_type+paths+walk.{statement}
+use Rattle.checker.proofs.nodes.+arrive+block_type+block_up+check_node+check_several+operand_type+paths+walk.Tie.{close}
 
 abbrev μ-arrive : Measures 3 arrive-kinds.ps ℕ
 μ-arrive κs a = 4 * a .1 .1 .1 .1 .0 + 3
@@ -68,8 +72,11 @@ abbrev μ-block-up : Measures 3 block-up-kinds.ps ℕ
 abbrev μ-check-node : Measures 2 check-node-kinds.ps ℕ
 μ-check-node κs a = 4 * a .1 .1 .1 .1 .0 + 3
 
-abbrev μ-check-rest : Measures 2 check-rest-kinds.ps ℕ
-μ-check-rest κs a = 4 * a .1 .1 .1 .1 .0 + 2
+abbrev μ-check-several : Measures 2 check-several-kinds.ps ℕ
+μ-check-several κs a = 4 * a .1 .1 .1 .1 .0 + 2
+
+abbrev μ-operand-type : Measures 2 operand-type-kinds.ps ℕ
+μ-operand-type κs a = 4 * a .1 .1 .1 .1 .0 + 4
 
 abbrev μ-paths : Measures 2 paths-kinds.ps ℕ
 μ-paths κs a = 4 * a .1 .1 .1 .1 .0 + 1
@@ -101,11 +108,17 @@ check-node-at t = and 2 check-node-kinds.ps (is 2 check-node-kinds.ps μ-check-n
 abbrev check-node-below : ℕ → In 2 check-node-kinds.ps
 check-node-below t = and 2 check-node-kinds.ps (falls 2 check-node-kinds.ps _<_ μ-check-node t) check-node.Pre
 
-abbrev check-rest-at : ℕ → In 2 check-rest-kinds.ps
-check-rest-at t = and 2 check-rest-kinds.ps (is 2 check-rest-kinds.ps μ-check-rest t) check-rest.Pre
+abbrev check-several-at : ℕ → In 2 check-several-kinds.ps
+check-several-at t = and 2 check-several-kinds.ps (is 2 check-several-kinds.ps μ-check-several t) check-several.Pre
 
-abbrev check-rest-below : ℕ → In 2 check-rest-kinds.ps
-check-rest-below t = and 2 check-rest-kinds.ps (falls 2 check-rest-kinds.ps _<_ μ-check-rest t) check-rest.Pre
+abbrev check-several-below : ℕ → In 2 check-several-kinds.ps
+check-several-below t = and 2 check-several-kinds.ps (falls 2 check-several-kinds.ps _<_ μ-check-several t) check-several.Pre
+
+abbrev operand-type-at : ℕ → In 2 operand-type-kinds.ps
+operand-type-at t = and 2 operand-type-kinds.ps (is 2 operand-type-kinds.ps μ-operand-type t) operand-type.Pre
+
+abbrev operand-type-below : ℕ → In 2 operand-type-kinds.ps
+operand-type-below t = and 2 operand-type-kinds.ps (falls 2 operand-type-kinds.ps _<_ μ-operand-type t) operand-type.Pre
 
 abbrev paths-at : ℕ → In 2 paths-kinds.ps
 paths-at t = and 2 paths-kinds.ps (is 2 paths-kinds.ps μ-paths t) paths.Pre
@@ -159,28 +172,46 @@ check-node-calls t = (
   leaf-type-reads.Learnt,
   paths-below t,
   paths.Post,
+  copied-reads.Asked,
+  copied-reads.Learnt,
   has-one-reads.Asked,
   has-one-reads.Learnt,
+  check-node-below t,
+  check-node.Post,
   one-type-reads.Asked,
   one-type-reads.Learnt,
-  check-rest-below t,
-  check-rest.Post,
-  check-node-below t,
-  check-node.Post,
+  check-several-below t,
+  check-several.Post,
 )
 
-abbrev check-rest-calls : ℕ → check-rest-lts.Claims
-check-rest-calls t = (
+abbrev check-several-calls : ℕ → check-several-lts.Claims
+check-several-calls t = (
   node-at-reads.Asked,
   node-at-reads.Learnt,
+  operand-type-below t,
+  operand-type.Post,
   bind-type-reads.Asked,
   bind-type-reads.Learnt,
-  check-node-below t,
-  check-node.Post,
   if-type-reads.Asked,
   if-type-reads.Learnt,
   two-type-reads.Asked,
   two-type-reads.Learnt,
+)
+
+abbrev operand-type-calls : ℕ → operand-type-lts.Claims
+operand-type-calls t = (
+  node-at-reads.Asked,
+  node-at-reads.Learnt,
+  leaf-type-reads.Asked,
+  leaf-type-reads.Learnt,
+  has-one-reads.Asked,
+  has-one-reads.Learnt,
+  check-node-below t,
+  check-node.Post,
+  copied-reads.Asked,
+  copied-reads.Learnt,
+  check-several-below t,
+  check-several.Post,
 )
 
 abbrev paths-calls : ℕ → paths-lts.Claims
@@ -329,174 +360,184 @@ check-node-paths-requires t c κs =
 
 check-node-returns-2 : (t : ℕ) → check-node-lts.Need-returns-2 (check-node-calls t) (check-node-at t) check-node.Post
 check-node-returns-2 t c =
-    let s = c .before .before .before .before .before .before .before .before .before .pre in
+    let s = c .before .before .before .before .before .before .before .before .before .before .pre in
     let q = s .1 in
-    let node = c .before .before .before .before .before .before .node-at .ensures in
-    sym-judged q _ (rw node at (c .before .before .if2 .taken)) (rw node at (c .paths .ensures))
+    let node = c .before .before .before .before .before .before .before .node-at .ensures in
+    rw (c .copied .ensures) (sym-judged q _ (rw node at (c .before .before .before .if2 .taken)) (rw node at (c .before .paths .ensures)))
 
-check-node-node-at-requires-2 : (t : ℕ) → check-node-lts.Need-node-at-requires-2 (check-node-calls t) (check-node-at t) check-node.Post
-check-node-node-at-requires-2 t c κs =
-    let s = c .before .before .before .before .before .before .before .before .pre in
+check-node-check-node-requires : (t : ℕ) → check-node-lts.Need-check-node-requires (check-node-calls t) (check-node-at t) check-node.Post
+check-node-check-node-requires t c κs =
+    let s = c .before .before .before .before .before .before .before .before .before .before .pre in
     let q = s .1 in
-    let node = c .before .before .before .before .before .node-at .ensures in
-    let h = some-operand (q .formed) (rw node at (c .before .before .before .if1 .left)) in
-    rw node (omega (arith, first-earlier q h, q .formed .room))
-
-check-node-leaf-type-requires-2 : (t : ℕ) → check-node-lts.Need-leaf-type-requires-2 (check-node-calls t) (check-node-at t) check-node.Post
-check-node-leaf-type-requires-2 t c κs =
-    let q = c .before .before .before .before .before .before .before .before .before .before .before .before .pre .1 in
-    omega (arith, q .variables, q .lent)
+    let node = c .before .before .before .before .before .before .before .node-at .ensures in
+    let h = some-operand (q .formed) (rw node at (c .before .before .before .before .before .if1 .left)) in
+    rw node (omega (arith, first-earlier q h, s .0), first-checkable q h)
 
 check-node-returns-3 : (t : ℕ) → check-node-lts.Need-returns-3 (check-node-calls t) (check-node-at t) check-node.Post
 check-node-returns-3 t c =
-    let s = c .before .before .before .before .before .before .before .before .before .before .before .before .before .before .before .before .before .before .before .pre in
-    let q = s .1 in
-    let node = c .before .before .before .before .before .before .before .before .before .before .before .before .before .before .before .before .node-at .ensures in
-    let h = some-operand (q .formed) (rw node at (c .before .before .before .before .before .before .before .before .before .before .before .before .before .before .if1 .left)) in
-    let d = leaf-judged (first-checkable q h) (c .before .before .before .before .before .before .before .before .before .before .before .before .before .before .before .before .before .before .before .args .limit) (rw (c .before .before .before .before .before .before .before .before .before .before .node-at2 .ensures, node) at (c .before .before .before .before .before .before .before .before .if3 .taken)) (rw (c .before .before .before .before .before .before .before .before .before .before .node-at2 .ensures, node) at (c .before .before .before .before .before .before .leaf-type2 .ensures)) in
-    let z = has-one _ (rw node at (c .before .before .has-one .ensures)) (c .before .if4 .taken) in
-    one-judged q h _ d (c .before .before .before .before .t .given .1) z (rw node at (c .before .before .before .before .before .before .before .before .before .before .before .before .if2 .left)) (rw node at (c .one-type .ensures))
-
-check-node-check-rest-requires : (t : ℕ) → check-node-lts.Need-check-rest-requires (check-node-calls t) (check-node-at t) check-node.Post
-check-node-check-rest-requires t c κs =
-    let s = c .before .before .before .before .before .before .before .before .before .before .before .before .before .before .before .before .before .before .before .pre in
-    let q = s .1 in
-    let node = c .before .before .before .before .before .before .before .before .before .before .before .before .before .before .before .before .node-at .ensures in
-    let h = some-operand (q .formed) (rw node at (c .before .before .before .before .before .before .before .before .before .before .before .before .before .before .if1 .left)) in
-    let d = leaf-judged (first-checkable q h) (c .before .before .before .before .before .before .before .before .before .before .before .before .before .before .before .before .before .before .before .args .limit) (rw (c .before .before .before .before .before .before .before .before .before .before .node-at2 .ensures, node) at (c .before .before .before .before .before .before .before .before .if3 .taken)) (rw (c .before .before .before .before .before .before .before .before .before .before .node-at2 .ensures, node) at (c .before .before .before .before .before .before .leaf-type2 .ensures)) in
-    let m = has-more _ h (rw node at (c .before .before .has-one .ensures)) (c .before .if4 .left) in
-    (omega (arith, s .0), rest-checkable q h _ d (c .before .before .before .before .t .given .1) m)
-
-check-node-returns-4 : (t : ℕ) → check-node-lts.Need-returns-4 (check-node-calls t) (check-node-at t) check-node.Post
-check-node-returns-4 t c =
     let s = c .before .before .before .before .before .before .before .before .before .before .before .before .before .before .before .before .pre in
     let q = s .1 in
     let node = c .before .before .before .before .before .before .before .before .before .before .before .before .before .node-at .ensures in
     let h = some-operand (q .formed) (rw node at (c .before .before .before .before .before .before .before .before .before .before .before .if1 .left)) in
-    let d = leaf-judged (first-checkable q h) (c .before .before .before .before .before .before .before .before .before .before .before .before .before .before .before .before .args .limit) (rw (c .before .before .before .before .before .before .before .node-at2 .ensures, node) at (c .before .before .before .before .before .if3 .taken)) (rw (c .before .before .before .before .before .before .before .node-at2 .ensures, node) at (c .before .before .before .leaf-type2 .ensures)) in
+    let d = rw node at (c .before .before .before .before .before .check-node .ensures) in
     first-refused q h _ d (c .before .why .given .1) (rw node at (c .before .before .before .before .before .before .before .before .before .if2 .left))
 
-check-node-returns-5 : (t : ℕ) → check-node-lts.Need-returns-5 (check-node-calls t) (check-node-at t) check-node.Post
-check-node-returns-5 t c =
-    let s = c .before .before .before .before .before .before .before .before .before .before .before .before .before .before .before .before .before .before .before .before .before .before .pre in
+check-node-returns-4 : (t : ℕ) → check-node-lts.Need-returns-4 (check-node-calls t) (check-node-at t) check-node.Post
+check-node-returns-4 t c =
+    let s = c .before .before .before .before .before .before .before .before .before .before .before .before .before .before .before .before .before .pre in
     let q = s .1 in
-    let node = c .before .before .before .before .before .before .before .before .before .before .before .before .before .before .before .before .before .before .before .node-at .ensures in
-    let h = some-operand (q .formed) (rw node at (c .before .before .before .before .before .before .before .before .before .before .before .before .before .before .before .before .before .if1 .left)) in
-    let d = leaf-judged (first-checkable q h) (c .before .before .before .before .before .before .before .before .before .before .before .before .before .before .before .before .before .before .before .before .before .before .args .limit) (rw (c .before .before .before .before .before .before .before .before .before .before .before .before .before .node-at2 .ensures, node) at (c .before .before .before .before .before .before .before .before .before .before .before .if3 .taken)) (rw (c .before .before .before .before .before .before .before .before .before .before .before .before .before .node-at2 .ensures, node) at (c .before .before .before .before .before .before .before .before .before .leaf-type2 .ensures)) in
-    let m = has-more _ h (rw node at (c .before .before .before .before .before .has-one .ensures)) (c .before .before .before .before .if4 .left) in
-    rest-judged q h _ d (c .before .before .before .before .before .before .before .t .given .1) m (c .before .before .check-rest .ensures)
+    let node = c .before .before .before .before .before .before .before .before .before .before .before .before .before .before .node-at .ensures in
+    let h = some-operand (q .formed) (rw node at (c .before .before .before .before .before .before .before .before .before .before .before .before .if1 .left)) in
+    let d = rw node at (c .before .before .before .before .before .before .check-node .ensures) in
+    let z = has-one _ (rw node at (c .before .before .before .before .before .before .before .before .before .has-one .ensures)) (c .before .before .before .before .before .before .before .before .if3 .taken) in
+    one-judged q h _ d (c .before .before .t .given .1) z (rw node at (c .before .before .before .before .before .before .before .before .before .before .if2 .left)) (rw node at (c .one-type .ensures))
 
-check-node-check-node-requires : (t : ℕ) → check-node-lts.Need-check-node-requires (check-node-calls t) (check-node-at t) check-node.Post
-check-node-check-node-requires t c κs =
-    let s = c .before .before .before .before .before .before .before .before .before .before .before .before .pre in
+check-node-check-several-requires : (t : ℕ) → check-node-lts.Need-check-several-requires (check-node-calls t) (check-node-at t) check-node.Post
+check-node-check-several-requires t c κs =
+    let s = c .before .before .before .before .before .before .before .before .before .before .pre in
     let q = s .1 in
-    let node = c .before .before .before .before .before .before .before .before .before .node-at .ensures in
-    let h = some-operand (q .formed) (rw node at (c .before .before .before .before .before .before .before .if1 .left)) in
+    let node = c .before .before .before .before .before .before .before .node-at .ensures in
+    let h = some-operand (q .formed) (rw node at (c .before .before .before .before .before .if1 .left)) in
+    (omega (arith, s .0), (q, has-more _ h (rw node at (c .before .before .has-one .ensures)) (c .before .if3 .left)))
+
+check-node-returns-5 : (t : ℕ) → check-node-lts.Need-returns-5 (check-node-calls t) (check-node-at t) check-node.Post
+check-node-returns-5 t c = rw (c .copied2 .ensures) (c .before .before .before .check-several .ensures)
+
+check-several-node-at-requires : (t : ℕ) → check-several-lts.Need-node-at-requires (check-several-calls t) (check-several-at t) check-several.Post
+check-several-node-at-requires t c κs = omega (arith, c .before .before .pre .1 .0 .formed .room)
+
+check-several-operand-type-requires : (t : ℕ) → check-several-lts.Need-operand-type-requires (check-several-calls t) (check-several-at t) check-several.Post
+check-several-operand-type-requires t c κs =
+    let s = c .before .before .before .before .pre in
+    let q = s .1 .0 in
+    let h = some-of (s .1 .1) in
+    let node = c .before .node-at .ensures in
     rw node (omega (arith, first-earlier q h, s .0), first-checkable q h)
 
-check-node-returns-6 : (t : ℕ) → check-node-lts.Need-returns-6 (check-node-calls t) (check-node-at t) check-node.Post
-check-node-returns-6 t c =
-    let s = c .before .before .before .before .before .before .before .before .before .before .before .before .before .before .before .before .before .before .before .before .before .pre in
-    let q = s .1 in
-    let node = c .before .before .before .before .before .before .before .before .before .before .before .before .before .before .before .before .before .before .node-at .ensures in
-    let h = some-operand (q .formed) (rw node at (c .before .before .before .before .before .before .before .before .before .before .before .before .before .before .before .before .if1 .left)) in
-    let d = rw node at (c .before .before .before .before .before .before .before .before .check-node .ensures) in
-    let z = has-one _ (rw node at (c .before .before .has-one2 .ensures)) (c .before .if5 .taken) in
-    one-judged q h _ d (c .before .before .before .before .t2 .given .1) z (rw node at (c .before .before .before .before .before .before .before .before .before .before .before .before .before .before .if2 .left)) (rw node at (c .one-type2 .ensures))
+check-several-bind-type-requires : (t : ℕ) → check-several-lts.Need-bind-type-requires (check-several-calls t) (check-several-at t) check-several.Post
+check-several-bind-type-requires t c κs =
+    let s = c .before .before .before .before .before .before .before .before .before .before .before .pre in
+    let q = s .1 .0 in
+    let h = some-of (s .1 .1) in
+    let node = c .before .before .before .before .before .before .before .before .node-at .ensures in
+    let d = rw node at (c .before .before .before .before .before .before .operand-type .ensures) in
+    let r = rest-checkable q h _ d (c .before .before .t .given .1) (s .1 .1) in
+    (bind-room r, r .lent)
 
-check-node-check-rest-requires-2 : (t : ℕ) → check-node-lts.Need-check-rest-requires-2 (check-node-calls t) (check-node-at t) check-node.Post
-check-node-check-rest-requires-2 t c κs =
-    let s = c .before .before .before .before .before .before .before .before .before .before .before .before .before .before .before .before .before .before .before .before .before .pre in
-    let q = s .1 in
-    let node = c .before .before .before .before .before .before .before .before .before .before .before .before .before .before .before .before .before .before .node-at .ensures in
-    let h = some-operand (q .formed) (rw node at (c .before .before .before .before .before .before .before .before .before .before .before .before .before .before .before .before .if1 .left)) in
-    let d = rw node at (c .before .before .before .before .before .before .before .before .check-node .ensures) in
-    let m = has-more _ h (rw node at (c .before .before .has-one2 .ensures)) (c .before .if5 .left) in
-    (omega (arith, s .0), rest-checkable q h _ d (c .before .before .before .before .t2 .given .1) m)
+check-several-operand-type-requires-2 : (t : ℕ) → check-several-lts.Need-operand-type-requires-2 (check-several-calls t) (check-several-at t) check-several.Post
+check-several-operand-type-requires-2 t c κs =
+    let s = c .before .before .before .before .before .before .before .before .before .before .before .before .before .before .before .pre in
+    let q = s .1 .0 in
+    let h = some-of (s .1 .1) in
+    let node = c .before .before .before .before .before .before .before .before .before .before .before .before .node-at .ensures in
+    let d = rw node at (c .before .before .before .before .before .before .before .before .before .before .operand-type .ensures) in
+    let r = rest-checkable q h _ d (c .before .before .before .before .before .before .t .given .1) (s .1 .1) in
+    let b = rw node at (c .before .before .before .bind-type .ensures) in
+    rw node (omega (arith, second-earlier r, s .0), second-checkable r b)
 
-check-node-returns-7 : (t : ℕ) → check-node-lts.Need-returns-7 (check-node-calls t) (check-node-at t) check-node.Post
-check-node-returns-7 t c =
-    let s = c .before .before .before .before .before .before .before .before .before .before .before .before .before .before .before .before .before .before .pre in
-    let q = s .1 in
-    let node = c .before .before .before .before .before .before .before .before .before .before .before .before .before .before .before .node-at .ensures in
-    let h = some-operand (q .formed) (rw node at (c .before .before .before .before .before .before .before .before .before .before .before .before .before .if1 .left)) in
-    let d = rw node at (c .before .before .before .before .before .check-node .ensures) in
-    first-refused q h _ d (c .before .why2 .given .1) (rw node at (c .before .before .before .before .before .before .before .before .before .before .before .if2 .left))
-
-check-node-returns-8 : (t : ℕ) → check-node-lts.Need-returns-8 (check-node-calls t) (check-node-at t) check-node.Post
-check-node-returns-8 t c =
+check-several-operand-type-requires-3 : (t : ℕ) → check-several-lts.Need-operand-type-requires-3 (check-several-calls t) (check-several-at t) check-several.Post
+check-several-operand-type-requires-3 t c κs =
     let s = c .before .before .before .before .before .before .before .before .before .before .before .before .before .before .before .before .before .before .before .before .before .before .before .before .pre in
-    let q = s .1 in
+    let q = s .1 .0 in
+    let h = some-of (s .1 .1) in
     let node = c .before .before .before .before .before .before .before .before .before .before .before .before .before .before .before .before .before .before .before .before .before .node-at .ensures in
-    let h = some-operand (q .formed) (rw node at (c .before .before .before .before .before .before .before .before .before .before .before .before .before .before .before .before .before .before .before .if1 .left)) in
-    let d = rw node at (c .before .before .before .before .before .before .before .before .before .before .before .check-node .ensures) in
-    let m = has-more _ h (rw node at (c .before .before .before .before .before .has-one2 .ensures)) (c .before .before .before .before .if5 .left) in
-    rest-judged q h _ d (c .before .before .before .before .before .before .before .t2 .given .1) m (c .before .before .check-rest2 .ensures)
+    let d = rw node at (c .before .before .before .before .before .before .before .before .before .before .before .before .before .before .before .before .before .before .before .operand-type .ensures) in
+    let r = rest-checkable q h _ d (c .before .before .before .before .before .before .before .before .before .before .before .before .before .before .before .t .given .1) (s .1 .1) in
+    let b = rw node at (c .before .before .before .before .before .before .before .before .before .before .before .before .bind-type .ensures) in
+    let e = rw node at (c .before .before .before .before .before .before .before .before .operand-type2 .ensures) in
+    let i = rw node at (c .before .if1 .taken) in
+    rw node (omega (arith, third-earlier r b _ e i, s .0), third-checkable r b _ e i)
 
-check-rest-node-at-requires : (t : ℕ) → check-rest-lts.Need-node-at-requires (check-rest-calls t) (check-rest-at t) check-rest.Post
-check-rest-node-at-requires t c κs = omega (arith, c .before .before .pre .1 .formed .room)
+check-several-returns : (t : ℕ) → check-several-lts.Need-returns (check-several-calls t) (check-several-at t) check-several.Post
+check-several-returns t c =
+    let s = c .before .before .before .before .before .before .before .before .before .before .before .before .before .before .before .before .before .before .before .before .before .before .before .before .before .before .before .before .before .before .pre in
+    let q = s .1 .0 in
+    let h = some-of (s .1 .1) in
+    let node = c .before .before .before .before .before .before .before .before .before .before .before .before .before .before .before .before .before .before .before .before .before .before .before .before .before .before .before .node-at .ensures in
+    let d = rw node at (c .before .before .before .before .before .before .before .before .before .before .before .before .before .before .before .before .before .before .before .before .before .before .before .before .before .operand-type .ensures) in
+    let r = rest-checkable q h _ d (c .before .before .before .before .before .before .before .before .before .before .before .before .before .before .before .before .before .before .before .before .before .t .given .1) (s .1 .1) in
+    let b = rw node at (c .before .before .before .before .before .before .before .before .before .before .before .before .before .before .before .before .before .before .bind-type .ensures) in
+    let e = rw node at (c .before .before .before .before .before .before .before .before .before .before .before .before .before .before .operand-type2 .ensures) in
+    let i = rw node at (c .before .before .before .before .before .before .before .if1 .taken) in
+    rest-judged q h _ d (c .before .before .before .before .before .before .before .before .before .before .before .before .before .before .before .before .before .before .before .before .before .t .given .1) (s .1 .1) (third-refused r b _ e i (c .before .before .before .before .before .before .before .before .before .before .u .given .1) (rw node at (c .before .before .before .before .before .operand-type3 .ensures)) (c .before .why3 .given .1))
 
-check-rest-bind-type-requires : (t : ℕ) → check-rest-lts.Need-bind-type-requires (check-rest-calls t) (check-rest-at t) check-rest.Post
-check-rest-bind-type-requires t c κs =
-    let s = c .before .before .before .before .pre in
+check-several-returns-2 : (t : ℕ) → check-several-lts.Need-returns-2 (check-several-calls t) (check-several-at t) check-several.Post
+check-several-returns-2 t c =
+    let s = c .before .before .before .before .before .before .before .before .before .before .before .before .before .before .before .before .before .before .before .before .before .before .before .before .before .before .before .before .before .before .before .pre in
+    let q = s .1 .0 in
+    let h = some-of (s .1 .1) in
+    let node = c .before .before .before .before .before .before .before .before .before .before .before .before .before .before .before .before .before .before .before .before .before .before .before .before .before .before .before .before .node-at .ensures in
+    let d = rw node at (c .before .before .before .before .before .before .before .before .before .before .before .before .before .before .before .before .before .before .before .before .before .before .before .before .before .before .operand-type .ensures) in
+    let r = rest-checkable q h _ d (c .before .before .before .before .before .before .before .before .before .before .before .before .before .before .before .before .before .before .before .before .before .before .t .given .1) (s .1 .1) in
+    let b = rw node at (c .before .before .before .before .before .before .before .before .before .before .before .before .before .before .before .before .before .before .before .bind-type .ensures) in
+    let e = rw node at (c .before .before .before .before .before .before .before .before .before .before .before .before .before .before .before .operand-type2 .ensures) in
+    let i = rw node at (c .before .before .before .before .before .before .before .before .if1 .taken) in
+    rest-judged q h _ d (c .before .before .before .before .before .before .before .before .before .before .before .before .before .before .before .before .before .before .before .before .before .before .t .given .1) (s .1 .1) (if-judged r b _ e i (c .before .before .before .before .before .before .before .before .before .before .before .u .given .1) (rw node at (c .before .before .before .before .before .before .operand-type3 .ensures)) (c .before .before .v .given .1) (c .if-type .ensures))
+
+check-several-returns-3 : (t : ℕ) → check-several-lts.Need-returns-3 (check-several-calls t) (check-several-at t) check-several.Post
+check-several-returns-3 t c =
+    let s = c .before .before .before .before .before .before .before .before .before .before .pre in
+    let q = s .1 .0 in
+    let h = some-of (s .1 .1) in
+    let node = c .before .before .before .before .before .before .before .node-at .ensures in
+    let d = rw node at (c .before .before .before .before .before .operand-type .ensures) in
+    first-refused q h _ d (c .before .why .given .1) (several-no-sym (s .1 .1))
+
+check-several-returns-4 : (t : ℕ) → check-several-lts.Need-returns-4 (check-several-calls t) (check-several-at t) check-several.Post
+check-several-returns-4 t c =
+    let s = c .before .before .before .before .before .before .before .before .before .before .before .before .before .before .before .before .before .before .before .before .before .pre in
+    let q = s .1 .0 in
+    let h = some-of (s .1 .1) in
+    let node = c .before .before .before .before .before .before .before .before .before .before .before .before .before .before .before .before .before .before .node-at .ensures in
+    let d = rw node at (c .before .before .before .before .before .before .before .before .before .before .before .before .before .before .before .before .operand-type .ensures) in
+    let r = rest-checkable q h _ d (c .before .before .before .before .before .before .before .before .before .before .before .before .t .given .1) (s .1 .1) in
+    let b = rw node at (c .before .before .before .before .before .before .before .before .before .bind-type .ensures) in
+    let e = rw node at (c .before .before .before .before .before .operand-type2 .ensures) in
+    rest-judged q h _ d (c .before .before .before .before .before .before .before .before .before .before .before .before .t .given .1) (s .1 .1) (second-refused r b _ e (c .before .why2 .given .1))
+
+check-several-returns-5 : (t : ℕ) → check-several-lts.Need-returns-5 (check-several-calls t) (check-several-at t) check-several.Post
+check-several-returns-5 t c =
+    let s = c .before .before .before .before .before .before .before .before .before .before .before .before .before .before .before .before .before .before .before .before .before .before .before .before .pre in
+    let q = s .1 .0 in
+    let h = some-of (s .1 .1) in
+    let node = c .before .before .before .before .before .before .before .before .before .before .before .before .before .before .before .before .before .before .before .before .before .node-at .ensures in
+    let d = rw node at (c .before .before .before .before .before .before .before .before .before .before .before .before .before .before .before .before .before .before .before .operand-type .ensures) in
+    let r = rest-checkable q h _ d (c .before .before .before .before .before .before .before .before .before .before .before .before .before .before .before .t .given .1) (s .1 .1) in
+    let b = rw node at (c .before .before .before .before .before .before .before .before .before .before .before .before .bind-type .ensures) in
+    let e = rw node at (c .before .before .before .before .before .before .before .before .operand-type2 .ensures) in
+    rest-judged q h _ d (c .before .before .before .before .before .before .before .before .before .before .before .before .before .before .before .t .given .1) (s .1 .1) (two-judged r b _ e (rw node at (c .before .if1 .left)) (c .before .before .before .before .u .given .1) (rw node at (c .two-type .ensures)))
+
+operand-type-node-at-requires : (t : ℕ) → operand-type-lts.Need-node-at-requires (operand-type-calls t) (operand-type-at t) operand-type.Post
+operand-type-node-at-requires t c κs = omega (arith, c .before .before .pre .1 .formed .room)
+
+operand-type-leaf-type-requires : (t : ℕ) → operand-type-lts.Need-leaf-type-requires (operand-type-calls t) (operand-type-at t) operand-type.Post
+operand-type-leaf-type-requires t c κs =
+    let q = c .before .before .before .before .before .before .pre .1 in
+    omega (arith, q .variables, q .lent)
+
+operand-type-returns : (t : ℕ) → operand-type-lts.Need-returns (operand-type-calls t) (operand-type-at t) operand-type.Post
+operand-type-returns t c =
+    let s = c .before .before .before .before .before .before .before .pre in
     let q = s .1 in
-    (bind-room q, q .lent)
+    let node = c .before .before .before .before .node-at .ensures in
+    leaf-judged q _ (rw node at (c .before .before .if1 .taken)) (rw node at (c .leaf-type .ensures))
 
-check-rest-check-node-requires : (t : ℕ) → check-rest-lts.Need-check-node-requires (check-rest-calls t) (check-rest-at t) check-rest.Post
-check-rest-check-node-requires t c κs =
+operand-type-check-node-requires : (t : ℕ) → operand-type-lts.Need-check-node-requires (operand-type-calls t) (operand-type-at t) operand-type.Post
+operand-type-check-node-requires t c κs = (omega (arith, c .before .before .before .before .before .before .before .before .pre .0), c .before .before .before .before .before .before .before .before .pre .1)
+
+operand-type-returns-2 : (t : ℕ) → operand-type-lts.Need-returns-2 (operand-type-calls t) (operand-type-at t) operand-type.Post
+operand-type-returns-2 t c = rw (c .copied .ensures) (c .before .before .before .check-node .ensures)
+
+operand-type-check-several-requires : (t : ℕ) → operand-type-lts.Need-check-several-requires (operand-type-calls t) (operand-type-at t) operand-type.Post
+operand-type-check-several-requires t c κs =
     let s = c .before .before .before .before .before .before .before .before .pre in
     let q = s .1 in
     let node = c .before .before .before .before .before .node-at .ensures in
-    let b = rw node at (c .before .before .before .bind-type .ensures) in
-    rw node (omega (arith, second-earlier q, s .0), second-checkable q b)
+    let h = some-operand (q .formed) (rw node at (c .before .before .before .if1 .left)) in
+    (omega (arith, s .0), (q, has-more _ h (rw node at (c .before .before .has-one .ensures)) (c .before .if2 .left)))
 
-check-rest-check-node-requires-2 : (t : ℕ) → check-rest-lts.Need-check-node-requires-2 (check-rest-calls t) (check-rest-at t) check-rest.Post
-check-rest-check-node-requires-2 t c κs =
-    let s = c .before .before .before .before .before .before .before .before .before .before .before .before .before .before .before .before .before .pre in
-    let q = s .1 in
-    let node = c .before .before .before .before .before .before .before .before .before .before .before .before .before .before .node-at .ensures in
-    let b = rw node at (c .before .before .before .before .before .before .before .before .before .before .before .before .bind-type .ensures) in
-    let d = rw node at (c .before .before .before .before .before .before .before .before .check-node .ensures) in
-    let h = rw node at (c .before .if1 .taken) in
-    rw node (omega (arith, third-earlier q b _ d h, s .0), third-checkable q b _ d h)
-
-check-rest-returns : (t : ℕ) → check-rest-lts.Need-returns (check-rest-calls t) (check-rest-at t) check-rest.Post
-check-rest-returns t c =
-    let s = c .before .before .before .before .before .before .before .before .before .before .before .before .before .before .before .before .before .before .before .before .before .before .before .pre in
-    let q = s .1 in
-    let node = c .before .before .before .before .before .before .before .before .before .before .before .before .before .before .before .before .before .before .before .before .node-at .ensures in
-    let b = rw node at (c .before .before .before .before .before .before .before .before .before .before .before .before .before .before .before .before .before .before .bind-type .ensures) in
-    let d = rw node at (c .before .before .before .before .before .before .before .before .before .before .before .before .before .before .check-node .ensures) in
-    let h = rw node at (c .before .before .before .before .before .before .before .if1 .taken) in
-    third-refused q b _ d h (c .before .before .before .before .before .before .before .before .before .before .u .given .1) (rw node at (c .before .before .before .before .before .check-node2 .ensures)) (c .before .why2 .given .1)
-
-check-rest-returns-2 : (t : ℕ) → check-rest-lts.Need-returns-2 (check-rest-calls t) (check-rest-at t) check-rest.Post
-check-rest-returns-2 t c =
-    let s = c .before .before .before .before .before .before .before .before .before .before .before .before .before .before .before .before .before .before .before .before .before .before .before .before .pre in
-    let q = s .1 in
-    let node = c .before .before .before .before .before .before .before .before .before .before .before .before .before .before .before .before .before .before .before .before .before .node-at .ensures in
-    let b = rw node at (c .before .before .before .before .before .before .before .before .before .before .before .before .before .before .before .before .before .before .before .bind-type .ensures) in
-    let d = rw node at (c .before .before .before .before .before .before .before .before .before .before .before .before .before .before .before .check-node .ensures) in
-    let h = rw node at (c .before .before .before .before .before .before .before .before .if1 .taken) in
-    if-judged q b _ d h (c .before .before .before .before .before .before .before .before .before .before .before .u .given .1) (rw node at (c .before .before .before .before .before .before .check-node2 .ensures)) (c .before .before .v .given .1) (c .if-type .ensures)
-
-check-rest-returns-3 : (t : ℕ) → check-rest-lts.Need-returns-3 (check-rest-calls t) (check-rest-at t) check-rest.Post
-check-rest-returns-3 t c =
-    let s = c .before .before .before .before .before .before .before .before .before .before .before .before .before .before .pre in
-    let q = s .1 in
-    let node = c .before .before .before .before .before .before .before .before .before .before .before .node-at .ensures in
-    let b = rw node at (c .before .before .before .before .before .before .before .before .before .bind-type .ensures) in
-    let d = rw node at (c .before .before .before .before .before .check-node .ensures) in
-    second-refused q b _ d (c .before .why .given .1)
-
-check-rest-returns-4 : (t : ℕ) → check-rest-lts.Need-returns-4 (check-rest-calls t) (check-rest-at t) check-rest.Post
-check-rest-returns-4 t c =
-    let s = c .before .before .before .before .before .before .before .before .before .before .before .before .before .before .before .before .before .pre in
-    let q = s .1 in
-    let node = c .before .before .before .before .before .before .before .before .before .before .before .before .before .before .node-at .ensures in
-    let b = rw node at (c .before .before .before .before .before .before .before .before .before .before .before .before .bind-type .ensures) in
-    let d = rw node at (c .before .before .before .before .before .before .before .before .check-node .ensures) in
-    two-judged q b _ d (rw node at (c .before .if1 .left)) (c .before .before .before .before .u .given .1) (rw node at (c .two-type .ensures))
+operand-type-returns-3 : (t : ℕ) → operand-type-lts.Need-returns-3 (operand-type-calls t) (operand-type-at t) operand-type.Post
+operand-type-returns-3 t c = rw (c .copied2 .ensures) (c .before .before .before .check-several .ensures)
 
 paths-slice-aggregate-start : (t : ℕ) → paths-lts.Need-slice-aggregate-start (paths-calls t) (paths-at t) paths.Post paths-Inv-loop paths-μ-loop
 paths-slice-aggregate-start t c = refl
@@ -577,9 +618,9 @@ walk-loop-less t c = walking-less (c .before .before .before .before .before .be
 walk-loop-again : (t : ℕ) → walk-lts.Need-loop-again (walk-calls t) (walk-at t) walk.Post walk-Inv-loop walk-μ-loop
 walk-loop-again t c = walking-on (c .before .before .before .before .before .before .before .before .before .before .before .before .before .before .loop .inv) (c .before .before .before .before .before .before .before .before .before .before .before .before .descend .ensures) (c .before .before .before .before .before .before .before .arrive .ensures) (c .before .k .given .1) (c .before .before .before .before .before .before .before .arrive .kept .1 .0) (c .before .before .before .before .before .before .before .arrive .kept .1 .1 .0 ∙ c .before .before .before .before .before .before .before .before .before .before .before .before .descend .kept .1 .0)
 
-pub +arrive+block-type+block-up+check-node+check-rest+paths+walk-spec : {M : Type 1} → statement M
-+arrive+block-type+block-up+check-node+check-rest+paths+walk-spec =
-    close μ-arrive μ-block-type μ-block-up μ-check-node μ-check-rest μ-paths μ-walk
+pub +arrive+block-type+block-up+check-node+check-several+operand-type+paths+walk-spec : {M : Type 1} → statement M
++arrive+block-type+block-up+check-node+check-several+operand-type+paths+walk-spec =
+    close μ-arrive μ-block-type μ-block-up μ-check-node μ-check-several μ-operand-type μ-paths μ-walk
     (λ t. arrive-lts.spec (arrive-calls t) (arrive-at t) arrive.Post
     (arrive-node-at-requires t)
     (arrive-block-up-requires t)
@@ -628,53 +669,60 @@ pub +arrive+block-type+block-up+check-node+check-rest+paths+walk-spec : {M : Typ
     (λ c. search needs)
     (check-node-returns t)
     (check-node-paths-requires t)
+    (λ c κs. search needs)
     (λ c. search needs)
     (check-node-returns-2 t)
-    (λ c. search needs)
-    (check-node-node-at-requires-2 t)
-    (check-node-leaf-type-requires-2 t)
-    (λ c. search needs)
-    (λ c. search needs)
     (λ c κs. search needs)
-    (λ c κs. search needs)
-    (λ c. search needs)
-    (check-node-returns-3 t)
-    (check-node-check-rest-requires t)
-    (λ c. search needs)
-    (check-node-returns-4 t)
-    (λ c. search needs)
-    (check-node-returns-5 t)
     (check-node-check-node-requires t)
     (λ c. search needs)
     (λ c. search needs)
     (λ c κs. search needs)
+    (λ c. search needs)
+    (check-node-returns-3 t)
+    (λ c. search needs)
+    (check-node-returns-4 t)
+    (check-node-check-several-requires t)
     (λ c κs. search needs)
     (λ c. search needs)
-    (check-node-returns-6 t)
-    (check-node-check-rest-requires-2 t)
-    (λ c. search needs)
-    (check-node-returns-7 t)
-    (λ c. search needs)
-    (check-node-returns-8 t))
-    (λ t. check-rest-lts.spec (check-rest-calls t) (check-rest-at t) check-rest.Post
-    (check-rest-node-at-requires t)
-    (check-rest-bind-type-requires t)
-    (check-rest-check-node-requires t)
+    (check-node-returns-5 t))
+    (λ t. check-several-lts.spec (check-several-calls t) (check-several-at t) check-several.Post
+    (check-several-node-at-requires t)
+    (check-several-operand-type-requires t)
     (λ c. search needs)
     (λ c. search needs)
-    (check-rest-check-node-requires-2 t)
+    (check-several-bind-type-requires t)
+    (check-several-operand-type-requires-2 t)
+    (λ c. search needs)
+    (λ c. search needs)
+    (check-several-operand-type-requires-3 t)
     (λ c. search needs)
     (λ c. search needs)
     (λ c κs. search needs)
     (λ c. search needs)
-    (check-rest-returns t)
+    (check-several-returns t)
     (λ c. search needs)
-    (check-rest-returns-2 t)
+    (check-several-returns-2 t)
     (λ c κs. search needs)
     (λ c. search needs)
-    (check-rest-returns-3 t)
+    (check-several-returns-3 t)
     (λ c. search needs)
-    (check-rest-returns-4 t))
+    (check-several-returns-4 t)
+    (λ c. search needs)
+    (check-several-returns-5 t))
+    (λ t. operand-type-lts.spec (operand-type-calls t) (operand-type-at t) operand-type.Post
+    (operand-type-node-at-requires t)
+    (operand-type-leaf-type-requires t)
+    (λ c. search needs)
+    (operand-type-returns t)
+    (λ c κs. search needs)
+    (operand-type-check-node-requires t)
+    (λ c κs. search needs)
+    (λ c. search needs)
+    (operand-type-returns-2 t)
+    (operand-type-check-several-requires t)
+    (λ c κs. search needs)
+    (λ c. search needs)
+    (operand-type-returns-3 t))
     (λ t. paths-lts.spec (paths-calls t) (paths-at t) paths.Post paths-Inv-loop paths-μ-loop
     (paths-slice-aggregate-start t)
     (paths-start-requires t)
