@@ -19,7 +19,7 @@
  * no alignment to keep.
  *
  * Stack: lend a check 64 KiB and a run 32 KiB, beside what a thread takes for itself. The deepest
- * check that was found took 63,535 bytes, the deepest run 31,631. These are measured, by
+ * check that was found took 60,879 bytes, the deepest run 31,615. These are measured, by
  * examples/stack_test.c, and not proved. A check's time grows with its paths: docs/PERFORMANCE.md
  * has both.
  */
