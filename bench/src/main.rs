@@ -57,7 +57,7 @@ fn row(set: &Set, times: Times) -> String {
         set.inputs.len(),
         range(nodes),
         range(paths),
-        shown(times.library),
+        shown(times.verified),
         shown(times.reference),
         times
             .ratio

@@ -24,7 +24,7 @@ pub struct Time {
 /// The times of library and reference for one call, none for what is left out, and the reference's
 /// by the library's, if there are both.
 pub struct Times {
-    pub library: Option<Time>,
+    pub verified: Option<Time>,
     pub reference: Option<Time>,
     pub ratio: Option<f64>,
 }
@@ -55,7 +55,7 @@ pub fn measure(set: &mut Set, all: bool) -> Times {
         _ => None,
     };
     Times {
-        library,
+        verified: library,
         reference,
         ratio,
     }

@@ -1,6 +1,10 @@
 // One run: the text is read, the script run, and what came of it printed.
+ghost use mathlib.Core.Path.{_≡_};
 ghost use Prim.Native.Nat.{_+_, _*_, _≤_, _<_};
 ghost use lib.ListN.{length};
+ghost use Rattle.rules.specs.Running.{runTable};
+ghost use Rattle.trial.specs.Tables.{tableAs};
+ghost use Rattle.runs.specs.Outcome.{cellsAfter};
 use script::Ran;
 use script::Reading;
 use trial::say;
@@ -85,7 +89,9 @@ fn try_script(
     before: &[u8],
     cells: &mut [u8],
     used: u32,
-) {
+)
+    ensures { λ _. ⌜ now (cells .exit) ≡ runTable (tableAs (now (table .entry)) nodes (now (entries .entry)) «entry_count») (now (values .entry)) (now (cells .entry)) used .cells ⌝ }
+{
     match tables::run(table, nodes, entries, entry_count, values, cells, used) {
         Ran::Gave(v, now) => {
             say(b"value");
@@ -106,7 +112,9 @@ fn try_script(
 }
 
 // Reads a text, and runs it if it could be read. The line is left open.
-pub fn try_text(text: &[u8], values: &[u8], before: &[u8], cells: &mut [u8], used: u32) {
+pub fn try_text(text: &[u8], values: &[u8], before: &[u8], cells: &mut [u8], used: u32)
+    ensures { λ _. ⌜ now (cells .exit) ≡ cellsAfter (now (text .entry)) (now (values .entry)) (now (cells .entry)) used ⌝ }
+{
     let mut table = [0u32; 512];
     let mut entries = [0u32; 16];
     match tables::read(text, &mut table, &mut entries) {

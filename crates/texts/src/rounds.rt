@@ -1,4 +1,6 @@
 // One text's trial: it is read, written again if it could be read, and what came of it is printed.
+ghost use mathlib.Core.Path.{_≡_};
+ghost use Rattle.texts.specs.Rounds.{wroteBy, Tried};
 use crate::slices::all_bytes;
 use crate::slices::entries_clear;
 use crate::slices::fill_bytes;
@@ -51,7 +53,9 @@ fn try_writer(
     entries: &[u32],
     used: usize,
     out: &mut [u8],
-) {
+)
+    ensures { λ _. ⌜ now (out .exit) ≡ wroteBy (now (table .entry)) nodes (now (entries .entry)) «used» (now (out .entry)) ⌝ }
+{
     fill_bytes(out, BLANK);
     say(b"\t");
     match tables::write(table, nodes, entries, used, out) {
@@ -69,7 +73,9 @@ fn try_writer(
 }
 
 // Reads a text into a table that holds other numbers, prints what came of it, and goes on to the writer. The line is left open.
-pub fn try_text(text: &[u8], table: &mut [u32], entries: &mut [u32], out: &mut [u8]) {
+pub fn try_text(text: &[u8], table: &mut [u32], entries: &mut [u32], out: &mut [u8])
+    ensures { λ _. ⌜ Tried (now (text .entry)) (now (table .entry)) (now (entries .entry)) (now (out .entry)) (now (table .exit)) (now (entries .exit)) (now (out .exit)) ⌝ }
+{
     fill_words(table, STALE);
     fill_words(entries, STALE);
     match tables::read(text, table, entries) {

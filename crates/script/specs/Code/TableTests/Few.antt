@@ -6,7 +6,7 @@ use mathlib.Core.Path.{_≡_, refl, ap, _∙_}
 use Prim.Native.Nat.{ℕ, zero, suc, _+_, _≤_, _<_}
 use native.Mathlib.Omega.{arith}
 use lib.Dec.{leb, eqb}
-use lib.ListN.{length, take, drop}
+use lib.ListN.{length, take, drop, drop-of-length-le}
 use lib.Seq.{drop-cons}
 use borrow.Author.Tests.{lt-leb}
 use Rattle.script.specs.Flat.{nodesIn}
@@ -29,10 +29,7 @@ syms-step ns i h = rw (drop-cons ns i unused) refl
 
 syms-past : (ns : List Node) (i : ℕ) → length ns ≤ i → symsIn (drop i ns) ≡ 0
 unfolding symsIn
-syms-past [] zero h = refl
-syms-past [] (suc i) h = refl
-syms-past (n ∷ ns) zero h = absurd (omega arith)
-syms-past (n ∷ ns) (suc i) h = syms-past ns i (omega arith)
+syms-past ns i h = rw drop-of-length-le refl
 
 module _ (xs : List ℕ) (n : ℕ) (l : Lent xs n) (i : ℕ) where
   -- a turn: the node's one is counted, no more than one

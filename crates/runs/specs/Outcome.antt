@@ -1,0 +1,21 @@
+-- What a trial leaves in the lent cells. Assumes nothing.
+use mathlib.Core.List.{List}
+use Prim.Native.Nat.{ℕ, min}
+use lib.ListN.{replicate}
+use Rattle.script.specs.declared.Reading.{Reading}
+use Rattle.script.specs.declared.Reading.the-variants.{Read, Refused}
+use Rattle.text.specs.Reading.{reading}
+use Rattle.rules.specs.Running.{runTable}
+use Rattle.records.specs.Code.Copies.{copied}
+use Rattle.trial.specs.Tables.{placeCount, tableAs}
+
+-- what a run of the table that was read leaves; as they were, if none was
+abbrev pub cellsBy : Reading → List ℕ → List ℕ → List ℕ → List ℕ → ℕ → List ℕ
+cellsBy (Read s) xs es values cells used = runTable (tableAs xs (s .nodes) es (s .entries)) values cells used .cells
+cellsBy (Refused r) xs es values cells used = cells
+
+-- the text is read into 128 places and 16 entries
+abbrev pub cellsAfter : List ℕ → List ℕ → List ℕ → ℕ → List ℕ
+cellsAfter text values cells used =
+    cellsBy (reading text placeCount 16 .answer) (copied (reading text placeCount 16 .lentNodes) (min placeCount 128) (replicate 512 0))
+    (reading text placeCount 16 .lentEntries) values cells used
