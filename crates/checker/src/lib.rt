@@ -23,7 +23,7 @@ mod types;
 use nodes::check_node;
 use script::Checked;
 use script::table::Tested;
-use script::tests::test_table;
+use tests::test_table;
 use terms::VARIABLES;
 
 // At most how many paths a `sym` has.

@@ -16,8 +16,7 @@ use Rattle.rules.specs.Demand3.{EndsWithValue, accepted-ends-with-value}
 use Rattle.rules.specs.Running.{valuesOf, rightCells, rightValues}
 use Rattle.rules.specs.Typings.{HasType, HaveTypes, Fits, Extends}
 use Rattle.text.specs.Grammar.{Meaning, means, refused, meaningOf}
-use Rattle.text.specs.OneSpelling.{tableRead}
-use Rattle.text.specs.Reading.{entriesRead}
+use Rattle.text.specs.Reading.{tableRead, entriesRead}
 use Rattle.host.specs.Answers.{packed, done, answerOfCheck, answerOfRun, AnswersRun}
 use Rattle.host.specs.Texts.{checkMeant, checkText, runMeant, runText}
 

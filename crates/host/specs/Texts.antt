@@ -9,7 +9,7 @@ use Rattle.script.specs.declared.Ran.{Ran}
 use Rattle.rules.specs.Checking.{pathLimit, checkTable}
 use Rattle.rules.specs.Running.{Run, runTable}
 use Rattle.text.specs.Grammar.{Meaning, means, refused, meaningOf}
-use Rattle.text.specs.OneSpelling.{tableRead}
+use Rattle.text.specs.Reading.{tableRead}
 pub mod Bounds
 
 abbrev pub checkMeant : Meaning → Checked

@@ -17,7 +17,7 @@ pub fn check_text(text: &[u8]) -> Checked
 {
     let mut table = [0u32; 4 * Script::NODES];
     let mut entries = [0u32; Script::ENTRIES];
-    match text::reader::read(text, &mut table, &mut entries) {
+    match reader::read(text, &mut table, &mut entries) {
         Reading::Read(script) => {
             let nodes = script.nodes;
             let count = script.entries;
@@ -33,7 +33,7 @@ pub fn run_text(text: &[u8], values: &[u8], cells: &mut [u8], used: u32) -> Ran
 {
     let mut table = [0u32; 4 * Script::NODES];
     let mut entries = [0u32; Script::ENTRIES];
-    match text::reader::read(text, &mut table, &mut entries) {
+    match reader::read(text, &mut table, &mut entries) {
         Reading::Read(script) => {
             let nodes = script.nodes;
             let count = script.entries;

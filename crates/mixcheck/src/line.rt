@@ -10,10 +10,10 @@ ghost use Rattle.mixcheck.specs.Line.{placeText, lineOf, lineLimit, PutL
 use script::Checked;
 use script::Place;
 use script::Refusal;
-use text::output::put;
-use text::output::put_bytes;
-use text::output::put_number;
-use text::output::put_type;
+use output::put;
+use output::put_bytes;
+use output::put_number;
+use output::put_type;
 
 // No line is longer.
 pub const MOST: usize = 26;

@@ -74,7 +74,7 @@ fn write_flat(
     requires { ⌜ 4 * lent ≤ length (now flat) ⌝ }
     ensures { λ r. ⌜ Writes (tableIn (take (4 * lent) (now (flat .entry))) nodes (now (entries .entry)) «entry_count») (now (out .entry)) r (now (out .exit)) ⌝ }
 {
-    text::writer::write(&flat[..4 * lent], nodes, entries, entry_count, out)
+    writer::write(&flat[..4 * lent], nodes, entries, entry_count, out)
 }
 
 // Reads a text for `lent` places into a flat table, which has the nodes that a script can have.
@@ -83,7 +83,7 @@ fn read_flat(text: &[u8], lent: usize, flat: &mut [u32], entries: &mut [u32]) ->
     ensures { λ r. ⌜ Reads (now (text .entry)) lent (length (now (entries .entry))) r (places lent (now (flat .exit))) (now (entries .exit)) ⌝ }
 {
     let n = lesser(lent, Script::NODES);
-    text::reader::read(text, &mut flat[..4 * n], entries)
+    reader::read(text, &mut flat[..4 * n], entries)
 }
 
 // Checks a table: accepted with its type, or why not. Nothing lent changes.

@@ -21,7 +21,7 @@ use script::Ran;
 use script::Refusal;
 use script::Script;
 use script::table::Tested;
-use script::tests::test_table;
+use tests::test_table;
 use steps::Step;
 use steps::run_node;
 use steps::whole;

@@ -4,7 +4,6 @@ ghost use Rattle.script.specs.Answers.{numberOf, placeOf, kindOf, bitsOf
 ghost use Rattle.script.specs.Limits.{scriptOf, sizeOf, withNode, withEntry};
 
 pub mod table;
-pub mod tests;
 
 // A node of a script: its kind, 0 to 14, and three operands, of which the unused ones are 0.
 pub struct Node {

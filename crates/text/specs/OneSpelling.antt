@@ -22,7 +22,7 @@ use Rattle.script.specs.declared.Script.{Script}
 use Rattle.script.specs.declared.Writing.{Writing}
 use Rattle.text.specs.Bytes.{lf}
 use Rattle.text.specs.Grammar.{parts, Meaning, means, refused, linesFrom, meaningOf}
-use Rattle.text.specs.Reading.{filled}
+use Rattle.text.specs.Reading.{filled, tableRead}
 use Rattle.text.specs.Reading as Reads
 use Rattle.text.specs.SameTable.Text.{Some, some-parts, parts-some}
 use Rattle.text.specs.Writing.{entriesText, nodesText, textOf}
@@ -34,10 +34,6 @@ pub mod Fields
 pub mod Lines
 pub mod Numbers
 pub mod Text
-
--- the table of a text that means es and ns, where n nodes and m entries are lent
-abbrev pub tableRead : List ℕ → List Node → ℕ → ℕ → Table
-tableRead es ns n m = record { lentNodes = filled ns n unused; nodeCount = length ns; lentEntries = filled es m 0; entryCount = length es }
 
 -- ---- texts
 

@@ -8,7 +8,7 @@ use lib.Dec.{leb}
 use lib.ListN.{length, drop, replicate}
 use Rattle.script.specs.Flat.{flat, nodesIn}
 use Rattle.script.specs.Limits.{nodeLimit, entryLimit, sizeOf}
-use Rattle.script.specs.Table.{unused}
+use Rattle.script.specs.Table.{Table, unused}
 use Rattle.script.specs.Tests.{pick}
 use Rattle.script.specs.declared.Node.{Node}
 use Rattle.script.specs.declared.Reading.{Reading}
@@ -40,6 +40,10 @@ module _ {A : Type 0} where
 -- where n nodes and m entries are lent
 abbrev pub outcomeOf : Meaning → ℕ → ℕ → Outcome
 outcomeOf t n m = record { answer = answerOf t; lentNodes = filled (nodesRead t) n unused; lentEntries = filled (entriesRead t) m 0 }
+
+-- the table of a text that means es and ns, where n nodes and m entries are lent
+abbrev pub tableRead : List ℕ → List Node → ℕ → ℕ → Table
+tableRead es ns n m = record { lentNodes = filled ns n unused; nodeCount = length ns; lentEntries = filled es m 0; entryCount = length es }
 
 -- 32, then what the text means
 abbrev pub tried : List ℕ → ℕ → ℕ → Meaning

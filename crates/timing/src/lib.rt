@@ -12,7 +12,7 @@ use script::Writing;
 pub extern "C" fn timing_read(text: &[u8], table: &mut [u32], entries: &mut [u32]) -> u64
     ensures { λ r. ⌜ ReadTo (readingIn (now (text .entry)) (now (table .entry)) (now (entries .entry))) r (now (table .exit)) (now (entries .exit)) ⌝ }
 {
-    match text::reader::read(text, table, entries) {
+    match reader::read(text, table, entries) {
         Reading::Read(script) => script.nodes as u64,
         Reading::Refused(_) => 0,
     }
@@ -29,7 +29,7 @@ pub extern "C" fn timing_write(
 ) -> u64
     ensures { λ r. ⌜ WroteTo (writing (tableIn (now (table .entry)) nodes (now (entries .entry)) «entry_count») (now (out .entry))) r (now (out .exit)) ⌝ }
 {
-    match text::writer::write(table, nodes, entries, entry_count, out) {
+    match writer::write(table, nodes, entries, entry_count, out) {
         Writing::Wrote(length) => length as u64,
         Writing::Refused(_) => 0,
     }

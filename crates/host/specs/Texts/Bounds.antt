@@ -28,7 +28,8 @@ use Rattle.rules.specs.Running.{lentLimit, valuesOf, rightCells, rightValues, f
 use Rattle.rules.specs.Running.Room.{outcome, cells-suffice}
 use Rattle.text.specs.Grammar.{Meaning, means, refused, meaningOf}
 use Rattle.text.specs.Grammar.Bounds.{RefusedBelow, is-refused, meaning-below}
-use Rattle.text.specs.OneSpelling.{tableRead, read-passes}
+use Rattle.text.specs.OneSpelling.{read-passes}
+use Rattle.text.specs.Reading.{tableRead}
 use Rattle.host.specs.Texts.{checkMeant, checkText, runMeant, runText}
 
 -- no place of a text's refusal is as high as this: a text has at most so many lines

@@ -30,8 +30,8 @@ use Rattle.rules.specs.Checking.{pathLimit, check, answered, checkTable}
 use Rattle.rules.specs.Evaluation.{eval}
 use Rattle.rules.specs.Running.{valuesOf, finished, ranBy, runTest, runTable}
 use Rattle.text.specs.Grammar.{Meaning, means, refused, meaningOf}
-use Rattle.text.specs.OneSpelling.{tableRead, read-passes}
-use Rattle.text.specs.Reading.{outcomeOf as readTo, nodesRead, filled, tried, reading, leaves, leftBy, readingIn}
+use Rattle.text.specs.OneSpelling.{read-passes}
+use Rattle.text.specs.Reading.{outcomeOf as readTo, nodesRead, filled, tableRead, tried, reading, leaves, leftBy, readingIn}
 use Rattle.text.specs.Writing.{textOf, outcomeOf, writing}
 use Rattle.records.specs.Code.Copies.{CopiedOut, places}
 use Rattle.records.specs.Code.Copies.Laws.{length-front, filled-length}

@@ -14,11 +14,7 @@ use Rattle.script.specs.Tests.{pick, all, lowest, need, needNone}
 use Rattle.script.specs.declared.Node.{Node}
 use Rattle.script.specs.declared.Refusal.{Refusal}
 use Rattle.script.specs.declared.Refusal.the-variants.{NoNode, BadTypeCode, BadOperand, NotUsedOnce, TooDeep}
-pub mod Counts
-pub mod Few
 pub mod Laws
-pub mod Lowest
-pub mod Whole
 
 -- the first n nodes are lent, and within the limit
 pub record Lent (xs : List ℕ) (n : ℕ) : Type 0 where

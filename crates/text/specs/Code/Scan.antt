@@ -11,9 +11,9 @@ use Rattle.script.specs.Tests.{pick, all}
 use Rattle.text.specs.Bytes.{lf, tab}
 use Rattle.text.specs.Fields.{given, isDigit, valueAfter, decimalUpTo}
 use Rattle.text.specs.Grammar.{Line, entryLine, nodeLine, upTo, nodeBy, entryFrom, lineOf, parts}
-use Rattle.text.specs.declared.fields.Said.{Said}
-use Rattle.text.specs.declared.lines.Operand.{Operand}
-use Rattle.text.specs.declared.lines.Scanned.{Scanned}
+use Rattle.text.specs.declared.Said.{Said}
+use Rattle.text.specs.declared.Operand.{Operand}
+use Rattle.text.specs.declared.Scanned.{Scanned}
 pub mod Laws
 pub mod Lines
 pub mod Nodes

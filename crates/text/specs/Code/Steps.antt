@@ -22,7 +22,7 @@ use Rattle.text.specs.Grammar as Grammar
 use Rattle.text.specs.Grammar.{Line, Meaning, goOn, stop, admit, lineOf}
 use Rattle.text.specs.Reading.{answerOf, nodesRead, entriesRead}
 use Rattle.text.specs.Code.Scan.{lineIn, lineEnds}
-use Rattle.text.specs.declared.reader.Step.{Step}
+use Rattle.text.specs.declared.Step.{Step}
 pub mod Clearing
 pub mod Laws
 pub mod Taken

@@ -13,7 +13,7 @@ use Rattle.script.specs.Limits.{typeLimit}
 use Rattle.script.specs.Tests.{pick, all}
 use Rattle.text.specs.Fields.{given, isDigit, valueAfter, decimalUpTo, lastLetter, typeAfter, typeUpTo}
 use Rattle.text.specs.Code.Scan.{endsField, startsWith, fieldIn, fieldEnds, numberAfter, saidBy}
-use Rattle.text.specs.declared.fields.Said.{Said}
+use Rattle.text.specs.declared.Said.{Said}
 
 -- ---- fields
 

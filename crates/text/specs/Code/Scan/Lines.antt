@@ -19,8 +19,8 @@ use Rattle.text.specs.Fields.{decimalUpTo, typeOf, sameBytes, kindOf}
 use Rattle.text.specs.Grammar.{parts, onFirst, onNumbers, numbersUpTo, nodeWith, nodeBy, entryWith, entryFrom, lineFrom, lineOf, upTo}
 use Rattle.text.specs.Code.Scan.{startsWith, fieldIn, fieldEnds, lineIn, lineEnds, fieldsAfter, operandBy, operandAt, located, lineAt, entryAfter, nodeAfter}
 use Rattle.text.specs.Code.Scan.Laws.{field-ends, field-most}
-use Rattle.text.specs.declared.lines.Operand.{Operand}
-use Rattle.text.specs.declared.lines.Scanned.{Scanned}
+use Rattle.text.specs.declared.Operand.{Operand}
+use Rattle.text.specs.declared.Scanned.{Scanned}
 
 -- ---- a line goes on after its first field
 

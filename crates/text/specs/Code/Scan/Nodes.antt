@@ -20,8 +20,8 @@ use Rattle.text.specs.Bytes.{lf, tab}
 use Rattle.text.specs.Grammar.{nodeWith, nodeBy, upTo}
 use Rattle.text.specs.Code.Scan.{startsWith, fieldIn, fieldEnds, fieldsAfter, lineIn, lineEnds, operandAt, located, nodeAfter, largestBy}
 use Rattle.text.specs.Code.Scan.Lines.{FoundOperand, found-operand, nodeRest, rest-operand, rest-bad, rest-lf, rest-no-lf, exactly, behind, node-exactly, rest-at, starts-then, then-most, then-ends}
-use Rattle.text.specs.declared.lines.Operand.{Operand}
-use Rattle.text.specs.declared.lines.Scanned.{Scanned}
+use Rattle.text.specs.declared.Operand.{Operand}
+use Rattle.text.specs.declared.Scanned.{Scanned}
 
 -- ---- one operand
 

@@ -25,8 +25,8 @@ use Rattle.text.specs.Grammar.{Line, entryLine, nodeLine, goOn, stop, ad
 use Rattle.text.specs.Code.Scan.{lineIn, lineEnds, located, lineAt}
 use Rattle.text.specs.Code.Steps.{nodesBy, entriesBy, Kept, Framed, entryStep, entryStored, nodeStep, nodeStored, lineHere, goes-next, refused, Took}
 use Rattle.text.specs.Code.Steps.Laws.{line-within}
-use Rattle.text.specs.declared.lines.Scanned.{Scanned}
-use Rattle.text.specs.declared.reader.Step.{Step}
+use Rattle.text.specs.declared.Scanned.{Scanned}
+use Rattle.text.specs.declared.Step.{Step}
 
 -- ---- what a scanned line tells
 

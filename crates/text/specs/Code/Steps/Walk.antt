@@ -21,7 +21,7 @@ use Rattle.text.specs.Code.Scan.{lineIn}
 use Rattle.text.specs.Code.Steps.{nodesBy, entriesBy, Kept, Framed, stepOf, GoesTo, goes-next, Took, endedBy, Holds}
 use Rattle.text.specs.Code.Steps.Laws.{text-step}
 use Rattle.text.specs.Code.Steps.Taken.{same-frame, frames, nodes-length, entries-length}
-use Rattle.text.specs.declared.reader.Step.{Step}
+use Rattle.text.specs.declared.Step.{Step}
 
 -- before line i, which starts at `at`: what the rest means after the entries and nodes so far, the text means
 pub record Walked (text xs₀ es₀ : List ℕ) (s : Script) (xs es : List ℕ) (at i : ℕ) : Type 0 where

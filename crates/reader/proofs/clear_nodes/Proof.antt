@@ -1,0 +1,48 @@
+-- `reader::clear_nodes` meets its contract. Assumes nothing.
+use borrow.Author.Needs.{needs}
+use Prim.Native.Nat.{_-_, _/_}
+use native.Mathlib.Omega.{arith}
+use native.Mathlib.Numerals.{add-one}
+use lib.ListN.{length}
+use Rattle.script.specs.Flat.Laws.{length-nodesIn}
+use Rattle.text.specs.Code.Steps.Clearing.{Clearing, clear-start, clear-room, clear-next, clear-end}
+use Rattle.reader.proofs.clear_nodes.Statement.{statement}
+use Rattle.reader.proofs.clear_nodes.Tie as tie
+
+abbrev Inv-loop : tie.InvT-loop
+Inv-loop table₀ from n i₀ table i = Clearing from table₀ table i
+
+abbrev μ-loop : tie.MeasureT-loop
+μ-loop table₀ from n i₀ table i = length table₀ / 4 - i
+
+loop-holds : tie.Need-loop-holds Inv-loop μ-loop
+loop-holds c = let a = c .before .args in clear-start (a .from) (a .table .now) (c .before .pre)
+
+put-node-requires : tie.Need-put-node-requires Inv-loop μ-loop
+put-node-requires c κs =
+    let n = length-nodesIn (c .before .before .before .before .args .table .now) in
+    clear-room (c .before .before .loop .inv) (omega arith)
+
+loop-again : tie.Need-loop-again Inv-loop μ-loop
+loop-again c =
+    let n = length-nodesIn (c .before .before .before .before .before .before .before .args .table .now) in
+    rw (add-one (c .before .before .before .before .before .loop .i), c .before .before .put-node .ensures) (clear-next (c .before .before .before .before .before .loop .inv) (omega arith))
+
+returns : tie.Need-returns Inv-loop μ-loop
+returns c =
+    let n = length-nodesIn (c .before .before .before .args .table .now) in
+    clear-end (c .before .loop .inv) (omega arith)
+
+pub clear-nodes-spec : {M : Type 1} → statement M
+clear-nodes-spec =
+    tie.close
+    (tie.spec
+    Inv-loop
+    μ-loop
+    loop-holds
+    put-node-requires
+    (λ c. search needs)
+    (λ c. search needs)
+    loop-again
+    (λ c. c .before .loop .inv .table-length)
+    returns)

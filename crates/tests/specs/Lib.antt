@@ -1,0 +1,4 @@
+pub mod Counts
+pub mod Few
+pub mod Lowest
+pub mod Whole

@@ -1,7 +1,0 @@
--- `text::fields::ends_field` meets its contract. Assumes nothing.
-use borrow.Author.Tests.{eq-eqb, ne-eqb}
-use Rattle.text.proofs.fields.ends_field.Statement.{statement}
-use Rattle.text.proofs.fields.ends_field.Tie as tie
-
-pub ends-field-spec : {M : Type 1} → statement M
-ends-field-spec = tie.close (tie.spec (λ c. simp (eq-eqb _ _ (c .if1 .taken))) (λ c. simp (ne-eqb _ _ (c .if1 .left))))
