@@ -14,7 +14,7 @@ use Rattle.rules.specs.Satisfiable.Laws.{Respects, among-same}
 use Rattle.rules.specs.Symbolic.{Sum, number, wordSymbol, plus, minus, Atom, truthSymbol, pair, difference, sameAtom}
 use Rattle.rules.specs.Symbolic.Laws.{sameAtom-refl, sameAtom-sym, sameAtom-trans, sameAtom-right}
 use Rattle.terms.specs.Terms.{rowIn, SumRow, numberRow, symbolRow, plusRow, AtomRow, truthSymbolRow, pairRow, differenceRow}
-use Rattle.decision.specs.Bits.{bit, bit-low, bit-high}
+use Rattle.rows.specs.Bits.{bit, bit-low, bit-high}
 
 -- ---- sameness
 

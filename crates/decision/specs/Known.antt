@@ -15,7 +15,7 @@ use Rattle.rules.specs.Satisfiable.{atomsOf, among}
 use Rattle.rules.specs.Symbolic.{Atom, Formula}
 use Rattle.terms.specs.Terms.{countIn, rowLimit, AtomRow, Grown}
 use Rattle.terms.specs.Terms.Laws.{atom-kept}
-use Rattle.decision.specs.Code.{blocksOf, knownSize, knownRow, knownWord, Sound}
+use Rattle.rows.specs.Code.{blocksOf, knownSize, knownRow, knownWord, Sound}
 use Rattle.decision.specs.Words.{Assigned, Right}
 
 -- row i is an atom with number m

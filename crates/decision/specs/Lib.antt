@@ -1,11 +1,9 @@
-pub mod Decision
-pub mod Code
-pub mod Bits
-pub mod Patterns
-pub mod Marks
 pub mod Atoms
-pub mod Listed
-pub mod Words
+pub mod Code
 pub mod Conjuncts
+pub mod Deciding
 pub mod Known
+pub mod Listed
+pub mod Patterns
 pub mod Promise
+pub mod Words

@@ -5,8 +5,8 @@ use Prim.Native.Nat.{ℕ, zero, suc, _+_, _*_, _/_, _%_, _^_, _<_}
 use native.Mathlib.Omega.{arith}
 use lib.Dec.{eqb, lit<}
 use Rattle.script.specs.Tests.{pick}
-use Rattle.decision.specs.Bits.{bit, bit-not, bit-zero, bit-low, bit-high, allBelow, all-below, beq-same}
-use Rattle.decision.specs.Code.{ones, spreadOf, patternOf}
+use Rattle.rows.specs.Bits.{bit, bit-not, bit-zero, bit-low, bit-high, allBelow, all-below, beq-same}
+use Rattle.rows.specs.Code.{ones, spreadOf, patternOf}
 
 -- ---- the fixed ones
 

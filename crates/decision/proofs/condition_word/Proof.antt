@@ -1,7 +1,7 @@
 -- `decision::condition_word` meets its contract: by the test. Assumes nothing.
 use borrow.Author.Needs.{needs}
 use borrow.Author.Tests.{eq-eqb, ne-eqb}
-use Rattle.decision.specs.Code.{conditionWord}
+use Rattle.rows.specs.Code.{conditionWord}
 use Rattle.decision.proofs.condition_word.Statement.{statement}
 use Rattle.decision.proofs.condition_word.Tie as tie
 

@@ -2,7 +2,7 @@
 use mathlib.Core.Path.{_≡_, refl, sym, _∙_}
 use borrow.Author.Needs.{needs}
 use native.Mathlib.Omega.{arith}
-use Rattle.decision.specs.Code.{Room, decidedAnew, left-same, left-none}
+use Rattle.rows.specs.Code.{Room, decidedAnew, left-same, left-none}
 use Rattle.decision.specs.Code.Whole.{Prepared, room-start, room-marked, room-guard, decided-many, decided-alone, decided-with, decided-without, decided-both, aside-alone, aside-with, aside-without, aside-not, keepable, left-with}
 use Rattle.decision.specs.Known.{blocks-most}
 use Rattle.decision.proofs.decide_anew.Statement.{statement}

@@ -11,7 +11,7 @@ use lib.ListN.{length, getD, take, set, length-set, length-append, length-replic
 use lib.Seq.{take-suc, take-suc-set, take-set-le, getD-take, getD-at, getD-set-same, getD-set-other}
 use Rattle.script.specs.Tests.{pick}
 use Rattle.terms.specs.Terms.{rowIn, rowLimit}
-use Rattle.decision.specs.Code.{seenAfter, rank, words, rowsFrom, seenAt, seenTo, numberRow, numbersTo, numberedTo, noNumbers, numbersFrom, evaluateRow, evaluatedTo, changeRow, changedTo}
+use Rattle.rows.specs.Code.{seenAfter, rank, words, rowsFrom, seenAt, seenTo, numberRow, numbersTo, numberedTo, noNumbers, numbersFrom, evaluateRow, evaluatedTo, changeRow, changedTo}
 
 -- ---- the first rows alone count
 

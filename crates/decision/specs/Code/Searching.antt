@@ -13,14 +13,14 @@ use lib.Seq.{take-length, getD-set-same, getD-set-other}
 use Rattle.script.specs.Rows.Laws.{same-anywhere}
 use Rattle.script.specs.Tests.{pick}
 use Rattle.terms.specs.Terms.{rowLimit, rowsEnd}
-use Rattle.decision.specs.Code.{above, words, rowsFrom, Rows, numbersTo, noNumbers, numbersFrom, evaluatedTo, changedTo, changesOf, ones, blocksOf, conditionWord, trueWord, falseWord, nonZero, searchedBy, searched, truthsOf, Searchable, Searched, knownWord, guardMarks, guardRows, guardedWords, guardedWord, withKnown, withoutKnown, compared, Comparable}
-use Rattle.decision.specs.Code.Laws.{above-first, above-second}
-use Rattle.decision.specs.Code.Loops.{Searching, searching, searching-on, searching-both, searching-end}
+use Rattle.rows.specs.Code.{above, words, rowsFrom, Rows, numbersTo, noNumbers, numbersFrom, evaluatedTo, changedTo, changesOf, ones, blocksOf, conditionWord, trueWord, falseWord, nonZero, searchedBy, searched, truthsOf, Searchable, Searched, knownWord, guardMarks, guardRows, guardedWords, guardedWord, withKnown, withoutKnown, compared, Comparable}
+use Rattle.rows.specs.Code.Laws.{above-first, above-second}
+use Rattle.rows.specs.Code.Loops.{Searching, searching, searching-on, searching-both, searching-end}
 use Rattle.decision.specs.Code.Ordered.{numbers-alike, evaluated-alike, changed-alike, taken-alike, rows-few, rows-below}
 use Rattle.decision.specs.Code.Steady.{Steadily, first-steadily, first-length, later-words, later-length, later-steadily}
-use Rattle.decision.specs.Decision.{branchesOf}
-use Rattle.decision.specs.declared.Decision.{Decision}
-use Rattle.decision.specs.declared.Decision.the-variants.{Both}
+use Rattle.rows.specs.Decision.{branchesOf}
+use Rattle.rows.specs.declared.Decision.{Decision}
+use Rattle.rows.specs.declared.Decision.the-variants.{Both}
 
 -- ---- the rows as they are listed
 

@@ -15,9 +15,9 @@ use Rattle.script.specs.Tests.{pick}
 use Rattle.script.specs.Rows.Laws.{same-anywhere}
 use Rattle.terms.specs.Terms.{rowIn, rowLimit}
 use Rattle.terms.specs.declared.Row.{Row}
-use Rattle.decision.specs.Bits.{or-first-most, or-second-most}
-use Rattle.decision.specs.Code.{patternOf, rowWord, wordOf, words, rowsFrom, evaluateRow, evaluatedTo, changeOf, changeRow, changedTo, changesOf}
-use Rattle.decision.specs.Code.Laws.{words-length, operand-out}
+use Rattle.rows.specs.Bits.{or-first-most, or-second-most}
+use Rattle.rows.specs.Code.{patternOf, rowWord, wordOf, words, rowsFrom, evaluateRow, evaluatedTo, changeOf, changeRow, changedTo, changesOf}
+use Rattle.rows.specs.Code.Laws.{words-length, operand-out}
 use Rattle.decision.specs.Code.Ordered.{taken-alike, filledTo, filled-alike, after, after-length, after-kept, after-fixed, after-all}
 use Rattle.decision.specs.Words.{words-at, words-same}
 

@@ -18,10 +18,10 @@ use Rattle.rules.specs.Symbolic.{Atom, Formula, negation, conjunction}
 use Rattle.terms.specs.Terms.{rowIn, countIn, rowLimit, AtomRow, Distinct, Grown}
 use Rattle.terms.specs.Terms.Laws.{atom-kept}
 use Rattle.decision.specs.Atoms.{assign, assign-respects}
-use Rattle.decision.specs.Bits.{bit}
-use Rattle.decision.specs.Code.{rank, blocksOf, knownSize, knownRow, knownWord, keepRow, keptRows, keepWord, keptWords, kept, Keepable}
-use Rattle.decision.specs.Code.Leaves.{keptRows-length, keptRows-low, keptWords-length}
-use Rattle.decision.specs.Decision.Laws.{with-atoms, without-atoms}
+use Rattle.rows.specs.Bits.{bit}
+use Rattle.rows.specs.Code.{rank, blocksOf, knownSize, knownRow, knownWord, keepRow, keptRows, keepWord, keptWords, kept, Keepable}
+use Rattle.rows.specs.Code.Leaves.{keptRows-length, keptRows-low, keptWords-length}
+use Rattle.decision.specs.Deciding.{with-atoms, without-atoms}
 use Rattle.decision.specs.Known.{Numbered, Known, KnownOver}
 use Rattle.decision.specs.Listed.{Counted, Listed, listed-none, listed-skip, listed-more, rank-counted, listed-length, listed-in, listed-assigns}
 use Rattle.decision.specs.Words.{Right, rank-grows}

@@ -14,11 +14,11 @@ use Rattle.rules.specs.Satisfiable.Laws.{one-branch}
 use Rattle.rules.specs.Symbolic.{Formula, negation, conjunction, Symbolic, aTruth}
 use Rattle.rules.specs.SymbolicRules.{branches, decide, atomLimit}
 use Rattle.terms.specs.Terms.{countIn, Space, TruthRow}
-use Rattle.decision.specs.Decision.{branchesOf, decisionOf}
+use Rattle.rows.specs.Decision.{branchesOf, decisionOf}
 use Rattle.decision.specs.Known.{remembers-sound}
 use Rattle.decision.specs.Promise.{Asked, Decides, Decidable as DecidableRows}
-use Rattle.decision.specs.declared.Decision.{Decision}
-use Rattle.decision.specs.declared.Decision.the-variants.{TooMany, Both, OnlyTrue, OnlyFalse}
+use Rattle.rows.specs.declared.Decision.{Decision}
+use Rattle.rows.specs.declared.Decision.the-variants.{TooMany, Both, OnlyTrue, OnlyFalse}
 use Rattle.checker.specs.Code.Paths.{assumed, Learns}
 use Rattle.checker.specs.Code.Paths.Conditions.{ruled-refl, learnt-room, assumed-ruled, assumed-with, assumed-without}
 use Rattle.checker.specs.Code.Rules.{Decidable, withGuard, withoutGuard, Chosen, first, second, both, neither, Chooses}

@@ -1,6 +1,6 @@
 -- `decision::conjuncts::is_link` meets its contract: by the tests. Assumes nothing.
 use borrow.Author.Tests.{eq-eqb, ne-eqb}
-use Rattle.decision.specs.Code.{isLink}
+use Rattle.rows.specs.Code.{isLink}
 use Rattle.decision.proofs.conjuncts.is_link.Statement.{statement}
 use Rattle.decision.proofs.conjuncts.is_link.Tie as tie
 

@@ -4,7 +4,7 @@ use borrow.Author.Needs.{needs}
 use Prim.Native.Nat.{_+_, _-_}
 use native.Mathlib.Omega.{arith}
 use lib.ListN.{getD}
-use Rattle.decision.specs.Code.{changesOf}
+use Rattle.rows.specs.Code.{changesOf}
 use Rattle.decision.specs.Code.Searching.{rows-listed, order-long, Comparing, comparing, compare-rows, comparing-on, comparing-both, comparing-end}
 use Rattle.decision.specs.Known.{blocks-most}
 use Rattle.decision.proofs.known.compare.Statement.{statement}

@@ -1,6 +1,6 @@
 -- `decision::known::guarded_word` meets its contract: by the test. Assumes nothing.
 use borrow.Author.Needs.{needs}
-use Rattle.decision.specs.Code.Leaves.{guarded-none, guarded-some}
+use Rattle.rows.specs.Code.Leaves.{guarded-none, guarded-some}
 use Rattle.decision.proofs.known.guarded_word.Statement.{statement}
 use Rattle.decision.proofs.known.guarded_word.Tie as tie
 

@@ -1,7 +1,7 @@
 -- `decision::known::keep` meets its contract: the parts, one after the other. Assumes nothing.
 use borrow.Author.Needs.{needs}
 use native.Mathlib.Omega.{arith}
-use Rattle.decision.specs.Code.Leaves.{kept-room, kept-same, kept-made}
+use Rattle.rows.specs.Code.Leaves.{kept-room, kept-same, kept-made}
 use Rattle.decision.proofs.known.keep.Statement.{statement}
 use Rattle.decision.proofs.known.keep.Tie as tie
 

@@ -1,6 +1,6 @@
 -- `decision::known::keep_row` meets its contract: a row with no mark, one that is no atom, and an atom. Assumes nothing.
 use borrow.Author.Needs.{needs}
-use Rattle.decision.specs.Code.Leaves.{keep-unmarked, keep-other, keep-atom}
+use Rattle.rows.specs.Code.Leaves.{keep-unmarked, keep-other, keep-atom}
 use Rattle.decision.proofs.known.keep_row.Statement.{statement}
 use Rattle.decision.proofs.known.keep_row.Tie as tie
 

@@ -1,7 +1,7 @@
 -- `decision::known::keep_rows` meets its contract: of the rows passed the atoms with a mark are kept. Assumes nothing.
 use borrow.Author.Needs.{needs}
 use Prim.Native.Nat.{_-_}
-use Rattle.decision.specs.Code.Leaves.{Keeping, keeping, keeping-on, keeping-end}
+use Rattle.rows.specs.Code.Leaves.{Keeping, keeping, keeping-on, keeping-end}
 use Rattle.decision.proofs.known.keep_rows.Statement.{statement}
 use Rattle.decision.proofs.known.keep_rows.Tie as tie
 

@@ -4,7 +4,7 @@ use mathlib.Core.Path.{refl}
 use Prim.Native.Nat.{_+_, _*_, _%_}
 use native.Mathlib.Omega.{arith}
 use lib.ListN.{length-set}
-use Rattle.decision.specs.Code.{keepWord}
+use Rattle.rows.specs.Code.{keepWord}
 use Rattle.decision.proofs.known.keep_word.Statement.{statement}
 use Rattle.decision.proofs.known.keep_word.Tie as tie
 

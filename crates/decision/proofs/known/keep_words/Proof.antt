@@ -1,7 +1,7 @@
 -- `decision::known::keep_words` meets its contract: the truths of the blocks passed are kept. Assumes nothing.
 use borrow.Author.Needs.{needs}
 use Prim.Native.Nat.{_-_}
-use Rattle.decision.specs.Code.Leaves.{Storing, storing, storing-on, storing-end}
+use Rattle.rows.specs.Code.Leaves.{Storing, storing, storing-on, storing-end}
 use Rattle.decision.proofs.known.keep_words.Statement.{statement}
 use Rattle.decision.proofs.known.keep_words.Tie as tie
 

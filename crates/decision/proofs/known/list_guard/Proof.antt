@@ -1,6 +1,6 @@
 -- `decision::known::list_guard` meets its contract: the rows that the guard reaches are marked and listed. Assumes nothing.
 use borrow.Author.Needs.{needs}
-use Rattle.decision.specs.Code.Leaves.{guard-room, guard-listed}
+use Rattle.rows.specs.Code.Leaves.{guard-room, guard-listed}
 use Rattle.decision.proofs.known.list_guard.Statement.{statement}
 use Rattle.decision.proofs.known.list_guard.Tie as tie
 

@@ -2,7 +2,7 @@
 use borrow.Author.Needs.{needs}
 use Prim.Native.Nat.{_+_, _-_}
 use native.Mathlib.Omega.{arith}
-use Rattle.decision.specs.Code.Leaves.{Recalling, recalling, recalling-on, recalling-end}
+use Rattle.rows.specs.Code.Leaves.{Recalling, recalling, recalling-on, recalling-end}
 use Rattle.decision.proofs.known.number_known.Statement.{statement}
 use Rattle.decision.proofs.known.number_known.Tie as tie
 
