@@ -1,6 +1,5 @@
-// The checker: the typed rules and the symbolic rules over a table. `check` is the whole call; `nodes` checks and executes nodes, `types` has the type rules,
-// `operators` the symbolic ones, `log` the writes of a path, `path` the rest of its state, `frames` what waits on it, `steps` the way of a value up, `forks`
-// what is kept at a fork, `notes` what is kept of typed blocks from path to path.
+// The checker: the typed rules and the symbolic rules over a table. `check` is the whole call; `nodes` checks and executes nodes, `operators` has the symbolic
+// rules, `path` a path's own numbers, `steps` the way of a value up, `forks` the way back to a fork. Below it stand `types`, `log`, `notes` and `frames`, over one `workspace`.
 ghost use mathlib.Core.Option.{none};
 ghost use mathlib.Core.Path.{_≡_};
 ghost use Prim.Native.Nat.{_*_, _≤_};
@@ -11,14 +10,10 @@ ghost use Rattle.rules.specs.Checking.{pathLimit, CheckedBy};
 ghost use Rattle.checker.specs.Code.Whole.{Placed};
 
 mod forks;
-mod frames;
-mod log;
 mod nodes;
-mod notes;
 mod operators;
 mod path;
 mod steps;
-mod types;
 
 use nodes::check_node;
 use script::Checked;

@@ -11,32 +11,21 @@ ghost use Rattle.rules.specs.Checking.{check, exec};
 ghost use Rattle.rules.specs.Paths.{start, leaves};
 ghost use Rattle.rules.specs.Symbolic.{symbols};
 ghost use Rattle.rules.specs.SymbolicRules.{verdict};
-ghost use Rattle.checker.specs.Code.Frames.{waitsFor};
+ghost use Rattle.workspace.specs.Frames.{waitsFor};
 ghost use Rattle.checker.specs.Code.Going.{Enterable, Arrives, AtEnd, PathEnds, Walkable, Walks};
-ghost use Rattle.checker.specs.Code.Notes.{Noting, Blocked};
-ghost use Rattle.checker.specs.Code.Rules.{Checkable, Judged};
-ghost use Rattle.checker.specs.Code.State.{typesOn};
-use crate::forks::SIZE;
+ghost use Rattle.workspace.specs.Notes.{Noting, Blocked};
+ghost use Rattle.workspace.specs.Rules.{Checkable, Judged};
+ghost use Rattle.workspace.specs.State.{typesOn};
 use crate::forks::resume;
-use crate::frames::FORKED;
-use crate::frames::descend;
-use crate::log::consistent;
-use crate::notes::Known;
-use crate::notes::note;
-use crate::notes::recall;
-use crate::operators::Step;
 use crate::operators::typed_result;
-use crate::path::DEPTH;
-use crate::path::SPACE;
 use crate::path::start;
 use crate::steps::Move;
 use crate::steps::climb;
 use crate::steps::leaf_up;
-use crate::types::bind_type;
-use crate::types::if_type;
-use crate::types::leaf_type;
-use crate::types::one_type;
-use crate::types::two_type;
+use frames::descend;
+use log::consistent;
+use notes::note;
+use notes::recall;
 use script::Checked;
 use script::Refusal;
 use script::table::IF;
@@ -45,6 +34,17 @@ use script::table::SYM;
 use script::table::TYPED;
 use script::table::has_one;
 use script::table::node_at;
+use types::bind_type;
+use types::if_type;
+use types::leaf_type;
+use types::one_type;
+use types::two_type;
+use workspace::DEPTH;
+use workspace::FORKED;
+use workspace::FRAMES;
+use workspace::Known;
+use workspace::SPACE;
+use workspace::Step;
 
 // How a path ended: with a refusal of the `sym`, as the last path, or with another one after it, which goes on from a node; the type is the path's.
 pub enum Walked {
@@ -120,7 +120,7 @@ fn paths(table: &[u32], types: &[u32], depth: usize, limit: u32, n: u32, a: u32)
     ensures { λ r. ⌜ r ≡ verdict n limit (leaves (exec limit (treeIn (now (table .entry)) a) (symbols 0 (typesOn (now (types .entry)) depth)) (start depth))) ⌝ }
 {
     let mut space = [0u32; SPACE];
-    let mut frames = [0u32; SIZE];
+    let mut frames = [0u32; FRAMES];
     start(types, &mut space, depth);
     let mut followed = 0;
     let mut wanted = 0;

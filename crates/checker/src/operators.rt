@@ -4,17 +4,12 @@ ghost use Prim.Native.Nat.{_*_, _≤_};
 ghost use lib.ListN.{length};
 ghost use Rattle.script.specs.Code.Forms.{formOf};
 ghost use Rattle.script.specs.Rows.{varForm, unaryForm, binaryForm, notOp, refOp, getOp, addOp, eqOp, andOp, setOp};
-ghost use Rattle.checker.specs.Code.Rules.{Leaf, One, Two, After, Operable};
-ghost use Rattle.checker.specs.Code.State.{Room};
-use crate::log::Found;
-use crate::log::consistent;
-use crate::log::lookup;
-use crate::log::write;
-use crate::path::NEXT;
-use crate::path::START;
-use crate::path::WRITES;
+ghost use Rattle.workspace.specs.Rules.{Leaf, One, Two, After, Operable};
+ghost use Rattle.workspace.specs.State.{Room};
 use crate::path::fresh;
-use crate::types::DEEPEST;
+use log::consistent;
+use log::lookup;
+use log::write;
 use script::Refusal;
 use script::table::ADD;
 use script::table::AND;
@@ -35,12 +30,12 @@ use terms::SUM;
 use terms::atoms::equal_references;
 use terms::push;
 use terms::words::equal_words;
-
-// A path's step: a value's type and place, or a refusal that ends the path.
-pub enum Step {
-    Gave(u32, u32),
-    Stopped(Refusal),
-}
+use types::DEEPEST;
+use workspace::Found;
+use workspace::NEXT;
+use workspace::START;
+use workspace::Step;
+use workspace::WRITES;
 
 // `var`: the value at place k of the environment.
 fn variable(space: &[u32], depth: usize, k: u32, n: u32) -> Step

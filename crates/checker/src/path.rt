@@ -1,61 +1,28 @@
-// What the workspace of a `sym` keeps of a path, behind the environment and the terms: the next fresh symbol, the row of the condition, the log, the notes
-// on blocks and what is known of the condition. A reference's place is twice its symbol, and one more if `ref` made it on this path.
+// A path's own numbers: fresh symbols, the condition, the decision at an `if`, the start. A reference's place is twice its symbol, and one more if `ref` made
+// it on this path.
 ghost use mathlib.Core.Path.{_≡_};
 ghost use Prim.Native.Nat.{suc, _*_, _<_, _≤_};
 ghost use lib.ListN.{length};
 ghost use Rattle.terms.specs.Terms.{Space, symbolLimit};
-ghost use Rattle.checker.specs.Code.Paths.{Fresh, assumed, Blank, Starting};
-ghost use Rattle.checker.specs.Code.Rules.{Decidable, Chooses, Started};
-ghost use Rattle.checker.specs.Code.State.{spaceSize, typesOn, Room};
-use crate::notes;
-use crate::notes::BASE;
+ghost use Rattle.workspace.specs.Paths.{Fresh, assumed, Blank, Starting};
+ghost use Rattle.workspace.specs.Rules.{Decidable, Chooses, Started};
+ghost use Rattle.workspace.specs.State.{spaceSize, typesOn, Room};
 use decision::decide;
 use rows::Decision;
 use script::Refusal;
-use script::Script;
 use terms::CONJUNCTION;
 use terms::CONSTANT;
-use terms::END;
 use terms::EXCLUSION;
 use terms::SYMBOL;
 use terms::TRUTH;
 use terms::atoms::symbols_atom;
 use terms::push;
-
-// Where the next fresh symbol stands.
-pub const NEXT: usize = END;
-
-// Where the row of the condition stands.
-pub const CONDITION: usize = END + 1;
-
-// Where the count of the writes stands.
-pub const WRITES: usize = END + 2;
-
-// Where the first write stands that still counts.
-pub const START: usize = END + 3;
-
-// Where the count of the variables stands.
-pub const DEPTH: usize = END + 4;
-
-// Where the log begins: four numbers a write, the reference's type and place and the value's.
-pub const LOG: usize = END + 5;
-
-// Where the notes on blocks begin.
-pub const NOTES: usize = LOG + 4 * Script::NODES;
-
-// Where stands what is known of the condition.
-pub const KNOWN: usize = NOTES + notes::SIZE;
-
-// How many numbers a workspace has.
-pub const SPACE: usize = KNOWN + decision::KNOWN;
-
-// What becomes of an `if`: a branch, both, or a refusal.
-pub enum Branch {
-    First,
-    Second,
-    Both,
-    Neither(Refusal),
-}
+use workspace::BASE;
+use workspace::Branch;
+use workspace::CONDITION;
+use workspace::DEPTH;
+use workspace::KNOWN;
+use workspace::NEXT;
 
 // A fresh symbol of type t: its place.
 pub fn fresh(space: &mut [u32], t: u32) -> u32

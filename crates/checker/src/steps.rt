@@ -2,30 +2,34 @@
 ghost use mathlib.Core.Path.{_≡_};
 ghost use Prim.Native.Nat.{_+_, _*_, _≤_, _<_};
 ghost use lib.ListN.{length};
-ghost use Rattle.checker.specs.Code.Frames.{frameIn, Waitable};
-ghost use Rattle.checker.specs.Code.Going.{boundTo, unbound, movedBy, Branched, Lastable, Lasts, forkedIn, framesSize, Returnable, Backs, Climbs, Leafable, LeafArrives};
-ghost use Rattle.checker.specs.Code.Rules.{Decidable};
-ghost use Rattle.checker.specs.Code.State.{depthIn, spaceSize};
+ghost use Rattle.workspace.specs.Frames.{frameIn, Waitable};
+ghost use Rattle.checker.specs.Code.Going.{boundTo, unbound, movedBy, Branched, Lastable, Lasts, Returnable, Backs, Climbs, Leafable, LeafArrives};
+ghost use Rattle.workspace.specs.Forks.{forkedIn, framesSize};
+ghost use Rattle.workspace.specs.Rules.{Decidable};
+ghost use Rattle.workspace.specs.State.{depthIn, spaceSize};
 ghost use Rattle.terms.specs.Terms.{symbolLimit};
-use crate::forks::fork;
-use crate::frames::FRAME;
-use crate::frames::leave;
-use crate::frames::wait;
-use crate::operators::Step;
 use crate::operators::leaf;
 use crate::operators::one;
 use crate::operators::two;
-use crate::path::Branch;
-use crate::path::DEPTH;
-use crate::path::KNOWN;
 use crate::path::assume;
 use crate::path::choose;
+use frames::forks::fork;
+use frames::leave;
+use frames::wait;
 use script::Refusal;
 use script::table::IF;
 use script::table::LET;
 use script::table::has_one;
 use script::table::node_at;
 use terms::CONJUNCTION;
+use workspace::Branch;
+use workspace::DEPTH;
+use workspace::FOR_BODY;
+use workspace::FOR_FIRST;
+use workspace::FOR_NEXT;
+use workspace::FRAME;
+use workspace::KNOWN;
+use workspace::Step;
 
 // What comes next on a path: a value's type and place, an operand to execute, or a refusal.
 pub enum Move {
@@ -54,7 +58,7 @@ fn branch(space: &mut [u32], frames: &mut [u32], b: u32, c: u32, t: u32, p: u32,
     requires { ⌜ depthIn (now space) ≤ symbolLimit ⌝ }
     ensures { λ r. ⌜ Branched b c n t p (now (space .entry)) (now (frames .entry)) (now (space .exit)) (now (frames .exit)) r ⌝ }
 {
-    wait(frames, n, 1, t, p);
+    wait(frames, n, FOR_NEXT, t, p);
     match choose(space, t, p, n) {
         Branch::First => Move::Operand(b),
         Branch::Second => Move::Operand(c),
@@ -90,11 +94,11 @@ fn unbind(space: &mut [u32])
 }
 
 // Node n, whose last operand gave a value of type u at place q, and the first one of type t at place p.
-fn last(kind: u32, given: u32, t: u32, p: u32, u: u32, q: u32, space: &mut [u32], n: u32) -> Move
-    requires { ⌜ Lastable given (now space) t p u q ⌝ }
-    ensures { λ r. ⌜ Lasts kind given n t p u q (now (space .entry)) r (now (space .exit)) ⌝ }
+fn last(kind: u32, awaits: u32, t: u32, p: u32, u: u32, q: u32, space: &mut [u32], n: u32) -> Move
+    requires { ⌜ Lastable awaits (now space) t p u q ⌝ }
+    ensures { λ r. ⌜ Lasts kind awaits n t p u q (now (space .entry)) r (now (space .exit)) ⌝ }
 {
-    if given == 2 {
+    if awaits == FOR_BODY {
         unbind(space);
         return Move::Value(u, q);
     }
@@ -110,8 +114,8 @@ fn back(table: &[u32], space: &mut [u32], frames: &mut [u32], t: u32, p: u32) ->
     let frame = leave(frames);
     let n = frame.node;
     let node = node_at(table, n as usize);
-    if frame.given != 0 {
-        return last(node.kind, frame.given, frame.x, frame.y, t, p, space, n);
+    if frame.awaits != FOR_FIRST {
+        return last(node.kind, frame.awaits, frame.x, frame.y, t, p, space, n);
     }
     if has_one(node.kind) {
         return moved(one(node.kind, t, p, space, n));
@@ -120,11 +124,11 @@ fn back(table: &[u32], space: &mut [u32], frames: &mut [u32], t: u32, p: u32) ->
         return branch(space, frames, node.b, node.c, t, p, n);
     }
     if node.kind == LET {
-        wait(frames, n, 2, t, p);
+        wait(frames, n, FOR_BODY, t, p);
         bind(space, t, p);
         return Move::Operand(node.b);
     }
-    wait(frames, n, 1, t, p);
+    wait(frames, n, FOR_NEXT, t, p);
     Move::Operand(node.b)
 }
 

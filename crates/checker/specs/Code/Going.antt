@@ -30,17 +30,19 @@ use Rattle.rules.specs.Satisfiable.{satisfiable}
 use Rattle.rules.specs.Symbolic.{Formula, Symbolic, aTruth}
 use Rattle.rules.specs.SymbolicRules.{firstType, judge}
 use Rattle.terms.specs.Terms.{countIn, Grown, symbolLimit}
-use Rattle.checker.specs.Code.Frames.{frameIn, topIn, nodeOf, upOf, firstOf, secondOf, framesEnd, Waits}
-use Rattle.checker.specs.Code.Notes.{baseIn, Kept}
-use Rattle.checker.specs.Code.Paths.{assumed, forgotten}
-use Rattle.checker.specs.Code.Rules.{oneExec, twoExec, restExec, restSize, withoutGuard, Two, Chooses, Operable}
-use Rattle.checker.specs.Code.State.{nextIn, conditionIn, writesIn, startIn, depthIn, variablesEnd, knownAt, spaceSize, nodeLimit, Means, Variables, State, Room}
+use Rattle.workspace.specs.Forks.{forkedIn, framesSize, forkAt, Forked, Forks}
+use Rattle.workspace.specs.Frames.{frameIn, topIn, nodeOf, upOf, firstOf, secondOf, framesEnd, Waits}
+use Rattle.workspace.specs.Notes.{baseIn, Kept}
+use Rattle.workspace.specs.Paths.{assumed, forgotten}
+use Rattle.workspace.specs.Rules.{oneExec, twoExec, restExec, restSize, withoutGuard, Two, Chooses, Operable}
+use Rattle.script.specs.Limits.{nodeLimit}
+use Rattle.workspace.specs.State.{nextIn, conditionIn, writesIn, startIn, depthIn, variablesEnd, knownAt, spaceSize, Means, Variables, State, Room}
 use Rattle.checker.specs.declared.nodes.Walked.{Walked}
 use Rattle.checker.specs.declared.nodes.Walked.the-variants.{Wrong, Last, More}
-use Rattle.checker.specs.declared.operators.Step.{Step}
-use Rattle.checker.specs.declared.operators.Step.the-variants.{Gave}
-use Rattle.checker.specs.declared.operators.Step.the-variants as step
-use Rattle.checker.specs.declared.path.Branch.the-variants.{First, Second, Both, Neither}
+use Rattle.workspace.specs.declared.Step.{Step}
+use Rattle.workspace.specs.declared.Step.the-variants.{Gave}
+use Rattle.workspace.specs.declared.Step.the-variants as step
+use Rattle.workspace.specs.declared.Branch.the-variants.{First, Second, Both, Neither}
 use Rattle.checker.specs.declared.steps.Move.{Move}
 use Rattle.checker.specs.declared.steps.Move.the-variants.{Value, Operand, Stopped}
 
@@ -63,10 +65,10 @@ goOn limit table (second n w ∷ ks) v p = bind (twoExec (formOf (nodeIn table n
 
 -- ---- frames
 
--- in frame f node n waits; its value goes to frame g, and so many of its operands have given theirs
-pub record Slot (fs : List ℕ) (f n g given : ℕ) : Type 0 where
+-- in frame f node n waits, for its first operand, the next one or the body of a `let`; its value goes to frame g
+pub record Slot (fs : List ℕ) (f n g awaits : ℕ) : Type 0 where
   pub node : nodeOf fs f ≡ n
-  pub up : upOf fs f ≡ 4 * g + given
+  pub up : upOf fs f ≡ 4 * g + awaits
   pub earlier : g < f
 
 -- what waits from frame f on, where there are so many variables, with room for so many nodes that it takes and frames that it makes; `ground` are the
@@ -87,47 +89,6 @@ pub data Awaits (table : List ℕ) (bound base : ℕ) (ground : List Symbolic) (
       → Awaits table bound base ground ws fs f (suc depth) (env ++ (v ∷ [])) (second n v ∷ ks) (suc owed) frames
 
 -- ---- forks
-
-abbrev pub forkedIn : List ℕ → ℕ
-forkedIn fs = getD fs 2 0
-
-abbrev pub framesSize : ℕ
-framesSize = 640
-
-abbrev pub forkAt : ℕ → ℕ
-forkAt j = framesEnd + 2 * j
-
--- what fork j has, each number below 256: the frame of the `if`, and the path's own numbers
-abbrev pub savedFrame : List ℕ → ℕ → ℕ
-savedFrame fs j = getD fs (forkAt j) 0 % 256
-
-abbrev pub savedCount : List ℕ → ℕ → ℕ
-savedCount fs j = getD fs (forkAt j) 0 / 256 % 256
-
-abbrev pub savedNext : List ℕ → ℕ → ℕ
-savedNext fs j = getD fs (forkAt j) 0 / 65536 % 256
-
-abbrev pub savedCondition : List ℕ → ℕ → ℕ
-savedCondition fs j = getD fs (forkAt j) 0 / 16777216
-
-abbrev pub savedWrites : List ℕ → ℕ → ℕ
-savedWrites fs j = getD fs (forkAt j + 1) 0 % 256
-
-abbrev pub savedStart : List ℕ → ℕ → ℕ
-savedStart fs j = getD fs (forkAt j + 1) 0 / 256 % 256
-
-abbrev pub savedDepth : List ℕ → ℕ → ℕ
-savedDepth fs j = getD fs (forkAt j + 1) 0 / 65536
-
--- fork j has the numbers of this path
-pub record Forked (xs gs : List ℕ) (j : ℕ) (fs : List ℕ) : Type 0 where
-  pub frame : savedFrame fs j ≡ frameIn gs
-  pub count : savedCount fs j ≡ countIn xs
-  pub next : savedNext fs j ≡ nextIn xs
-  pub condition : savedCondition fs j ≡ conditionIn xs
-  pub writes : savedWrites fs j ≡ writesIn xs
-  pub start : savedStart fs j ≡ startIn xs
-  pub depth : savedDepth fs j ≡ depthIn xs
 
 -- rows, writes, frames and forks are only added, and the first variables stay
 pub record Onward (base : ℕ) (xs gs ws fs : List ℕ) : Type 0 where
@@ -237,26 +198,6 @@ abbrev pub movedBy : Step → Move
 movedBy (Gave t q) = Value t q
 movedBy (step.Stopped x) = Stopped x
 
--- the path's numbers are small enough for a fork, and there is room for one more
-pub record Forkable (ws fs : List ℕ) : Type 0 where
-  pub lent : spaceSize ≤ length ws
-  pub framed : framesSize ≤ length fs
-  pub few : forkedIn fs < 64
-  pub frame : frameIn fs < 256
-  pub count : countIn ws < 256
-  pub next : nextIn ws < 256
-  pub condition : conditionIn ws < 256
-  pub writes : writesIn ws < 256
-  pub start : startIn ws < 256
-  pub depth : depthIn ws < 256
-
--- the path is kept as a fork
-pub record Forks (ws fs gs : List ℕ) : Type 0 where
-  pub same : length gs ≡ length fs
-  pub forked : forkedIn gs ≡ suc (forkedIn fs)
-  pub slot : Forked ws fs (forkedIn fs) gs
-  pub others : (k : ℕ) → (k ≡ 2 → ⊥) → k < forkAt (forkedIn fs) → getD gs k 0 ≡ getD fs k 0
-
 -- at an `if`, which waits for a branch
 pub data Branched (b c n t q : ℕ) (ws fs left gs : List ℕ) : Move → Type 0 where
   to-first : Waits n 1 t q fs gs → Chooses n t q ws First left → Branched b c n t q ws fs left gs (Operand b)
@@ -266,36 +207,13 @@ pub data Branched (b c n t q : ℕ) (ws fs left gs : List ℕ) : Move → Type 0
   to-none : {x : Refusal} → Waits n 1 t q fs gs → Chooses n t q ws (Neither x) left → Branched b c n t q ws fs left gs (Stopped x)
 
 -- node n after its last operand: the body of a `let`, or another one
-pub record Lasts (kind given n t p u q : ℕ) (ws : List ℕ) (r : Move) (left : List ℕ) : Type 0 where
-  pub body : given ≡ 2 → (r ≡ Value u q) × (left ≡ unbound ws)
-  pub other : (given ≡ 2 → ⊥) → (a : Step) × (r ≡ movedBy a) × Two (formOf kind) n t p u q ws a left
+pub record Lasts (kind awaits n t p u q : ℕ) (ws : List ℕ) (r : Move) (left : List ℕ) : Type 0 where
+  pub body : awaits ≡ 2 → (r ≡ Value u q) × (left ≡ unbound ws)
+  pub other : (awaits ≡ 2 → ⊥) → (a : Step) × (r ≡ movedBy a) × Two (formOf kind) n t p u q ws a left
 
-pub record Lastable (given : ℕ) (ws : List ℕ) (t p u q : ℕ) : Type 0 where
+pub record Lastable (awaits : ℕ) (ws : List ℕ) (t p u q : ℕ) : Type 0 where
   pub operable : Operable ws t p u q
-  pub variable : given ≡ 2 → 1 ≤ depthIn ws
-
--- the numbers of the path are those of fork j, and nothing is known of its condition
-pub record Rewound (j : ℕ) (ws fs left gs : List ℕ) : Type 0 where
-  pub same : length left ≡ length ws
-  pub framed : length gs ≡ length fs
-  pub count : countIn left ≡ savedCount fs j
-  pub next : nextIn left ≡ savedNext fs j
-  pub condition : conditionIn left ≡ savedCondition fs j
-  pub writes : writesIn left ≡ savedWrites fs j
-  pub start : startIn left ≡ savedStart fs j
-  pub depth : depthIn left ≡ savedDepth fs j
-  pub before : (k : ℕ) → k < 724 → (k ≡ 288 → ⊥) → getD left k 0 ≡ getD ws k 0
-  pub beyond : (k : ℕ) → 729 ≤ k → (k ≡ knownAt → ⊥) → getD left k 0 ≡ getD ws k 0
-  pub known : getD left knownAt 0 ≡ 0
-  pub frame : frameIn gs ≡ savedFrame fs j
-  pub top : topIn gs ≡ savedFrame fs j
-  pub forked : forkedIn gs ≡ j
-  pub others : (k : ℕ) → 3 ≤ k → getD gs k 0 ≡ getD fs k 0
-
--- the variable before place d is the one that frame f has, if that waits for the body of a `let`
-pub record RestoredOne (fs : List ℕ) (f d : ℕ) (ws : List ℕ) (r : ℕ) (left : List ℕ) : Type 0 where
-  pub body : upOf fs f % 4 ≡ 2 → (suc r ≡ d) × (left ≡ set (set ws (2 * (d - 1)) (firstOf fs f)) (2 * (d - 1) + 1) (secondOf fs f))
-  pub other : (upOf fs f % 4 ≡ 2 → ⊥) → (r ≡ d) × (left ≡ ws)
+  pub variable : awaits ≡ 2 → 1 ≤ depthIn ws
 
 pub record Restorable (ws fs : List ℕ) : Type 0 where
   pub lent : spaceSize ≤ length ws

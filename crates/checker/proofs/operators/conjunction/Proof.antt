@@ -1,7 +1,7 @@
 -- `checker::operators::conjunction` meets its contract: a row for the conjunction of two truths. Assumes nothing.
 use borrow.Author.Needs.{needs}
-use Rattle.checker.specs.Code.Rules.Operators.{conjunction-wrong, conjunction-made}
-use Rattle.checker.specs.Code.State.Laws.{room-space}
+use Rattle.workspace.specs.Rules.Operators.{conjunction-wrong, conjunction-made}
+use Rattle.workspace.specs.State.Laws.{room-space}
 use Rattle.checker.proofs.operators.conjunction.Statement.{statement}
 use Rattle.checker.proofs.operators.conjunction.Tie as tie
 

@@ -1,8 +1,8 @@
 -- `checker::operators::equality` meets its contract: a row for the equality of two values of one type. Assumes nothing.
 use borrow.Author.Needs.{needs}
 use native.Mathlib.Omega.{arith}
-use Rattle.checker.specs.Code.Rules.Operators.{equality-wrong, truths-equal, words-required, words-equal, references-equal}
-use Rattle.checker.specs.Code.State.Laws.{room-space}
+use Rattle.workspace.specs.Rules.Operators.{equality-wrong, truths-equal, words-required, words-equal, references-equal}
+use Rattle.workspace.specs.State.Laws.{room-space}
 use Rattle.checker.proofs.operators.equality.Statement.{statement}
 use Rattle.checker.proofs.operators.equality.Tie as tie
 

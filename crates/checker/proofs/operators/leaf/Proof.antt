@@ -2,8 +2,8 @@
 use borrow.Author.Needs.{needs}
 use Rattle.script.specs.Code.Forms.{formOf}
 use Rattle.script.specs.Rows.{rows, rowOf}
-use Rattle.checker.specs.Code.Rules.Operators.{leaf-int, leaf-true, leaf-other}
-use Rattle.checker.specs.Code.State.Laws.{room-space}
+use Rattle.workspace.specs.Rules.Operators.{leaf-int, leaf-true, leaf-other}
+use Rattle.workspace.specs.State.Laws.{room-space}
 use Rattle.checker.proofs.operators.leaf.Statement.{statement}
 use Rattle.checker.proofs.operators.leaf.Tie as tie
 

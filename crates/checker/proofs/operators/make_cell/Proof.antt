@@ -1,10 +1,10 @@
 -- `checker::operators::make_cell` meets its contract: a fresh symbol, and a write of the value. Assumes nothing.
 use borrow.Author.Needs.{needs}
 use Prim.Native.Nat.{_+_}
-use Rattle.checker.specs.Code.State.{nextIn}
+use Rattle.workspace.specs.State.{nextIn}
 use native.Mathlib.Omega.{arith}
 use lib.ListN.{length-set}
-use Rattle.checker.specs.Code.Rules.Memory.{ref-wrong, ref-lent, ref-few, ref-made}
+use Rattle.workspace.specs.Rules.Memory.{ref-wrong, ref-lent, ref-few, ref-made}
 use Rattle.checker.proofs.operators.make_cell.Statement.{statement}
 use Rattle.checker.proofs.operators.make_cell.Tie as tie
 

@@ -1,7 +1,7 @@
 -- `checker::operators::negation` meets its contract: a row for the negation of a truth. Assumes nothing.
 use borrow.Author.Needs.{needs}
-use Rattle.checker.specs.Code.Rules.Operators.{negation-wrong, negation-made}
-use Rattle.checker.specs.Code.State.Laws.{room-space}
+use Rattle.workspace.specs.Rules.Operators.{negation-wrong, negation-made}
+use Rattle.workspace.specs.State.Laws.{room-space}
 use Rattle.checker.proofs.operators.negation.Statement.{statement}
 use Rattle.checker.proofs.operators.negation.Tie as tie
 

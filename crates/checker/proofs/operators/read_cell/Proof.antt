@@ -2,7 +2,7 @@
 use borrow.Author.Needs.{needs}
 use native.Mathlib.Omega.{arith}
 use borrow.Author.Tests.{not-true, not-false}
-use Rattle.checker.specs.Code.Rules.Memory.{get-wrong, get-stopped, get-value, get-fresh}
+use Rattle.workspace.specs.Rules.Memory.{get-wrong, get-stopped, get-value, get-fresh}
 use Rattle.checker.proofs.operators.read_cell.Statement.{statement}
 use Rattle.checker.proofs.operators.read_cell.Tie as tie
 

@@ -1,7 +1,7 @@
 -- `checker::operators::sum` meets its contract: a row for the sum of two words. Assumes nothing.
 use borrow.Author.Needs.{needs}
-use Rattle.checker.specs.Code.Rules.Operators.{sum-wrong, sum-made}
-use Rattle.checker.specs.Code.State.Laws.{room-space}
+use Rattle.workspace.specs.Rules.Operators.{sum-wrong, sum-made}
+use Rattle.workspace.specs.State.Laws.{room-space}
 use Rattle.checker.proofs.operators.sum.Statement.{statement}
 use Rattle.checker.proofs.operators.sum.Tie as tie
 

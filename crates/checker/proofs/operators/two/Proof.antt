@@ -2,7 +2,7 @@
 use borrow.Author.Needs.{needs}
 use Rattle.script.specs.Code.Forms.{formOf}
 use Rattle.script.specs.Rows.{rows, rowOf}
-use Rattle.checker.specs.Code.Rules.Operators.{two-other}
+use Rattle.workspace.specs.Rules.Operators.{two-other}
 use Rattle.checker.proofs.operators.two.Statement.{statement}
 use Rattle.checker.proofs.operators.two.Tie as tie
 

@@ -3,8 +3,8 @@ use borrow.Author.Needs.{needs}
 use native.Mathlib.Omega.{arith}
 use lib.ListN.{length-set}
 use borrow.Author.Tests.{not-true, not-false}
-use Rattle.checker.specs.Code.Rules.Memory.{block-stopped, emptied-room, block-made}
-use Rattle.checker.specs.Code.State.{writesIn}
+use Rattle.workspace.specs.Rules.Memory.{block-stopped, emptied-room, block-made}
+use Rattle.workspace.specs.State.{writesIn}
 use Rattle.checker.proofs.operators.typed_result.Statement.{statement}
 use Rattle.checker.proofs.operators.typed_result.Tie as tie
 

@@ -1,6 +1,6 @@
 -- `checker::operators::variable` meets its contract: the variables are the first values. Assumes nothing.
 use borrow.Author.Needs.{needs}
-use Rattle.checker.specs.Code.Rules.Operators.{variable-found, variable-unknown}
+use Rattle.workspace.specs.Rules.Operators.{variable-found, variable-unknown}
 use Rattle.checker.proofs.operators.variable.Statement.{statement}
 use Rattle.checker.proofs.operators.variable.Tie as tie
 

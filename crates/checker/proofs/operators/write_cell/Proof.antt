@@ -1,7 +1,7 @@
 -- `checker::operators::write_cell` meets its contract: a write through a reference. Assumes nothing.
 use borrow.Author.Needs.{needs}
 use native.Mathlib.Omega.{arith}
-use Rattle.checker.specs.Code.Rules.Memory.{set-wrong, set-made}
+use Rattle.workspace.specs.Rules.Memory.{set-wrong, set-made}
 use Rattle.checker.proofs.operators.write_cell.Statement.{statement}
 use Rattle.checker.proofs.operators.write_cell.Tie as tie
 

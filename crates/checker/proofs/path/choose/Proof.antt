@@ -1,6 +1,6 @@
 -- `checker::path::choose` meets its contract: the branch that the decision allows, or both. Assumes nothing.
 use borrow.Author.Needs.{needs}
-use Rattle.checker.specs.Code.Paths.Decisions.{decide-needs, decided-space, decided-lent, chooses-as, chooses-no-truth, chooses-many, chooses-both, chooses-true, chooses-false}
+use Rattle.workspace.specs.Paths.Decisions.{decide-needs, decided-space, decided-lent, chooses-as, chooses-no-truth, chooses-many, chooses-both, chooses-true, chooses-false}
 use Rattle.checker.proofs.path.choose.Statement.{statement}
 use Rattle.checker.proofs.path.choose.Tie as tie
 

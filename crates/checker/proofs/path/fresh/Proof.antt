@@ -1,6 +1,6 @@
 -- `checker::path::fresh` meets its contract. Assumes nothing.
 use borrow.Author.Needs.{needs}
-use Rattle.checker.specs.Code.Paths.Symbols.{numbered-space, fresh-word, fresh-truth, fresh-reference}
+use Rattle.workspace.specs.Paths.Symbols.{numbered-space, fresh-word, fresh-truth, fresh-reference}
 use Rattle.checker.proofs.path.fresh.Statement.{statement}
 use Rattle.checker.proofs.path.fresh.Tie as tie
 

@@ -4,8 +4,8 @@ use mathlib.Core.Path.{_≡_, refl}
 use Prim.Native.Nat.{_≤_, _-_}
 use native.Mathlib.Omega.{arith}
 use lib.ListN.{length, length-set}
-use Rattle.checker.specs.Code.Paths.{Starting}
-use Rattle.checker.specs.Code.Paths.Starts.{blank-space, first-started, starting-on, starting-end}
+use Rattle.workspace.specs.Paths.{Starting}
+use Rattle.workspace.specs.Paths.Starts.{blank-space, first-started, starting-on, starting-end}
 use Rattle.checker.proofs.path.start.Statement.{statement}
 use Rattle.checker.proofs.path.start.Tie as tie
 

@@ -2,7 +2,7 @@
 use borrow.Author.Needs.{needs}
 use native.Mathlib.Omega.{arith}
 use mathlib.Core.Path.{_∙_}
-use Rattle.checker.specs.Code.Frames.{frameIn}
+use Rattle.workspace.specs.Frames.{frameIn}
 use Rattle.checker.specs.Code.Going.Climbing.{Climbing, climbing-start, climbing-end, climbing-on, climbing-operand, climbing-stopped}
 use Rattle.checker.proofs.steps.climb.Statement.{statement}
 use Rattle.checker.proofs.steps.climb.Tie as tie

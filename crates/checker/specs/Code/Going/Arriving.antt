@@ -14,19 +14,20 @@ use Rattle.rules.specs.Paths.{Paths, bind, Leaf, stopped, leaves}
 use Rattle.rules.specs.Symbolic.{Symbolic}
 use Rattle.rules.specs.SymbolicRules.{typedResult}
 use Rattle.terms.specs.Terms.{Grown}
-use Rattle.checker.specs.Code.Frames.{topIn}
-use Rattle.checker.specs.Code.Frames.Laws.{size-some}
-use Rattle.checker.specs.Code.Going.{goOn, forkedIn, Stands, Entering, Returning, Enterable, Returnable, came-stopped, Climbs, Arrives, Leafable, LeafArrives}
+use Rattle.workspace.specs.Frames.{topIn}
+use Rattle.workspace.specs.Frames.Laws.{size-some}
+use Rattle.checker.specs.Code.Going.{goOn, Stands, Entering, Returning, Enterable, Returnable, came-stopped, Climbs, Arrives, Leafable, LeafArrives}
+use Rattle.workspace.specs.Forks.{forkedIn}
 use Rattle.checker.specs.Code.Going.Climbing.{stopped-not-operand, stopped-not-value}
 use Rattle.checker.specs.Code.Going.Keeping.{stands-base, stands-noting, stands-by, awaits-kept}
 use Rattle.checker.specs.Code.Going.Steps.{enters-formed, Gives, gives, gives-none, yields-gives}
-use Rattle.checker.specs.Code.Notes.{Noting, Blocked}
-use Rattle.checker.specs.Code.Rules.{Checkable, Leaf as LeafRule, After}
-use Rattle.checker.specs.Code.Rules.Nodes.{shaped, first-of, leaf-exec, typed-exec}
-use Rattle.checker.specs.Code.State.{depthIn, typesOn, PathIn, Room}
-use Rattle.checker.specs.Code.State.Laws.{still-known, room-same, variables-kept, variables-types, path-rewound, room-less}
-use Rattle.checker.specs.declared.operators.Step.{Step}
-use Rattle.checker.specs.declared.operators.Step.the-variants.{Gave, Stopped}
+use Rattle.workspace.specs.Notes.{Noting, Blocked}
+use Rattle.workspace.specs.Rules.{Checkable, Leaf as LeafRule, After}
+use Rattle.workspace.specs.Rules.Nodes.{shaped, first-of, leaf-exec, typed-exec}
+use Rattle.workspace.specs.State.{depthIn, typesOn, PathIn, Room}
+use Rattle.workspace.specs.State.Laws.{still-known, room-same, variables-kept, variables-types, path-rewound, room-less}
+use Rattle.workspace.specs.declared.Step.{Step}
+use Rattle.workspace.specs.declared.Step.the-variants.{Gave, Stopped}
 use Rattle.checker.specs.declared.steps.Move.{Move}
 use Rattle.checker.specs.declared.steps.Move.the-variants as moves
 

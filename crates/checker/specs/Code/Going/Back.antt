@@ -10,15 +10,16 @@ use lib.Seq.{getD-set-same, getD-set-other}
 use borrow.Author.Tests.{eqb-true, eqb-false}
 use Rattle.script.specs.Code.Forms.{formOf, nodeIn}
 use Rattle.script.specs.Rows.{nodeOperands}
-use Rattle.checker.specs.Code.Frames.{frameIn, topIn, nodeOf, upOf, firstOf, secondOf, Waitable, Waits}
-use Rattle.checker.specs.Code.Going.{forkedIn, Returnable, came-operand, boundTo, movedBy, Forks, Branched, to-first, to-second, to-both, to-none, Lasts, Lastable, Backs}
+use Rattle.workspace.specs.Frames.{frameIn, topIn, nodeOf, upOf, firstOf, secondOf, Waitable, Waits}
+use Rattle.checker.specs.Code.Going.{Returnable, came-operand, boundTo, movedBy, Branched, to-first, to-second, to-both, to-none, Lasts, Lastable, Backs}
+use Rattle.workspace.specs.Forks.{forkedIn, Forks}
 use Rattle.checker.specs.Code.Going.Climbing.{value-not-operand, stopped-not-operand, stopped-not-value}
 use Rattle.checker.specs.Code.Going.Following.{next-waitable, next-plain, next-let, next-deep, next-branch, next-decidable, next-forked}
 use Rattle.checker.specs.Code.Going.Upwards.{up, up-room, up-one, up-lastable, up-last, gives-came, up-next}
-use Rattle.checker.specs.Code.Rules.{One, Decidable}
-use Rattle.checker.specs.Code.State.{depthIn, Room}
-use Rattle.checker.specs.declared.operators.Step.{Step}
-use Rattle.checker.specs.declared.operators.Step.the-variants as step
+use Rattle.workspace.specs.Rules.{One, Decidable}
+use Rattle.workspace.specs.State.{depthIn, Room}
+use Rattle.workspace.specs.declared.Step.{Step}
+use Rattle.workspace.specs.declared.Step.the-variants as step
 use Rattle.checker.specs.declared.steps.Move.{Move}
 use Rattle.checker.specs.declared.steps.Move.the-variants.{Value, Operand, Stopped}
 
@@ -101,7 +102,7 @@ module _ {table ws fs : List ℕ} {t q : ℕ} (x : Returnable table ws fs t q) (
     pub back-waitable : Waitable fs₁
     back-waitable = next-waitable (x .returning) some (up-next (x .returning) some z o)
 
-    risen : {n given y w : ℕ} {gs : List ℕ} → Waits n given y w fs₁ gs → topIn fs < topIn gs
+    risen : {n awaits y w : ℕ} {gs : List ℕ} → Waits n awaits y w fs₁ gs → topIn fs < topIn gs
     risen w = omega (arith, w .top, top-is)
 
     -- of an operator

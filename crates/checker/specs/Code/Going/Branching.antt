@@ -9,26 +9,27 @@ use Rattle.script.specs.declared.Refusal.{Refusal}
 use Rattle.rules.specs.Paths.{Path}
 use Rattle.rules.specs.Symbolic.{Symbolic}
 use Rattle.terms.specs.Terms.{Space, symbolLimit}
-use Rattle.checker.specs.Code.Frames.{Waitable, Waits}
-use Rattle.checker.specs.Code.Going.{unbound, movedBy, forkedIn, framesSize, Forkable, Forks, Branched, to-first, to-second, to-both, to-none, Lasts}
-use Rattle.checker.specs.Code.Paths.{assumed, forgotten}
-use Rattle.checker.specs.Code.Paths.Conditions.{learns-set, learnt-room}
-use Rattle.checker.specs.Code.Rules.{Two, Chosen, both, Chooses, Decidable}
-use Rattle.checker.specs.Code.State.{depthIn, knownAt, spaceSize, Room}
-use Rattle.checker.specs.Code.State.Laws.{room-space, log-from}
-use Rattle.checker.specs.declared.operators.Step.{Step}
-use Rattle.checker.specs.declared.path.Branch.{Branch}
-use Rattle.checker.specs.declared.path.Branch.the-variants.{First, Second, Both, Neither}
+use Rattle.workspace.specs.Frames.{Waitable, Waits}
+use Rattle.checker.specs.Code.Going.{unbound, movedBy, Branched, to-first, to-second, to-both, to-none, Lasts}
+use Rattle.workspace.specs.Forks.{forkedIn, framesSize, Forkable, Forks}
+use Rattle.workspace.specs.Paths.{assumed, forgotten}
+use Rattle.workspace.specs.Paths.Conditions.{learns-set, learnt-room}
+use Rattle.workspace.specs.Rules.{Two, Chosen, both, Chooses, Decidable}
+use Rattle.workspace.specs.State.{depthIn, knownAt, spaceSize, Room}
+use Rattle.workspace.specs.State.Laws.{room-space, log-from}
+use Rattle.workspace.specs.declared.Step.{Step}
+use Rattle.workspace.specs.declared.Branch.{Branch}
+use Rattle.workspace.specs.declared.Branch.the-variants.{First, Second, Both, Neither}
 use Rattle.checker.specs.declared.steps.Move.{Move}
 use Rattle.checker.specs.declared.steps.Move.the-variants.{Value, Operand, Stopped}
 
 -- ---- the last operand
 
-pub lasts-body : {kind given n t p u q : ℕ} {ws left : List ℕ} → given ≡ 2 → left ≡ unbound ws → Lasts kind given n t p u q ws (Value u q) left
+pub lasts-body : {kind awaits n t p u q : ℕ} {ws left : List ℕ} → awaits ≡ 2 → left ≡ unbound ws → Lasts kind awaits n t p u q ws (Value u q) left
 lasts-body e l = record { body = λ _. (refl, l); other = λ d. absurd (d e) }
 
-pub lasts-other : {kind given n t p u q : ℕ} {ws left : List ℕ} {a : Step} {r : Move} → (given ≡ 2 → ⊥) → r ≡ movedBy a
-    → Two (formOf kind) n t p u q ws a left → Lasts kind given n t p u q ws r left
+pub lasts-other : {kind awaits n t p u q : ℕ} {ws left : List ℕ} {a : Step} {r : Move} → (awaits ≡ 2 → ⊥) → r ≡ movedBy a
+    → Two (formOf kind) n t p u q ws a left → Lasts kind awaits n t p u q ws r left
 lasts-other {a = a} d e w = record { body = λ x. absurd (d x); other = λ _. (a, e, w) }
 
 -- ---- the branch
@@ -58,8 +59,8 @@ module _ {n t q : ℕ} {ws left : List ℕ} {r : Branch} (d : Decidable ws t q) 
   stored-space x = room-space (both-stored x)
 
 -- the path's numbers are small enough for a fork, and a new frame is none
-pub both-forkable : {n t q given x y : ℕ} {ws left fs gs : List ℕ} {r : Branch} → Decidable ws t q → r ≡ Both → Chooses n t q ws r left → depthIn ws ≤ symbolLimit
-    → Waits n given x y fs gs → Waitable fs → framesSize ≤ length fs → forkedIn fs < 64 → Forkable left gs
+pub both-forkable : {n t q awaits x y : ℕ} {ws left fs gs : List ℕ} {r : Branch} → Decidable ws t q → r ≡ Both → Chooses n t q ws r left → depthIn ws ≤ symbolLimit
+    → Waits n awaits x y fs gs → Waitable fs → framesSize ≤ length fs → forkedIn fs < 64 → Forkable left gs
 both-forkable {ws = ws} {gs = gs} d e h narrow w can l f = rw (both-same d e h) now
   where
     now : Forkable ws gs

@@ -7,7 +7,7 @@ use lib.ListN.{length}
 use Rattle.script.specs.declared.Refusal.{Refusal}
 use Rattle.rules.specs.Paths.{Leaf, stopped}
 use Rattle.rules.specs.Symbolic.{Symbolic}
-use Rattle.checker.specs.Code.Frames.{frameIn, topIn}
+use Rattle.workspace.specs.Frames.{frameIn, topIn}
 use Rattle.checker.specs.Code.Going.{Entering, Returning, Returnable, Came, came-value, came-operand, came-stopped, Backs, Climbs}
 use Rattle.checker.specs.declared.steps.Move.{Move}
 use Rattle.checker.specs.declared.steps.Move.the-variants.{Value, Operand, Stopped}

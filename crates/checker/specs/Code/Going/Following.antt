@@ -19,20 +19,21 @@ use Rattle.rules.specs.SymbolicRules.{decide}
 use Rattle.rules.specs.Satisfiable.{satisfiable}
 use Rattle.terms.specs.Terms.{Grown}
 use Rattle.terms.specs.Terms.Laws.{grown-refl}
-use Rattle.checker.specs.Code.Frames.{frameIn, topIn, nodeOf, upOf, firstOf, secondOf, Waitable, Waits}
-use Rattle.checker.specs.Code.Frames.Laws.{size-some}
-use Rattle.checker.specs.Code.Going.{first, second, goOn, for-second, for-body, forkedIn, Onward, Forking, one-left, Stands, Entering, Returning, boundTo, Forks, Branched, to-first, to-second, to-both, to-none, Came, came-operand, came-stopped}
+use Rattle.workspace.specs.Frames.{frameIn, topIn, nodeOf, upOf, firstOf, secondOf, Waitable, Waits}
+use Rattle.workspace.specs.Frames.Laws.{size-some}
+use Rattle.checker.specs.Code.Going.{first, second, goOn, for-second, for-body, Onward, Forking, one-left, Stands, Entering, Returning, boundTo, Branched, to-first, to-second, to-both, to-none, Came, came-operand, came-stopped}
+use Rattle.workspace.specs.Forks.{forkedIn, Forks}
 use Rattle.checker.specs.Code.Going.Keeping.{onward-trans, waits-onward, awaits-kept, stands-base, stands-on, stands-ruled, waits-awaits, waits-slot, waits-forked, waits-stands}
 use Rattle.checker.specs.Code.Going.Steps.{then-on}
-use Rattle.checker.specs.Code.Paths.{assumed, forgotten}
-use Rattle.checker.specs.Code.Paths.Conditions.{learns-set, forgets, assumed-ruled, assumed-with}
-use Rattle.checker.specs.Code.Rules.{twoExec, restSize, withGuard, withoutGuard, Ruled, Chosen, Decidable}
-use Rattle.checker.specs.Code.Rules.Chosen.{first as chosen-first, second as chosen-second, both as chosen-both, neither as chosen-neither}
-use Rattle.checker.specs.Code.Rules.Nodes.{Rest, Branches, shaped, rest-of, several-of, branches-of, if-rest-exec, if-two, two-rest-exec}
-use Rattle.checker.specs.Code.Rules.Types.{bound-other, let-bound}
-use Rattle.checker.specs.Code.State.{depthIn, Means, truthRow, Variables, oneMore, PathIn}
-use Rattle.checker.specs.Code.State.Laws.{means-kept, means-at, variables-kept, room-less, room-on}
-use Rattle.checker.specs.declared.path.Branch.the-variants.{First, Second, Both, Neither}
+use Rattle.workspace.specs.Paths.{assumed, forgotten}
+use Rattle.workspace.specs.Paths.Conditions.{learns-set, forgets, assumed-ruled, assumed-with}
+use Rattle.workspace.specs.Rules.{twoExec, restSize, withGuard, withoutGuard, Ruled, Chosen, Decidable}
+use Rattle.workspace.specs.Rules.Chosen.{first as chosen-first, second as chosen-second, both as chosen-both, neither as chosen-neither}
+use Rattle.workspace.specs.Rules.Nodes.{Rest, Branches, shaped, rest-of, several-of, branches-of, if-rest-exec, if-two, two-rest-exec}
+use Rattle.workspace.specs.Rules.Types.{bound-other, let-bound}
+use Rattle.workspace.specs.State.{depthIn, Means, truthRow, Variables, oneMore, PathIn}
+use Rattle.workspace.specs.State.Laws.{means-kept, means-at, variables-kept, room-less, room-on}
+use Rattle.workspace.specs.declared.Branch.the-variants.{First, Second, Both, Neither}
 use Rattle.checker.specs.declared.steps.Move.{Move}
 use Rattle.checker.specs.declared.steps.Move.the-variants.{Operand}
 use Rattle.checker.specs.Code.Going.Upwards.{Shifted, shifted-grown, shifted-path, shifted-onward, shifted-room, shifted-unnoted, Next, up, up-room, up-valued, left-top, left-forked}
@@ -73,7 +74,7 @@ module _ {limit : ℕ} {table : List ℕ} {bound base : ℕ} {ground : List Symb
     pub next-waitable : Waitable fs₁
     next-waitable = record { lent = omega (arith, r .stands .framed, length-set fs 0 g); few = next-few; inside = x .stands .inside }
 
-    value-at : {given : ℕ} {gs : List ℕ} → Waits n given t q fs₁ gs → Means ws (firstOf gs (suc (topIn fs₁))) (secondOf gs (suc (topIn fs₁))) (r .value)
+    value-at : {awaits : ℕ} {gs : List ℕ} → Waits n awaits t q fs₁ gs → Means ws (firstOf gs (suc (topIn fs₁))) (secondOf gs (suc (topIn fs₁))) (r .value)
     value-at w = rw (w .first, w .second) (r .means)
 
     -- it waits for the next one

@@ -9,13 +9,14 @@ use Rattle.rules.specs.Paths.{Path, Leaf}
 use Rattle.rules.specs.Symbolic.{Symbolic}
 use Rattle.terms.specs.Terms.{Grown, symbolLimit}
 use Rattle.terms.specs.Terms.Laws.{grown-refl, grown-trans}
-use Rattle.checker.specs.Code.Frames.{frameIn, topIn, Waits}
-use Rattle.checker.specs.Code.Going.{Later, Slot, Awaits, no-frame, for-only, for-first, for-second, for-body, forkedIn, Forked, Onward, Left, none-left, one-left, Stands}
-use Rattle.checker.specs.Code.Notes.{Noting, Holding}
-use Rattle.checker.specs.Code.Notes.Keeping.{still-holding}
-use Rattle.checker.specs.Code.Rules.{Ruled}
-use Rattle.checker.specs.Code.State.{depthIn, PathIn, State, Unnoted}
-use Rattle.checker.specs.Code.State.Laws.{means-at, variables-kept, unnoted-refl}
+use Rattle.workspace.specs.Frames.{frameIn, topIn, Waits}
+use Rattle.checker.specs.Code.Going.{Later, Slot, Awaits, no-frame, for-only, for-first, for-second, for-body, Onward, Left, none-left, one-left, Stands}
+use Rattle.workspace.specs.Forks.{forkedIn, Forked}
+use Rattle.workspace.specs.Notes.{Noting, Holding}
+use Rattle.workspace.specs.Notes.Keeping.{still-holding}
+use Rattle.workspace.specs.Rules.{Ruled}
+use Rattle.workspace.specs.State.{depthIn, PathIn, State, Unnoted}
+use Rattle.workspace.specs.State.Laws.{means-at, variables-kept, unnoted-refl}
 
 -- ---- only added
 
@@ -66,7 +67,7 @@ ruled-onward fs b r =
     }
 
 -- a new frame
-pub waits-onward : {base n given x y : ℕ} (ws : List ℕ) {fs gs : List ℕ} → topIn fs < 127 → Waits n given x y fs gs → Onward base ws fs ws gs
+pub waits-onward : {base n awaits x y : ℕ} (ws : List ℕ) {fs gs : List ℕ} → topIn fs < 127 → Waits n awaits x y fs gs → Onward base ws fs ws gs
 waits-onward ws l w =
     let t = w .top in
     let j = w .others 2 (omega arith) λ h i. omega arith in
@@ -103,7 +104,7 @@ leave-onward ws fs g =
 
 -- ---- what waits
 
-slot-kept : {fs gs : List ℕ} {f n g given : ℕ} → ((k : ℕ) → 4 ≤ k → k < 4 + 4 * f → getD gs k 0 ≡ getD fs k 0) → Slot fs f n g given → Slot gs f n g given
+slot-kept : {fs gs : List ℕ} {f n g awaits : ℕ} → ((k : ℕ) → 4 ≤ k → k < 4 + 4 * f → getD gs k 0 ≡ getD fs k 0) → Slot fs f n g awaits → Slot gs f n g awaits
 slot-kept {f = f} b s =
     let e = s .earlier in
     record {
@@ -211,12 +212,12 @@ module _ {limit : ℕ} {table : List ℕ} {bound base : ℕ} {ground : List Symb
       (rw d (awaits-kept (topIn fs) (s .inside) (r .went .grown) (λ k l i. refl) (s .awaits)))
 
   -- a node waits in a new frame
-  module _ {gs : List ℕ} {n given x y : ℕ} (few : topIn fs < 127) (w : Waits n given x y fs gs) where
+  module _ {gs : List ℕ} {n awaits x y : ℕ} (few : topIn fs < 127) (w : Waits n awaits x y fs gs) where
     -- what waited before
     pub waits-awaits : Awaits table bound base ground ws gs (frameIn fs) (depthIn ws) env ks owed frames
     waits-awaits = awaits-kept (topIn fs) (s .inside) (grown-refl ws) (λ k l h. w .others k (omega arith) λ i j. omega arith) (s .awaits)
 
-    pub waits-slot : Slot gs (suc (topIn fs)) n (frameIn fs) given
+    pub waits-slot : Slot gs (suc (topIn fs)) n (frameIn fs) awaits
     waits-slot = let i = s .inside in record { node = w .node; up = w .up; earlier = omega arith }
 
     pub waits-forked : forkedIn gs ≡ forkedIn fs

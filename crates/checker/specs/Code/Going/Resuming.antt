@@ -9,17 +9,18 @@ use Rattle.script.specs.Tree.{size}
 use Rattle.rules.specs.Paths.{Path, Leaf}
 use Rattle.rules.specs.Symbolic.{Symbolic, aTruth}
 use Rattle.terms.specs.Terms.{Space, Grown}
-use Rattle.checker.specs.Code.Frames.{frameIn, topIn, nodeOf, secondOf}
-use Rattle.checker.specs.Code.Frames.Laws.{size-some}
-use Rattle.checker.specs.Code.Going.{Later, Awaits, forkedIn, Forked, Onward, Forking, Left, none-left, one-left, Stands, Entering, Rewound, Restorable, Restores, Resumable, Resumes}
+use Rattle.workspace.specs.Frames.{frameIn, topIn, nodeOf, secondOf}
+use Rattle.workspace.specs.Frames.Laws.{size-some}
+use Rattle.checker.specs.Code.Going.{Later, Awaits, Onward, Forking, Left, none-left, one-left, Stands, Entering, Restorable, Restores, Resumable, Resumes}
+use Rattle.workspace.specs.Forks.{forkedIn, Forked, Rewound}
 use Rattle.checker.specs.Code.Going.Keeping.{awaits-kept, left-kept, stands-base, stands-ruled}
-use Rattle.checker.specs.Code.Notes.{baseIn, Kept, Noting}
-use Rattle.checker.specs.Code.Notes.Keeping.{still-holding}
-use Rattle.checker.specs.Code.Paths.{assumed}
-use Rattle.checker.specs.Code.Paths.Conditions.{learns-refl, assumed-ruled, assumed-without}
-use Rattle.checker.specs.Code.Rules.{withoutGuard}
-use Rattle.checker.specs.Code.State.{depthIn, knownAt, Means, Variables, PathIn, Room}
-use Rattle.checker.specs.Code.State.Laws.{nothing-known, room-same, means-kept, variables-kept, path-kept, path-rewound, distinct-same, room-less, room-on, room-space}
+use Rattle.workspace.specs.Notes.{baseIn, Kept, Noting}
+use Rattle.workspace.specs.Notes.Keeping.{still-holding}
+use Rattle.workspace.specs.Paths.{assumed}
+use Rattle.workspace.specs.Paths.Conditions.{learns-refl, assumed-ruled, assumed-without}
+use Rattle.workspace.specs.Rules.{withoutGuard}
+use Rattle.workspace.specs.State.{depthIn, knownAt, Means, Variables, PathIn, Room}
+use Rattle.workspace.specs.State.Laws.{nothing-known, room-same, means-kept, variables-kept, path-kept, path-rewound, distinct-same, room-less, room-on, room-space}
 
 -- ---- the last fork
 

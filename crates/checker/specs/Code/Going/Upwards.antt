@@ -10,15 +10,16 @@ use Rattle.script.specs.Rows.{Form, nodeOperands}
 use Rattle.rules.specs.Paths.{Path, Paths, ends, forks, bind, Leaf, leaves}
 use Rattle.rules.specs.Symbolic.{Symbolic}
 use Rattle.terms.specs.Terms.{Grown}
-use Rattle.checker.specs.Code.Frames.{frameIn, topIn, nodeOf, upOf, firstOf, secondOf}
-use Rattle.checker.specs.Code.Going.{Later, first, second, goOn, Awaits, no-frame, for-only, for-first, for-second, for-body, forkedIn, Onward, Stands, Returning, unbound, movedBy, Lasts, Lastable, Came, came-value, came-stopped}
+use Rattle.workspace.specs.Frames.{frameIn, topIn, nodeOf, upOf, firstOf, secondOf}
+use Rattle.checker.specs.Code.Going.{Later, first, second, goOn, Awaits, no-frame, for-only, for-first, for-second, for-body, Onward, Stands, Returning, unbound, movedBy, Lasts, Lastable, Came, came-value, came-stopped}
+use Rattle.workspace.specs.Forks.{forkedIn}
 use Rattle.checker.specs.Code.Going.Keeping.{onward-trans, leave-onward, awaits-kept, stands-base, stands-on, leave-stands}
 use Rattle.checker.specs.Code.Going.Steps.{Gives, gives, gives-none, yields-gives}
-use Rattle.checker.specs.Code.Rules.{oneExec, twoExec, restExec, restSize, One, Operable}
-use Rattle.checker.specs.Code.Rules.Nodes.{let-form}
-use Rattle.checker.specs.Code.State.{depthIn, Means, Variables, noVariable, oneMore, PathIn, Room, Unnoted, Valued}
-use Rattle.checker.specs.Code.State.Laws.{still-known, room-same, means-kept, variables-kept, path-rewound, room-less}
-use Rattle.checker.specs.declared.operators.Step.{Step}
+use Rattle.workspace.specs.Rules.{oneExec, twoExec, restExec, restSize, One, Operable}
+use Rattle.workspace.specs.Rules.Nodes.{let-form}
+use Rattle.workspace.specs.State.{depthIn, Means, Variables, noVariable, oneMore, PathIn, Room, Unnoted, Valued}
+use Rattle.workspace.specs.State.Laws.{still-known, room-same, means-kept, variables-kept, path-rewound, room-less}
+use Rattle.workspace.specs.declared.Step.{Step}
 use Rattle.checker.specs.declared.steps.Move.{Move}
 
 -- ---- other variables
@@ -208,7 +209,7 @@ module _ {limit : ℕ} {table : List ℕ} {bound base : ℕ} {ground : List Symb
   pub up : Up
   up = up-by (r .stands .awaits) refl refl refl refl refl refl
 
-  owed-some : {given : ℕ} → Upper limit table bound base ground ws fs (r .environment) (r .path) (r .value) (r .owed) (r .frames) (r .others) ls (firstOf fs f) (secondOf fs f) n g given
+  owed-some : {awaits : ℕ} → Upper limit table bound base ground ws fs (r .environment) (r .path) (r .value) (r .owed) (r .frames) (r .others) ls (firstOf fs f) (secondOf fs f) n g awaits
       → 1 ≤ r .owed
   owed-some (upper-only c o s i) = omega arith
   owed-some (upper-first c j d o w s i) = omega arith
@@ -239,8 +240,8 @@ module _ {limit : ℕ} {table : List ℕ} {bound base : ℕ} {ground : List Symb
       → Gives limit table bound base ground left (set fs 0 g) ls a
   up-one z o {a} {left} x = by (up .view) z
     where
-      by : {given : ℕ} → Upper limit table bound base ground ws fs (r .environment) (r .path) (r .value) (r .owed) (r .frames) (r .others) ls (firstOf fs f) (secondOf fs f) n g given
-          → given ≡ 0 → Gives limit table bound base ground left (set fs 0 g) ls a
+      by : {awaits : ℕ} → Upper limit table bound base ground ws fs (r .environment) (r .path) (r .value) (r .owed) (r .frames) (r .others) ls (firstOf fs f) (secondOf fs f) n g awaits
+          → awaits ≡ 0 → Gives limit table bound base ground left (set fs 0 g) ls a
       by (upper-only c e s i) z =
           yields-gives s (x .ruled) (room-less (omega arith) (r .room)) left-tops i (x .yields (r .value) (r .path) (r .means) (r .stands .state .path))
       by (upper-first c j d e w s i) z = absurd (omega arith)
@@ -255,8 +256,8 @@ module _ {limit : ℕ} {table : List ℕ} {bound base : ℕ} {ground : List Symb
       operable : {w : Symbolic} → Means ws (firstOf fs f) (secondOf fs f) w → Operable ws (firstOf fs f) (secondOf fs f) t q
       operable {w} m = record { room = up-room; first = record { value = w; means = m }; second = up-valued; distinct = r .stands .state .path .distinct }
 
-      by : {given : ℕ} → Upper limit table bound base ground ws fs (r .environment) (r .path) (r .value) (r .owed) (r .frames) (r .others) ls (firstOf fs f) (secondOf fs f) n g given
-          → given ≡ upOf fs f % 4 → Lastable (upOf fs f % 4) ws (firstOf fs f) (secondOf fs f) t q
+      by : {awaits : ℕ} → Upper limit table bound base ground ws fs (r .environment) (r .path) (r .value) (r .owed) (r .frames) (r .others) ls (firstOf fs f) (secondOf fs f) n g awaits
+          → awaits ≡ upOf fs f % 4 → Lastable (upOf fs f % 4) ws (firstOf fs f) (secondOf fs f) t q
       by (upper-only c e s i) h = absurd (z (sym h))
       by (upper-first c j d e w s i) h = absurd (z (sym h))
       by (upper-second m e s i) h = record { operable = operable m; variable = λ k. absurd (omega arith) }
@@ -277,8 +278,8 @@ module _ {limit : ℕ} {table : List ℕ} {bound base : ℕ} {ground : List Symb
   unfolding bind
   up-last z {m} {left} x = by (up .view) refl
     where
-      by : {given : ℕ} → Upper limit table bound base ground ws fs (r .environment) (r .path) (r .value) (r .owed) (r .frames) (r .others) ls (firstOf fs f) (secondOf fs f) n g given
-          → given ≡ upOf fs f % 4 → Came limit table bound base ground left (set fs 0 g) ls m
+      by : {awaits : ℕ} → Upper limit table bound base ground ws fs (r .environment) (r .path) (r .value) (r .owed) (r .frames) (r .others) ls (firstOf fs f) (secondOf fs f) n g awaits
+          → awaits ≡ upOf fs f % 4 → Came limit table bound base ground left (set fs 0 g) ls m
       by (upper-only c e s i) h = absurd (z (sym h))
       by (upper-first c j d e w s i) h = absurd (z (sym h))
       by (upper-second {w = w} k e s i) h =
@@ -345,8 +346,8 @@ module _ {limit : ℕ} {table : List ℕ} {bound base : ℕ} {ground : List Symb
   pub up-next : upOf fs f % 4 ≡ 0 → (nodeOperands (nodeIn table n .kind) ≡ 1 → ⊥) → Next
   up-next z o = by (up .view) z
     where
-      by : {given : ℕ} → Upper limit table bound base ground ws fs (r .environment) (r .path) (r .value) (r .owed) (r .frames) (r .others) ls (firstOf fs f) (secondOf fs f) n g given
-          → given ≡ 0 → Next
+      by : {awaits : ℕ} → Upper limit table bound base ground ws fs (r .environment) (r .path) (r .value) (r .owed) (r .frames) (r .others) ls (firstOf fs f) (secondOf fs f) n g awaits
+          → awaits ≡ 0 → Next
       by (upper-only c e s i) z = absurd (o c)
       by (upper-first {ks = ks} {rest = rest} {less = less} {fewer = fewer} c j d e w s i) z =
           record {

@@ -1,0 +1,27 @@
+-- `types::bind_type` meets its contract: a `let` puts the type behind the last variable's, every other kind changes nothing. Assumes nothing.
+use borrow.Author.Needs.{needs}
+use Rattle.workspace.specs.Rules.Types.{bind-type-let, bind-type-other}
+use Rattle.types.proofs.bind_type.Statement.{statement}
+use Rattle.types.proofs.bind_type.Tie as tie
+
+returns : tie.Need-returns
+returns c =
+    let s = c .before .pre in
+    bind-type-let (c .before .args .kind) (c .before .args .depth) (c .before .args .t) (c .before .args .space .now) (s .0) (s .1) (c .if1 .taken)
+
+returns-2 : tie.Need-returns-2
+returns-2 c =
+    let s = c .before .pre in
+    bind-type-other (c .before .args .kind) (c .before .args .depth) (c .before .args .t) (c .before .args .space .now) (s .0) (s .1) (c .if1 .left)
+
+pub bind-type-spec : {M : Type 1} → statement M
+bind-type-spec =
+    tie.close
+    (tie.spec
+    (λ c. search needs)
+    (λ c. search needs)
+    (λ c. search needs)
+    (λ c. search needs)
+    (λ c. search needs)
+    returns
+    returns-2)

@@ -1,0 +1,76 @@
+-- Frames as the code has them, four numbers each: the node that waits, four times the frame that its value goes to and what it waits for
+-- (0 its first operand, 1 the next one, 2 the body of a `let`), and the type and the place of its first operand's value. Assumes nothing.
+pub mod Laws
+use mathlib.Core.Bool.{Bool, true, false, not, _&&_}
+use mathlib.Core.List.{List}
+use mathlib.Core.Path.{_≡_}
+use Prim.Native.Nat.{ℕ, suc, _+_, _*_, _%_, _≤_, _<_}
+use lib.Dec.{leb, eqb}
+use lib.ListN.{length, getD}
+use Rattle.script.specs.Code.Forms.{nodeIn, treeIn}
+use Rattle.script.specs.Flat.{FormedNodes}
+use Rattle.script.specs.Tree.{size}
+use Rattle.workspace.specs.declared.Frame.{Frame}
+
+-- ---- the places
+
+-- the frame that the next value goes to, and how many frames there are
+abbrev pub frameIn : List ℕ → ℕ
+frameIn fs = getD fs 0 0
+
+abbrev pub topIn : List ℕ → ℕ
+topIn fs = getD fs 1 0
+
+-- of frame f: the node, where its value goes to and what it waits for, and its first operand's value
+abbrev pub nodeOf : List ℕ → ℕ → ℕ
+nodeOf fs f = getD fs (4 * f) 0
+
+abbrev pub upOf : List ℕ → ℕ → ℕ
+upOf fs f = getD fs (4 * f + 1) 0
+
+abbrev pub firstOf : List ℕ → ℕ → ℕ
+firstOf fs f = getD fs (4 * f + 2) 0
+
+abbrev pub secondOf : List ℕ → ℕ → ℕ
+secondOf fs f = getD fs (4 * f + 3) 0
+
+abbrev pub framesEnd : ℕ
+framesEnd = 512
+
+-- ---- what the functions ask and promise
+
+pub record Waitable (fs : List ℕ) : Type 0 where
+  pub lent : framesEnd ≤ length fs
+  pub few : topIn fs < 127
+  pub inside : frameIn fs ≤ topIn fs
+
+-- node n waits in a new frame
+pub record Waits (n awaits x y : ℕ) (fs left : List ℕ) : Type 0 where
+  pub same : length left ≡ length fs
+  pub frame : frameIn left ≡ suc (topIn fs)
+  pub top : topIn left ≡ suc (topIn fs)
+  pub node : nodeOf left (suc (topIn fs)) ≡ n
+  pub up : upOf left (suc (topIn fs)) ≡ 4 * frameIn fs + awaits
+  pub first : firstOf left (suc (topIn fs)) ≡ x
+  pub second : secondOf left (suc (topIn fs)) ≡ y
+  pub others : (k : ℕ) → 2 ≤ k → (4 * suc (topIn fs) ≤ k → k < 4 * suc (topIn fs) + 4 → ⊥) → getD left k 0 ≡ getD fs k 0
+
+-- the frame that a value goes to
+abbrev pub frameAt : List ℕ → ℕ → Frame
+frameAt fs f = record { node = nodeOf fs f; awaits = upOf fs f % 4; x = firstOf fs f; y = secondOf fs f }
+
+-- a node with a first operand that is a node, and no typed block
+abbrev pub waitsFor : ℕ → Bool
+waitsFor kind = leb 4 kind && not (eqb kind 13)
+
+-- from node m on down the first operands, each of which waits
+pub data Descends (table : List ℕ) : List ℕ → ℕ → ℕ → List ℕ → Type 0 where
+  down-to : {fs : List ℕ} {m : ℕ} → waitsFor (nodeIn table m .kind) ≡ false → Descends table fs m m fs
+  down-from : {fs between left : List ℕ} {m n : ℕ} → waitsFor (nodeIn table m .kind) ≡ true → Waits m 0 0 0 fs between
+      → Descends table between (nodeIn table m .a) n left → Descends table fs m n left
+
+pub record Descendable (table fs : List ℕ) (m : ℕ) : Type 0 where
+  pub formed : FormedNodes table (suc m)
+  pub lent : framesEnd ≤ length fs
+  pub few : topIn fs + size (treeIn table m) ≤ 128
+  pub inside : frameIn fs ≤ topIn fs

@@ -1,0 +1,9 @@
+-- A new workspace holds nothing. Assumes nothing.
+use Prim.Native.Nat.{ℕ}
+use native.Mathlib.Omega.{arith}
+use lib.ListN.{replicate, length-replicate}
+use Rattle.script.specs.Rows.Laws.{same-anywhere}
+use Rattle.workspace.specs.Paths.{Blank}
+
+pub blank : Blank (replicate {A = ℕ} 1415 0)
+blank = record { lent = let e = length-replicate {A = ℕ} 1415 0 in omega arith; zeros = λ k. same-anywhere 1415 0 k }

@@ -1,0 +1,287 @@
+-- The rules of `ref`, `get`, `set` and of a typed block on the log in its numbers. Assumes nothing.
+use mathlib.Core.Bool.{Bool, true, false}
+use mathlib.Core.List.{List}
+use mathlib.Core.Option.{Option, none, some}
+use mathlib.Core.Path.{_≡_, refl, sym, _∙_}
+use Prim.Native.Nat.{ℕ, suc, _+_, _*_, _-_, _≤_, _<_}
+use native.Mathlib.Omega.{arith}
+use lib.ListN.{length, getD, set, length-set}
+use lib.Seq.{getD-set-same, getD-set-other}
+use borrow.Author.Tests.{le-leb, lt-leb}
+use Rattle.script.specs.Rows.{unaryForm, binaryForm, refOp, getOp, setOp}
+use Rattle.script.specs.declared.Refusal.the-variants.{WrongType, TooManyReferences, InconsistentLog}
+use Rattle.rules.specs.Paths.{Path, ends, taken, forget, consistent, lookup}
+use Rattle.rules.specs.Symbolic.{Sum, Formula, Origin, made, Symbolic, aWord, aTruth, aReference, symbol}
+use Rattle.rules.specs.SymbolicRules.{got, unaryExec, binaryExec, typedResult}
+use Rattle.terms.specs.Terms.{countIn, Grown}
+use Rattle.terms.specs.Terms.Laws.{grown-trans, still-distinct}
+use Rattle.workspace.specs.Log.{consistentOn, lookupOn, written, FoundAs, found-none, found-some}
+use Rattle.workspace.specs.Log.Laws.{consistent-is, lookup-is, written-grown, written-before, written-ruled, written-path}
+use Rattle.workspace.specs.Paths.{Fresh}
+use Rattle.workspace.specs.Paths.Conditions.{ruled-refl}
+use Rattle.workspace.specs.Paths.Symbols.{fresh-reference}
+use Rattle.workspace.specs.Rules.{oneExec, twoExec, Ruled, One, Two, After}
+use Rattle.workspace.specs.State.{nextIn, writesIn, startIn, depthIn, Means, wordRow, truthRow, madeSymbol, otherSymbol, noWrite, PathIn, Room, Went, Unnoted, Yields, ending, stopping}
+use Rattle.workspace.specs.State.Laws.{still-known, path-moved, means-type, means-kept, went-trans, room-on, unnoted-trans}
+use Rattle.workspace.specs.declared.Found.{Found}
+use Rattle.workspace.specs.declared.Found.the-variants.{Value, Nothing}
+use Rattle.workspace.specs.declared.Step.the-variants.{Gave, Stopped}
+
+-- ---- references
+
+-- a value of a type from 2 on is a reference
+pub data Refers : ℕ → Symbolic → Type 0 where
+  refers : {o : Origin} {c s : ℕ} → Refers (suc (suc c)) (aReference o c s)
+
+pub refer : {ws : List ℕ} {t q : ℕ} {v : Symbolic} → 2 ≤ t → Means ws t q v → Refers t v
+refer l (wordRow i r) = absurd (omega arith)
+refer l (truthRow i r) = absurd (omega arith)
+refer l (madeSymbol e) = refers
+refer l (otherSymbol e) = refers
+
+-- one of a type below 2 is none
+pub data NoReference : Symbolic → Type 0 where
+  a-word : {p : Sum} → NoReference (aWord p)
+  a-truth : {f : Formula} → NoReference (aTruth f)
+
+pub no-reference : {ws : List ℕ} {t q : ℕ} {v : Symbolic} → t < 2 → Means ws t q v → NoReference v
+no-reference l (wordRow i r) = a-word
+no-reference l (truthRow i r) = a-truth
+no-reference l (madeSymbol e) = absurd (omega arith)
+no-reference l (otherSymbol e) = absurd (omega arith)
+
+ruled-then : {ws xs left : List ℕ} → depthIn xs ≡ depthIn ws → Unnoted ws xs → Ruled xs left → Went ws left 144 1 → Ruled ws left
+ruled-then d k v w = record { went = w; depth = v .depth ∙ d; notes = unnoted-trans k (v .notes) }
+
+-- ---- `set`
+
+set-refused : (n : ℕ) {ws : List ℕ} {v : Symbolic} (w : Symbolic) (p : Path) → NoReference v → Yields ws (Stopped (WrongType n)) (binaryExec n setOp v w p)
+unfolding binaryExec
+set-refused n w p a-word = stopping
+set-refused n w p a-truth = stopping
+
+set-yields : (n q u s : ℕ) {ws : List ℕ} → Room ws 1 → {t : ℕ} {v w : Symbolic} {p : Path} → Refers t v → Means ws t q v → Means ws u s w → PathIn ws p
+    → Yields (written ws t q u s) (Gave u s) (binaryExec n setOp v w p)
+unfolding binaryExec
+set-yields n q u s {ws} x {p = p} (refers {c = c}) m k h =
+    let t = suc (suc c) in
+    ending (means-kept (written-grown ws t q u s (x .lent) (omega (arith, x .writes)) (omega (arith, x .rows))) k)
+    (written-path ws t q u s (x .lent) (omega (arith, x .writes)) (omega (arith, x .rows)) p h m k)
+
+module _ (n t q u s : ℕ) {ws : List ℕ} where
+  pub set-wrong : t < 2 → Two (binaryForm setOp) n t q u s ws (Stopped (WrongType n)) ws
+  unfolding twoExec
+  set-wrong l = record { ruled = ruled-refl ws; yields = λ v w p m k h. set-refused n w p (no-reference l m) }
+
+  pub set-made : 2 ≤ t → Room ws 1 → {left : List ℕ} → left ≡ written ws t q u s → Two (binaryForm setOp) n t q u s ws (Gave u s) left
+  unfolding twoExec
+  set-made l x e =
+      rw e
+      (record {
+        ruled = written-ruled ws t q u s (x .lent) (omega (arith, x .writes)) (omega (arith, x .rows));
+        yields = λ v w p m k h. set-yields n q u s x (refer l m) m k h;
+      })
+
+-- ---- `ref`
+
+module _ (n t q : ℕ) {ws : List ℕ} where
+  pub ref-wrong : 30 ≤ t → One (unaryForm refOp) n t q ws (Stopped (TooManyReferences n)) ws
+  unfolding oneExec unaryExec
+  ref-wrong l =
+      record {
+        ruled = ruled-refl ws;
+        yields = λ v p m h. rw (means-type m, lt-leb (suc (suc t)) 31 (omega arith)) stopping;
+      }
+
+  module _ (x : Room ws 1) (l : t < 30) where
+    abbrev numbered : List ℕ
+    numbered = set ws 724 (nextIn ws + 1)
+
+    fresh : Fresh (t + 2) ws (2 * nextIn ws) numbered
+    fresh = fresh-reference ws x (t + 2) (λ e. omega arith) (λ e. omega arith)
+
+    pub ref-lent : 1415 ≤ length numbered
+    ref-lent = omega (arith, length-set ws 724 (nextIn ws + 1), x .lent)
+
+    pub ref-few : writesIn numbered < 128
+    ref-few = let e = getD-set-other ws 724 726 (nextIn ws + 1) 0 (λ e. omega arith) in omega (arith, e, x .writes)
+
+    ref-rows : countIn numbered ≤ 145
+    ref-rows = let e = getD-set-other ws 724 288 (nextIn ws + 1) 0 (λ e. omega arith) in omega (arith, e, x .rows)
+
+    abbrev left : List ℕ
+    left = written numbered (t + 2) (2 * nextIn ws + 1) t q
+
+    ref-went : Went ws left 144 1
+    ref-went =
+        let a = fresh .ruled .went in
+        let b = written-ruled numbered (t + 2) (2 * nextIn ws + 1) t q ref-lent ref-few ref-rows .went in
+        let rows = getD-set-other ws 724 288 (nextIn ws + 1) 0 (λ e. omega arith) in
+        let writes = getD-set-other ws 724 726 (nextIn ws + 1) 0 (λ e. omega arith) in
+        let next = written-before numbered (t + 2) (2 * nextIn ws + 1) t q ref-lent ref-few ref-rows 724 (λ e. omega arith) (omega arith) in
+        record {
+          same = b .same ∙ a .same;
+          before = λ k i. b .before k i ∙ a .before k i;
+          grown = grown-trans (a .grown) (b .grown);
+          rows = omega (arith, b .rows, rows);
+          symbols = omega (arith, next, a .symbols);
+          writes = omega (arith, b .writes, writes);
+          logged = omega (arith, a .logged, b .logged);
+          log = λ k i h. b .log k i (omega (arith, h, writes)) ∙ a .log k i h;
+        }
+
+    made-here : (zs : List ℕ) (u : ℕ) → nextIn ws ≡ u → Means zs (t + 2) (2 * nextIn ws + 1) (aReference made t u)
+    made-here zs u e = let f : t + 2 ≡ suc (suc t) = omega arith in rw (f, e) (madeSymbol refl)
+
+    ref-yields : (v : Symbolic) (p : Path) → Means ws t q v → PathIn ws p → Yields left (Gave (t + 2) (2 * nextIn ws + 1)) (unaryExec n refOp v p)
+    unfolding unaryExec
+    ref-yields v p m h =
+        rw (means-type m, le-leb (suc (suc t)) 31 (omega arith))
+        (ending (made-here left (p .next) (h .next))
+        (written-path numbered (t + 2) (2 * nextIn ws + 1) t q ref-lent ref-few ref-rows (taken p) (fresh .path p h) (made-here numbered (p .next) (h .next))
+        (means-kept (fresh .ruled .went .grown) m)))
+
+    pub ref-made : {zs : List ℕ} → zs ≡ left → One (unaryForm refOp) n t q ws (Gave (t + 2) (2 * nextIn ws + 1)) zs
+    unfolding oneExec
+    ref-made e =
+        rw e
+        (record {
+          ruled = ruled-then (fresh .ruled .depth) (fresh .ruled .notes)
+              (written-ruled numbered (t + 2) (2 * nextIn ws + 1) t q ref-lent ref-few ref-rows) ref-went;
+          yields = ref-yields;
+        })
+
+-- ---- what is found, and fresh symbols
+
+nothing-found : {u i : ℕ} → Nothing ≡ Value u i → ⊥
+nothing-found e = let z : _≡_ {A = ℕ} 0 1 = cc in omega arith
+
+found-type : {u i w j : ℕ} → Value w j ≡ Value u i → w ≡ u
+found-type e = cc
+
+found-place : {u i w j : ℕ} → Value w j ≡ Value u i → j ≡ i
+found-place e = cc
+
+fresh-yields : {ws left : List ℕ} {i : ℕ} (t c : ℕ) → t ≡ c → Fresh t ws i left → {p : Path} → PathIn ws p
+    → Yields left (Gave t i) (ends (symbol c (p .next)) (taken p))
+fresh-yields t c e x {p} h = rw (sym e) (ending (rw (h .next) at (x .means (h .distinct))) (x .path p h))
+
+-- ---- `get`
+
+get-refused : (n : ℕ) {ws : List ℕ} {v : Symbolic} (p : Path) → NoReference v → Yields ws (Stopped (WrongType n)) (unaryExec n getOp v p)
+unfolding unaryExec
+get-refused n p a-word = stopping
+get-refused n p a-truth = stopping
+
+get-inconsistent : (n : ℕ) {ws : List ℕ} {t : ℕ} {v : Symbolic} (p : Path) → consistent p ≡ false → Refers t v
+    → Yields ws (Stopped (InconsistentLog n)) (unaryExec n getOp v p)
+unfolding unaryExec
+get-inconsistent n p e refers = rw e stopping
+
+-- what is found is the value
+get-found : (n q : ℕ) {ws : List ℕ} {t u i : ℕ} {v : Symbolic} {f : Found} (p : Path) → consistent p ≡ true → PathIn ws p → Refers t v → Means ws t q v
+    → lookupOn ws (startIn ws) q (writesIn ws - startIn ws) ≡ f → f ≡ Value u i → Yields ws (Gave u i) (unaryExec n getOp v p)
+unfolding unaryExec
+get-found n q {ws} {u = u} {i = i} p e h (refers {o = o} {c = c} {s = s}) m d z =
+    rw e (go (lookupOn ws (startIn ws) q (writesIn ws - startIn ws)) (lookup o s (p .log)) (lookup-is (h .log) m) (d ∙ z))
+  where
+    go : (f : Found) (r : Option Symbolic) → FoundAs ws f r → f ≡ Value u i → Yields ws (Gave u i) (got r c p)
+    go Nothing none found-none y = absurd (nothing-found y)
+    go (Value w j) (some x) (found-some k) y = rw (sym (found-type y), sym (found-place y)) (ending k h)
+
+-- nothing is found: a fresh symbol
+get-nothing : (n q : ℕ) {ws left : List ℕ} {t i : ℕ} {v : Symbolic} {f : Found} (p : Path) → consistent p ≡ true → PathIn ws p → Refers t v → Means ws t q v
+    → lookupOn ws (startIn ws) q (writesIn ws - startIn ws) ≡ f → f ≡ Nothing → Fresh (t - 2) ws i left → Yields left (Gave (t - 2) i) (unaryExec n getOp v p)
+unfolding unaryExec
+get-nothing n q {ws} {left} {i = i} p e h (refers {o = o} {c = c} {s = s}) m d z x =
+    rw e (go (lookupOn ws (startIn ws) q (writesIn ws - startIn ws)) (lookup o s (p .log)) (lookup-is (h .log) m) (d ∙ z))
+  where
+    go : (f : Found) (r : Option Symbolic) → FoundAs ws f r → f ≡ Nothing → Yields left (Gave (suc (suc c) - 2) i) (got r c p)
+    go Nothing none found-none y =
+        let k : suc (suc c) - 2 ≡ c = omega arith in
+        fresh-yields (suc (suc c) - 2) c k x h
+    go (Value w j) (some y) (found-some k) b = absurd (nothing-found (sym b))
+
+module _ (n t q : ℕ) {ws : List ℕ} where
+  pub get-wrong : t < 2 → One (unaryForm getOp) n t q ws (Stopped (WrongType n)) ws
+  unfolding oneExec
+  get-wrong l = record { ruled = ruled-refl ws; yields = λ v p m h. get-refused n p (no-reference l m) }
+
+  module _ (l : 2 ≤ t) {b : Bool} (e : b ≡ consistentOn ws (startIn ws) 0 (writesIn ws - startIn ws)) where
+    log-is : {p : Path} {c : Bool} → PathIn ws p → b ≡ c → consistent p ≡ c
+    log-is h z = sym (consistent-is (h .log)) ∙ sym e ∙ z
+
+    pub get-stopped : b ≡ false → One (unaryForm getOp) n t q ws (Stopped (InconsistentLog n)) ws
+    unfolding oneExec
+    get-stopped z = record { ruled = ruled-refl ws; yields = λ v p m h. get-inconsistent n p (log-is h z) (refer l m) }
+
+    module _ (z : b ≡ true) {f : Found} (d : f ≡ lookupOn ws (startIn ws) q (writesIn ws - startIn ws)) where
+      pub get-value : {u i : ℕ} → f ≡ Value u i → One (unaryForm getOp) n t q ws (Gave u i) ws
+      unfolding oneExec
+      get-value y = record { ruled = ruled-refl ws; yields = λ v p m h. get-found n q p (log-is h z) h (refer l m) m (sym d) y }
+
+      pub get-fresh : f ≡ Nothing → {i : ℕ} {left : List ℕ} → Fresh (t - 2) ws i left → One (unaryForm getOp) n t q ws (Gave (t - 2) i) left
+      unfolding oneExec
+      get-fresh y x = record { ruled = x .ruled; yields = λ v p m h. get-nothing n q p (log-is h z) h (refer l m) m (sym d) y x }
+
+-- ---- after a typed block
+
+module _ (n t : ℕ) {ws : List ℕ} {b : Bool} (e : b ≡ consistentOn ws (startIn ws) 0 (writesIn ws - startIn ws)) where
+  pub block-stopped : b ≡ false → After n t ws (Stopped (InconsistentLog n)) ws
+  unfolding typedResult
+  block-stopped z =
+      record {
+        ruled = ruled-refl ws;
+        yields = λ p h. rw (sym (consistent-is (h .log)) ∙ sym e ∙ z) stopping;
+      }
+
+  -- no write counts any more
+  module _ (x : Room ws 1) where
+    abbrev emptied : List ℕ
+    emptied = set ws 727 (writesIn ws)
+
+    emptied-other : (k : ℕ) → (k ≡ 727 → ⊥) → getD emptied k 0 ≡ getD ws k 0
+    emptied-other k d = getD-set-other ws 727 k (writesIn ws) 0 d
+
+    emptied-writes : writesIn emptied ≡ writesIn ws
+    emptied-writes = emptied-other 726 λ e. omega arith
+
+    emptied-start : startIn emptied ≡ writesIn ws
+    emptied-start = getD-set-same ws 727 (writesIn ws) 0 (omega (arith, x .lent))
+
+    emptied-grown : Grown ws emptied
+    emptied-grown =
+        let c = emptied-other 288 (λ e. omega arith) in
+        record { grows = omega arith; rows = λ k h l. emptied-other k λ z. omega (arith, l, x .rows) }
+
+    emptied-path : {p : Path} → PathIn ws p → PathIn emptied (forget p)
+    emptied-path h =
+        let k = emptied-other 288 (λ e. omega arith) in
+        path-moved emptied-grown (still-distinct emptied-grown (omega (arith, k)) (h .distinct)) (emptied-other 725 (λ e. omega arith))
+        (emptied-other 724 (λ e. omega arith) ∙ h .next) (rw (emptied-writes, emptied-start) noWrite)
+        (still-known (λ j l. emptied-other j λ e. omega arith) emptied-grown (h .remembers)) h
+
+    emptied-went : Went ws emptied 144 0
+    emptied-went =
+        record {
+          same = length-set ws 727 (writesIn ws);
+          before = λ k l. emptied-other k λ z. omega arith;
+          grown = emptied-grown;
+          rows = omega (arith, emptied-other 288 (λ e. omega arith));
+          symbols = omega (arith, emptied-other 724 (λ e. omega arith));
+          writes = omega (arith, emptied-writes);
+          logged = omega (arith, emptied-writes);
+          log = λ k l h. emptied-other k λ z. omega arith;
+        }
+
+    pub emptied-room : Room emptied 1
+    emptied-room = room-on x emptied-went
+
+    pub block-made : b ≡ true → {i : ℕ} {left : List ℕ} → Fresh t emptied i left → After n t ws (Gave t i) left
+    unfolding typedResult
+    block-made z y =
+        record {
+          ruled = ruled-then (emptied-other 728 λ e. omega arith) (record { each = λ k l h. emptied-other k λ z. omega arith }) (y .ruled)
+              (went-trans (omega arith) emptied-went (y .ruled .went));
+          yields = λ p h. rw (sym (consistent-is (h .log)) ∙ sym e ∙ z) (fresh-yields t t refl y (emptied-path h));
+        }

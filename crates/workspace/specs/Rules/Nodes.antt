@@ -1,0 +1,358 @@
+-- Node n of a table whose nodes up to n are well formed, as the code takes it apart: its rules are those of a leaf, of a block, of one operand, or of its
+-- first operand and then what is left of it; its operands are earlier, and its tree has room for theirs. Assumes nothing.
+use mathlib.Core.Bool.{false}
+use mathlib.Core.List.{List, [], _∷_, _++_, map}
+use mathlib.Core.Path.{_≡_, refl, sym, ap, _∙_}
+use Prim.Native.Nat.{ℕ, suc, _+_, _≤_, _<_}
+use native.Mathlib.Omega.{arith}
+use lib.Dec.{eqb}
+use lib.ListN.{length}
+use borrow.Author.Tests.{eqb-false}
+use Rattle.script.specs.Code.Forms.{formOf, form-is, form-operands, form-plain, plain-but, plain-all, nodeIn, treeIn, viewed}
+use Rattle.script.specs.Flat.{FormedNodes, nodesIn}
+use Rattle.script.specs.Rows.{Form, intForm, varForm, ifForm, letForm, typedForm, symForm, truthForm, unaryForm, binaryForm, BinaryOp, rows, rowOf, takesOf, operandCount, nodeOperands}
+use Rattle.script.specs.Tree.{Expr, size}
+use Rattle.script.specs.Tree.Laws.{Unrolled, is-int, is-truth, is-var, is-unary, is-binary, is-if, is-let, is-typed, is-sym}
+use Rattle.script.specs.declared.Checked.{Checked}
+use Rattle.script.specs.declared.Checked.the-variants.{Accepted, Refused}
+use Rattle.rules.specs.Checking.{check, exec}
+use Rattle.rules.specs.Checking.Mentions.{then-same, bind-same}
+use Rattle.rules.specs.Paths.{Path, Paths, ends, stops, forks, bind, start, leaves}
+use Rattle.rules.specs.Symbolic.{Symbolic, typeOf, symbols}
+use Rattle.rules.specs.SymbolicRules.{unaryExec, binaryExec, decide, typedResult, verdict}
+use Rattle.rules.specs.TypedRules.{andThen, unaryType, binaryType, ifType}
+use Rattle.workspace.specs.Rules.{leafType, oneType, twoType, boundOn, restType, leafExec, oneExec, twoExec, restExec, restSizeOn, restSize}
+
+-- ---- going on with what there is
+
+pub then-accepted : (c : Checked) (k : ℕ → Checked) → ((t : ℕ) → k t ≡ Accepted t) → c ≡ andThen c k
+then-accepted (Accepted t) k h = sym (h t)
+then-accepted (Refused r) k h = refl
+
+pub bind-ends : (t : Paths) (k : Symbolic → Path → Paths) → ((v : Symbolic) (p : Path) → k v p ≡ ends v p) → t ≡ bind t k
+unfolding bind
+bind-ends (ends v p) k h = sym (h v p)
+bind-ends (stops r) k h = refl
+bind-ends (forks t u) k h = rw (sym (bind-ends t k h), sym (bind-ends u k h))
+
+-- ---- the kinds of blocks and of `if`
+
+unfoldable pub blockForm : Form → ℕ
+blockForm intForm = 0
+blockForm varForm = 0
+blockForm ifForm = 1
+blockForm letForm = 0
+blockForm typedForm = 2
+blockForm symForm = 3
+blockForm (truthForm b) = 0
+blockForm (unaryForm o) = 0
+blockForm (binaryForm o) = 0
+
+-- of all kinds only 8, 13 and 14 have them
+pub not-if : (k : ℕ) → (k ≡ 8 → ⊥) → eqb (blockForm (formOf k)) 1 ≡ false
+unfolding blockForm rows
+not-if k d = form-plain (λ f. eqb (blockForm f) 1) k (plain-but 8 _ _ k d λ j e. plain-all 6 j)
+
+not-typed : (k : ℕ) → (k ≡ 13 → ⊥) → eqb (blockForm (formOf k)) 2 ≡ false
+unfolding blockForm rows
+not-typed k d = form-plain (λ f. eqb (blockForm f) 2) k (plain-but 13 _ _ k d λ j e. plain-all 1 j)
+
+not-sym : (k : ℕ) → (k ≡ 14 → ⊥) → eqb (blockForm (formOf k)) 3 ≡ false
+unfolding blockForm rows
+not-sym k d = form-plain (λ f. eqb (blockForm f) 3) k (plain-but 14 _ _ k d λ j e. plain-all 0 j)
+
+pub if-form : (k : ℕ) → k ≡ 8 → formOf k ≡ ifForm
+unfolding formOf rowOf rows
+if-form k e = rw e
+
+pub let-form : (k : ℕ) → k ≡ 9 → formOf k ≡ letForm
+unfolding formOf rowOf rows
+let-form k e = rw e
+
+typed-form : (k : ℕ) → k ≡ 13 → formOf k ≡ typedForm
+unfolding formOf rowOf rows
+typed-form k e = rw e
+
+sym-form : (k : ℕ) → k ≡ 14 → formOf k ≡ symForm
+unfolding formOf rowOf rows
+sym-form k e = rw e
+
+-- a form of another block
+other-block : {f g : Form} (b c : ℕ) → f ≡ g → blockForm f ≡ b → blockForm g ≡ c → (b ≡ c → ⊥) → ⊥
+other-block b c e p q d = d (sym p ∙ ap blockForm e ∙ q)
+
+-- ---- node n of the table
+
+module _ (limit : ℕ) (xs : List ℕ) (n : ℕ) where
+  abbrev form : Form
+  form = formOf (nodeIn xs n .kind)
+
+  abbrev count : ℕ
+  count = nodeOperands (nodeIn xs n .kind)
+
+  abbrev first : Expr
+  first = treeIn xs (nodeIn xs n .a)
+
+  abbrev second : Expr
+  second = treeIn xs (nodeIn xs n .b)
+
+  abbrev third : Expr
+  third = treeIn xs (nodeIn xs n .c)
+
+  -- the first operand is earlier, and its tree smaller
+  pub record First (t : Expr) : Type 0 where
+    pub earlier : nodeIn xs n .a < n
+    pub smaller : suc (size (treeIn xs (nodeIn xs n .a))) ≤ size t
+
+  -- what the other operands take
+  pub record Rest (t : Expr) : Type 0 where
+    pub earlier : nodeIn xs n .b < n
+    pub fits : size (treeIn xs (nodeIn xs n .a)) + restSize xs n ≤ size t
+    pub second-fits : suc (size (treeIn xs (nodeIn xs n .b))) ≤ restSize xs n
+
+  -- the branches of an `if`
+  pub record Branches : Type 0 where
+    pub earlier : nodeIn xs n .c < n
+    pub fits : suc (size (treeIn xs (nodeIn xs n .b)) + size (treeIn xs (nodeIn xs n .c))) ≤ restSize xs n
+
+  -- the forms with more operands
+  pub data Several : Type 0 where
+    several-if : form ≡ ifForm → Branches → Several
+    several-let : form ≡ letForm → Several
+    several-binary : {o : BinaryOp} → form ≡ binaryForm o → Several
+
+  -- by its operands that are nodes: none, one of a block or of an operator, or more
+  pub data Shaped (t : Expr) : Type 0 where
+    no-operand : count ≡ 0 → ((env : List ℕ) → check limit t env ≡ leafType form n (nodeIn xs n .a) env)
+        → ((env : List Symbolic) (p : Path) → exec limit t env p ≡ leafExec form n (nodeIn xs n .a) env p) → Shaped t
+    of-typed : form ≡ typedForm → count ≡ 1 → First t → ((env : List ℕ) → check limit t env ≡ check limit first env)
+        → ((env : List Symbolic) (p : Path) → exec limit t env p ≡ typedResult n p (check limit first (map typeOf env))) → Shaped t
+    of-sym : form ≡ symForm → count ≡ 1 → First t
+        → ((env : List ℕ) → check limit t env ≡ verdict n limit (leaves (exec limit first (symbols 0 env) (start (length env)))))
+        → ((env : List Symbolic) (p : Path) → exec limit t env p ≡ exec limit first env p) → Shaped t
+    one-operand : blockForm form ≡ 0 → count ≡ 1 → First t → ((env : List ℕ) → check limit t env ≡ andThen (check limit first env) (oneType form n))
+        → ((env : List Symbolic) (p : Path) → exec limit t env p ≡ bind (exec limit first env p) (oneExec form n)) → Shaped t
+    more-operands : 2 ≤ count → First t → Rest t → Several
+        → ((env : List ℕ) → check limit t env ≡ andThen (check limit first env) (λ u. restType form limit n second third u env))
+        → ((env : List Symbolic) (p : Path) → exec limit t env p ≡ bind (exec limit first env p) (λ v q. restExec form limit n second third v env q)) → Shaped t
+
+  module _ {f : Form} (q : form ≡ f) where
+    rest-size : restSize xs n ≡ restSizeOn f (size second) (size third)
+    rest-size = ap (λ (g : Form). restSizeOn g (size second) (size third)) q
+
+    rest-type : (env : List ℕ) (k : ℕ → Checked) → ((u : ℕ) → k u ≡ restType f limit n second third u env)
+        → andThen (check limit first env) k ≡ andThen (check limit first env) (λ u. restType form limit n second third u env)
+    rest-type env k h =
+        then-same (check limit first env) k (λ u. restType form limit n second third u env)
+        λ u. h u ∙ ap (λ (g : Form). restType g limit n second third u env) (sym q)
+
+    rest-exec : (env : List Symbolic) (p : Path) (k : Symbolic → Path → Paths) → ((v : Symbolic) (r : Path) → k v r ≡ restExec f limit n second third v env r)
+        → bind (exec limit first env p) k ≡ bind (exec limit first env p) (λ v r. restExec form limit n second third v env r)
+    rest-exec env p k h =
+        bind-same (exec limit first env p) k (λ v r. restExec form limit n second third v env r)
+        λ v r. h v r ∙ ap (λ (g : Form). restExec g limit n second third v env r) (sym q)
+
+  shape-of : {t : Expr} → Unrolled (nodesIn xs) n t → Shaped t
+  unfolding check exec size treeIn leafType oneType leafExec oneExec restType restExec restSizeOn blockForm
+  shape-of (is-int e q a) =
+      let p = form-is _ e q in
+      no-operand (form-operands _ e q) (λ env. sym (ap (λ (g : Form). leafType g n (nodeIn xs n .a) env) p))
+      λ env r. sym (ap (λ (g : Form). leafExec g n (nodeIn xs n .a) env r) p)
+  shape-of (is-truth e q) =
+      let p = form-is _ e q in
+      no-operand (form-operands _ e q) (λ env. sym (ap (λ (g : Form). leafType g n (nodeIn xs n .a) env) p))
+      λ env r. sym (ap (λ (g : Form). leafExec g n (nodeIn xs n .a) env r) p)
+  shape-of (is-var e q a) =
+      let p = form-is _ e q in
+      no-operand (form-operands _ e q) (λ env. sym (ap (λ (g : Form). leafType g n (nodeIn xs n .a) env) p))
+      λ env r. sym (ap (λ (g : Form). leafExec g n (nodeIn xs n .a) env r) p)
+  shape-of (is-unary {o = o} e q a) =
+      let p = form-is _ e q in
+      one-operand (ap blockForm p) (form-operands _ e q) (record { earlier = a; smaller = omega arith })
+      (λ env. then-same (check limit first env) (unaryType n o) (oneType form n) λ t. sym (ap (λ (g : Form). oneType g n t) p))
+      λ env r. bind-same (exec limit first env r) (unaryExec n o) (oneExec form n) λ v s. sym (ap (λ (g : Form). oneExec g n v s) p)
+  shape-of (is-binary {o = o} e q a b) =
+      let p = form-is _ e q in
+      let c = form-operands _ e q in
+      let s = rest-size p in
+      more-operands (omega arith) (record { earlier = a; smaller = omega arith })
+      (record { earlier = b; fits = omega arith; second-fits = omega arith })
+      (several-binary p)
+      (λ env. rest-type p env (λ t. andThen (check limit second env) (binaryType n o t)) λ t. refl)
+      λ env r. rest-exec p env r (λ v p₁. bind (exec limit second env p₁) (binaryExec n o v)) λ v p₁. refl
+  shape-of (is-if e q a b c) =
+      let p = form-is _ e q in
+      let k = form-operands _ e q in
+      let s = rest-size p in
+      more-operands (omega arith) (record { earlier = a; smaller = omega arith })
+      (record { earlier = b; fits = omega arith; second-fits = omega arith })
+      (several-if p (record { earlier = c; fits = omega arith }))
+      (λ env. rest-type p env (λ t. andThen (check limit second env) λ u. andThen (check limit third env) (ifType n t u)) λ t. refl)
+      λ env r. rest-exec p env r (λ v p₁. decide n v p₁ (exec limit second env) (exec limit third env)) λ v p₁. refl
+  shape-of (is-let e q a b) =
+      let p = form-is _ e q in
+      let c = form-operands _ e q in
+      let s = rest-size p in
+      more-operands (omega arith) (record { earlier = a; smaller = omega arith })
+      (record { earlier = b; fits = omega arith; second-fits = omega arith })
+      (several-let p)
+      (λ env. rest-type p env (λ t. check limit second (env ++ (t ∷ []))) λ t. refl)
+      λ env r. rest-exec p env r (λ v p₁. exec limit second (env ++ (v ∷ [])) p₁) λ v p₁. refl
+  shape-of (is-typed e q a) =
+      of-typed (form-is _ e q) (form-operands _ e q) (record { earlier = a; smaller = omega arith }) (λ env. refl) λ env r. refl
+  shape-of (is-sym e q a) =
+      of-sym (form-is _ e q) (form-operands _ e q) (record { earlier = a; smaller = omega arith }) (λ env. refl) λ env r. refl
+
+-- ---- what the code asks of it
+
+pub shaped : (limit : ℕ) {xs : List ℕ} {n : ℕ} → FormedNodes xs (suc n) → Shaped limit xs n (treeIn xs n)
+shaped limit {xs} {n} w = shape-of limit xs n (viewed w)
+
+eqb-not : (b c : ℕ) → b ≡ c → eqb b c ≡ false → ⊥
+eqb-not b c e f = eqb-false b c f e
+
+module _ {limit : ℕ} {xs : List ℕ} {n : ℕ} {t : Expr} where
+  pub first-of : Shaped limit xs n t → 1 ≤ nodeOperands (nodeIn xs n .kind) → First limit xs n t
+  first-of (no-operand z c e) h = absurd (omega arith)
+  first-of (of-typed q z f c e) h = f
+  first-of (of-sym q z f c e) h = f
+  first-of (one-operand q z f c e) h = f
+  first-of (more-operands z f r b c e) h = f
+
+  pub rest-of : Shaped limit xs n t → 2 ≤ nodeOperands (nodeIn xs n .kind) → Rest limit xs n t
+  rest-of (no-operand z c e) h = absurd (omega arith)
+  rest-of (of-typed q z f c e) h = absurd (omega arith)
+  rest-of (of-sym q z f c e) h = absurd (omega arith)
+  rest-of (one-operand q z f c e) h = absurd (omega arith)
+  rest-of (more-operands z f r b c e) h = r
+
+  pub several-of : Shaped limit xs n t → 2 ≤ nodeOperands (nodeIn xs n .kind) → Several limit xs n
+  several-of (no-operand z c e) h = absurd (omega arith)
+  several-of (of-typed q z f c e) h = absurd (omega arith)
+  several-of (of-sym q z f c e) h = absurd (omega arith)
+  several-of (one-operand q z f c e) h = absurd (omega arith)
+  several-of (more-operands z f r b c e) h = b
+
+  -- ---- typed mode
+
+  pub leaf-check : Shaped limit xs n t → nodeOperands (nodeIn xs n .kind) ≡ 0 → (env : List ℕ)
+      → check limit t env ≡ leafType (formOf (nodeIn xs n .kind)) n (nodeIn xs n .a) env
+  leaf-check (no-operand z c e) h env = c env
+  leaf-check (of-typed q z f c e) h env = absurd (omega arith)
+  leaf-check (of-sym q z f c e) h env = absurd (omega arith)
+  leaf-check (one-operand q z f c e) h env = absurd (omega arith)
+  leaf-check (more-operands z f r b c e) h env = absurd (omega arith)
+
+  pub sym-check : Shaped limit xs n t → nodeIn xs n .kind ≡ 14 → (env : List ℕ)
+      → check limit t env ≡ verdict n limit (leaves (exec limit (treeIn xs (nodeIn xs n .a)) (symbols 0 env) (start (length env))))
+  unfolding blockForm nodeOperands takesOf operandCount rowOf rows
+  sym-check (no-operand z c e) h env = absurd (let m : nodeOperands (nodeIn xs n .kind) ≡ 1 = rw h in omega arith)
+  sym-check (of-typed q z f c e) h env = absurd (other-block 2 3 (sym q ∙ sym-form _ h) refl refl λ i. omega arith)
+  sym-check (of-sym q z f c e) h env = c env
+  sym-check (one-operand q z f c e) h env = absurd (let m = sym q ∙ ap blockForm (sym-form _ h) in omega arith)
+  sym-check (more-operands z f r b c e) h env = absurd (let m : nodeOperands (nodeIn xs n .kind) ≡ 1 = rw h in omega arith)
+
+  pub one-check : Shaped limit xs n t → nodeOperands (nodeIn xs n .kind) ≡ 1 → (nodeIn xs n .kind ≡ 14 → ⊥) → (env : List ℕ)
+      → check limit t env ≡ andThen (check limit (treeIn xs (nodeIn xs n .a)) env) (oneType (formOf (nodeIn xs n .kind)) n)
+  unfolding blockForm oneType
+  one-check (no-operand z c e) h d env = absurd (omega arith)
+  one-check (of-typed q z f c e) h d env = c env ∙ then-accepted _ (oneType (formOf (nodeIn xs n .kind)) n) λ u. ap (λ (g : Form). oneType g n u) q
+  one-check (of-sym q z f c e) h d env = absurd (eqb-not _ 3 (ap blockForm q) (not-sym _ d))
+  one-check (one-operand q z f c e) h d env = c env
+  one-check (more-operands z f r b c e) h d env = absurd (omega arith)
+
+  pub rest-check : Shaped limit xs n t → 2 ≤ nodeOperands (nodeIn xs n .kind) → (env : List ℕ)
+      → check limit t env
+      ≡ andThen (check limit (treeIn xs (nodeIn xs n .a)) env)
+      (λ u. restType (formOf (nodeIn xs n .kind)) limit n (treeIn xs (nodeIn xs n .b)) (treeIn xs (nodeIn xs n .c)) u env)
+  rest-check (no-operand z c e) h env = absurd (omega arith)
+  rest-check (of-typed q z f c e) h env = absurd (omega arith)
+  rest-check (of-sym q z f c e) h env = absurd (omega arith)
+  rest-check (one-operand q z f c e) h env = absurd (omega arith)
+  rest-check (more-operands z f r b c e) h env = c env
+
+  -- ---- symbolic mode
+
+  pub leaf-exec : Shaped limit xs n t → nodeOperands (nodeIn xs n .kind) ≡ 0 → (env : List Symbolic) (p : Path)
+      → exec limit t env p ≡ leafExec (formOf (nodeIn xs n .kind)) n (nodeIn xs n .a) env p
+  leaf-exec (no-operand z c e) h env p = e env p
+  leaf-exec (of-typed q z f c e) h env p = absurd (omega arith)
+  leaf-exec (of-sym q z f c e) h env p = absurd (omega arith)
+  leaf-exec (one-operand q z f c e) h env p = absurd (omega arith)
+  leaf-exec (more-operands z f r b c e) h env p = absurd (omega arith)
+
+  pub typed-exec : Shaped limit xs n t → nodeIn xs n .kind ≡ 13 → (env : List Symbolic) (p : Path)
+      → exec limit t env p ≡ typedResult n p (check limit (treeIn xs (nodeIn xs n .a)) (map typeOf env))
+  unfolding blockForm nodeOperands takesOf operandCount rowOf rows
+  typed-exec (no-operand z c e) h env p = absurd (let m : nodeOperands (nodeIn xs n .kind) ≡ 1 = rw h in omega arith)
+  typed-exec (of-typed q z f c e) h env p = e env p
+  typed-exec (of-sym q z f c e) h env p = absurd (other-block 3 2 (sym q ∙ typed-form _ h) refl refl λ i. omega arith)
+  typed-exec (one-operand q z f c e) h env p = absurd (let m = sym q ∙ ap blockForm (typed-form _ h) in omega arith)
+  typed-exec (more-operands z f r b c e) h env p = absurd (let m : nodeOperands (nodeIn xs n .kind) ≡ 1 = rw h in omega arith)
+
+  pub one-exec : Shaped limit xs n t → nodeOperands (nodeIn xs n .kind) ≡ 1 → (nodeIn xs n .kind ≡ 13 → ⊥) → (env : List Symbolic) (p : Path)
+      → exec limit t env p ≡ bind (exec limit (treeIn xs (nodeIn xs n .a)) env p) (oneExec (formOf (nodeIn xs n .kind)) n)
+  unfolding blockForm oneExec
+  one-exec (no-operand z c e) h d env p = absurd (omega arith)
+  one-exec (of-typed q z f c e) h d env p = absurd (eqb-not _ 2 (ap blockForm q) (not-typed _ d))
+  one-exec (of-sym q z f c e) h d env p = e env p ∙ bind-ends _ (oneExec (formOf (nodeIn xs n .kind)) n) λ v r. ap (λ (g : Form). oneExec g n v r) q
+  one-exec (one-operand q z f c e) h d env p = e env p
+  one-exec (more-operands z f r b c e) h d env p = absurd (omega arith)
+
+  pub rest-exec-of : Shaped limit xs n t → 2 ≤ nodeOperands (nodeIn xs n .kind) → (env : List Symbolic) (p : Path)
+      → exec limit t env p
+      ≡ bind (exec limit (treeIn xs (nodeIn xs n .a)) env p)
+      (λ v q. restExec (formOf (nodeIn xs n .kind)) limit n (treeIn xs (nodeIn xs n .b)) (treeIn xs (nodeIn xs n .c)) v env q)
+  rest-exec-of (no-operand z c e) h env p = absurd (omega arith)
+  rest-exec-of (of-typed q z f c e) h env p = absurd (omega arith)
+  rest-exec-of (of-sym q z f c e) h env p = absurd (omega arith)
+  rest-exec-of (one-operand q z f c e) h env p = absurd (omega arith)
+  rest-exec-of (more-operands z f r b c e) h env p = e env p
+
+-- ---- an `if`, after its condition
+
+module _ (k : ℕ) (h : k ≡ 8) where
+  pub if-rest-check : (limit n : ℕ) (e f : Expr) (t : ℕ) (env : List ℕ)
+      → restType (formOf k) limit n e f t env ≡ andThen (check limit e env) λ u. andThen (check limit f env) (ifType n t u)
+  unfolding restType
+  if-rest-check limit n e f t env = ap (λ (g : Form). restType g limit n e f t env) (if-form k h)
+
+  pub if-rest-exec : (limit n : ℕ) (e f : Expr) (v : Symbolic) (env : List Symbolic) (p : Path)
+      → restExec (formOf k) limit n e f v env p ≡ decide n v p (exec limit e env) (exec limit f env)
+  unfolding restExec
+  if-rest-exec limit n e f v env p = ap (λ (g : Form). restExec g limit n e f v env p) (if-form k h)
+
+  pub if-bound : {A : Type 0} (v : A) (env : List A) → boundOn (formOf k) v env ≡ env
+  unfolding boundOn
+  if-bound v env = ap (λ (g : Form). boundOn g v env) (if-form k h)
+
+  pub if-two : (n : ℕ) (v w : Symbolic) (p : Path) → twoExec (formOf k) n v w p ≡ ends w p
+  unfolding twoExec
+  if-two n v w p = ap (λ (g : Form). twoExec g n v w p) (if-form k h)
+
+-- ---- after the first of several operands
+
+module _ {limit : ℕ} {xs : List ℕ} {n : ℕ} where
+  pub branches-of : Several limit xs n → nodeIn xs n .kind ≡ 8 → Branches limit xs n
+  unfolding blockForm
+  branches-of (several-if q b) h = b
+  branches-of (several-let q) h = absurd (other-block 0 1 (sym q ∙ if-form _ h) refl refl λ i. omega arith)
+  branches-of (several-binary q) h = absurd (other-block 0 1 (sym q ∙ if-form _ h) refl refl λ i. omega arith)
+
+  -- another form
+  module _ (d : nodeIn xs n .kind ≡ 8 → ⊥) where
+    pub two-rest-check : Several limit xs n → (e f : Expr) (t : ℕ) (env : List ℕ)
+        → restType (formOf (nodeIn xs n .kind)) limit n e f t env
+        ≡ andThen (check limit e (boundOn (formOf (nodeIn xs n .kind)) t env)) (twoType (formOf (nodeIn xs n .kind)) n t)
+    unfolding restType boundOn twoType blockForm
+    two-rest-check (several-if q b) e f t env = absurd (eqb-not _ 1 (ap blockForm q) (not-if _ d))
+    two-rest-check (several-let q) e f t env = rw q (then-accepted _ Accepted λ u. refl)
+    two-rest-check (several-binary q) e f t env = rw q
+
+    pub two-rest-exec : Several limit xs n → (e f : Expr) (v : Symbolic) (env : List Symbolic) (p : Path)
+        → restExec (formOf (nodeIn xs n .kind)) limit n e f v env p
+        ≡ bind (exec limit e (boundOn (formOf (nodeIn xs n .kind)) v env) p) (twoExec (formOf (nodeIn xs n .kind)) n v)
+    unfolding restExec boundOn twoExec blockForm
+    two-rest-exec (several-if q b) e f v env p = absurd (eqb-not _ 1 (ap blockForm q) (not-if _ d))
+    two-rest-exec (several-let q) e f v env p = rw q (bind-ends _ ends λ w r. refl)
+    two-rest-exec (several-binary q) e f v env p = rw q

@@ -1,0 +1,318 @@
+-- The rules of operators on rows: what each makes, and where it refuses. Assumes nothing.
+use mathlib.Core.Bool.{true, false}
+use mathlib.Core.List.{List}
+use mathlib.Core.Path.{_≡_, refl, sym, ap, _∙_}
+use Prim.Native.Nat.{ℕ, suc, _+_, _*_, _≤_, _<_}
+use native.Mathlib.Omega.{arith}
+use lib.ListN.{length, getD}
+use borrow.Author.Tests.{eq-eqb, ne-eqb}
+use Rattle.script.specs.Code.Forms.{formOf, form-plain, plain-but, plain-all}
+use Rattle.script.specs.Rows.{varForm, unaryForm, binaryForm, rows, rowOf, notOp, addOp, eqOp, andOp}
+use Rattle.script.specs.declared.Refusal.the-variants.{WrongType, UnknownVariable}
+use Rattle.rules.specs.Paths.{Path, ends}
+use Rattle.rules.specs.Symbolic.{Sum, Formula, Origin, made, other, Symbolic, aWord, aTruth, aReference}
+use Rattle.rules.specs.SymbolicRules.{unaryExec, binaryExec, variable}
+use Rattle.terms.specs.Atoms.{placeOf, referencesRow, referencesLeft}
+use Rattle.terms.specs.Atoms.Laws.{references-length}
+use Rattle.terms.specs.Atoms.Made.{made-references}
+use Rattle.terms.specs.Terms.{countIn, Space, pushed, Distinct, Added, Made, MadeWord}
+use Rattle.terms.specs.Terms.Laws.{pushed-length, pushed-added, made-number, made-sum, made-constant, made-negation, made-conjunction, made-equality}
+use Rattle.terms.specs.Words.{Words, equalRow, equalLeft}
+use Rattle.terms.specs.Words.Laws.{equal-length, words-asked}
+use Rattle.terms.specs.Words.Made.{made-equal}
+use Rattle.workspace.specs.Paths.Conditions.{ruled-refl}
+use Rattle.workspace.specs.Rules.{leafExec, oneExec, twoExec, Ruled, Leaf, One, Two, Operable}
+use Rattle.workspace.specs.State.{Means, wordRow, truthRow, madeSymbol, otherSymbol, PathIn, Room, Yields, ending, stopping}
+use Rattle.workspace.specs.State.Laws.{path-added, variables-at, variables-length, none-at, room-space}
+use Rattle.workspace.specs.declared.Step.the-variants.{Gave, Stopped}
+
+-- ---- rows
+
+pub added-ruled : {ws left : List ℕ} → length left ≡ length ws → Added ws left 1 → Ruled ws left
+added-ruled l a =
+    let next = a .beyond 724 (omega arith) in
+    let writes = a .beyond 726 (omega arith) in
+    record {
+      went = record {
+        same = l;
+        before = λ k i. a .before k (omega arith);
+        grown = a .grown;
+        rows = omega (arith, a .most);
+        symbols = omega arith;
+        writes = omega arith;
+        logged = omega arith;
+        log = λ k i m. a .beyond k (omega arith);
+      };
+      depth = a .beyond 728 (omega arith);
+      notes = record { each = λ k i m. a .beyond k (omega arith) };
+    }
+
+pub truth-yields : {ws left : List ℕ} {r : ℕ} {f : Formula} {p : Path} → Made ws left r f → PathIn ws p → Yields left (Gave 1 r) (ends (aTruth f) p)
+truth-yields m h = ending (truthRow (m .inside) (m .is)) (path-added (m .added) (m .distinct) h)
+
+pub word-yields : {ws left : List ℕ} {r : ℕ} {s : Sum} {p : Path} → MadeWord ws left r s → PathIn ws p → Yields left (Gave 0 r) (ends (aWord s) p)
+word-yields m h = ending (wordRow (m .inside) (m .is)) (path-added (m .added) (m .distinct) h)
+
+pub pushed-ruled : {ws left : List ℕ} → Space ws 1 → (op a b : ℕ) → left ≡ pushed ws op a b → Ruled ws left
+pushed-ruled s op a b e = rw e (added-ruled (pushed-length s op a b) (pushed-added s op a b))
+
+-- ---- leaves
+
+module _ (n a depth : ℕ) {ws left : List ℕ} {r : ℕ} (q : Room ws 1) (er : r ≡ countIn ws) where
+  pub leaf-int : (k : ℕ) → k ≡ 0 → left ≡ pushed ws 0 a 0 → Leaf (formOf k) n a depth ws (Gave 0 r) left
+  unfolding leafExec formOf rowOf rows
+  leaf-int k z e =
+      record {
+        ruled = pushed-ruled (room-space q) 0 a 0 e;
+        yields = λ env p s. rw (z, er, e) (word-yields (made-number (room-space q) (s .path .distinct) a 0) (s .path));
+      }
+
+  pub leaf-true : (k : ℕ) → k ≡ 1 → left ≡ pushed ws 3 1 0 → Leaf (formOf k) n a depth ws (Gave 1 r) left
+  unfolding leafExec formOf rowOf rows
+  leaf-true k z e =
+      record {
+        ruled = pushed-ruled (room-space q) 3 1 0 e;
+        yields = λ env p s. rw (z, er, e) (truth-yields (made-constant (room-space q) (s .path .distinct) true 0) (s .path));
+      }
+
+  pub leaf-other : (k : ℕ) → (k ≡ 0 → ⊥) → (k ≡ 1 → ⊥) → (k ≡ 3 → ⊥) → left ≡ pushed ws 3 0 0 → Leaf (formOf k) n a depth ws (Gave 1 r) left
+  unfolding leafExec rows
+  leaf-other k d₀ d₁ d₃ e =
+      record {
+        ruled = pushed-ruled (room-space q) 3 0 0 e;
+        yields = λ env p s.
+            rw (
+              form-plain (λ f. leafExec f n a env p) k
+                  (plain-but 0 _ _ k d₀ λ i y. plain-but 0 _ _ i (λ z. d₁ (omega arith)) λ j g. plain-but 1 _ _ j (λ z. d₃ (omega arith)) λ l h. plain-all 11 l),
+              er,
+              e,
+            )
+            (truth-yields (made-constant (room-space q) (s .path .distinct) false 0) (s .path));
+      }
+
+module _ (n k depth : ℕ) (ws : List ℕ) where
+  pub variable-found : k < depth → Leaf varForm n k depth ws (Gave (getD ws (2 * k) 0) (getD ws (2 * k + 1) 0)) ws
+  unfolding leafExec variable
+  variable-found l =
+      record {
+        ruled = ruled-refl ws;
+        yields = λ env p s. let a = variables-at k l (s .variables) in rw (a .found) (ending (a .means) (s .path));
+      }
+
+  pub variable-unknown : depth ≤ k → Leaf varForm n k depth ws (Stopped (UnknownVariable n)) ws
+  unfolding leafExec variable
+  variable-unknown l =
+      record {
+        ruled = ruled-refl ws;
+        yields = λ env p s. let e = variables-length (s .variables) in rw (none-at env k (omega arith)) stopping;
+      }
+
+-- ---- one operand
+
+not-a-truth : (n : ℕ) {ws : List ℕ} {t q : ℕ} {v : Symbolic} (p : Path) → (t ≡ 1 → ⊥) → Means ws t q v → Yields ws (Stopped (WrongType n)) (unaryExec n notOp v p)
+unfolding unaryExec
+not-a-truth n p d (wordRow l r) = stopping
+not-a-truth n p d (truthRow l r) = absurd (d refl)
+not-a-truth n p d (madeSymbol e) = stopping
+not-a-truth n p d (otherSymbol e) = stopping
+
+a-truth : (n : ℕ) {ws left : List ℕ} {r q : ℕ} {v : Symbolic} {p : Path} → Space ws 1 → r ≡ countIn ws → left ≡ pushed ws 4 q 0 → PathIn ws p → Means ws 1 q v
+    → Yields left (Gave 1 r) (unaryExec n notOp v p)
+unfolding unaryExec
+a-truth n s er e h (truthRow l f) = rw (er, e) (truth-yields (made-negation s (h .distinct) 0 f l) h)
+
+module _ (n t q : ℕ) {ws : List ℕ} where
+  pub negation-wrong : (t ≡ 1 → ⊥) → One (unaryForm notOp) n t q ws (Stopped (WrongType n)) ws
+  unfolding oneExec
+  negation-wrong d = record { ruled = ruled-refl ws; yields = λ v p m h. not-a-truth n p d m }
+
+  pub negation-made : t ≡ 1 → Room ws 1 → {left : List ℕ} {r : ℕ} → r ≡ countIn ws → left ≡ pushed ws 4 q 0
+      → One (unaryForm notOp) n t q ws (Gave 1 r) left
+  unfolding oneExec
+  negation-made z s er e =
+      record {
+        ruled = pushed-ruled (room-space s) 4 q 0 e;
+        yields = λ v p m h. a-truth n (room-space s) er e h (rw z at m);
+      }
+
+-- ---- two operands
+
+no-word : (n : ℕ) {ws : List ℕ} {t q u s : ℕ} {v w : Symbolic} (p : Path) → (t ≡ 0 → u ≡ 0 → ⊥) → Means ws t q v → Means ws u s w
+    → Yields ws (Stopped (WrongType n)) (binaryExec n addOp v w p)
+unfolding binaryExec
+no-word n p d (wordRow l r) (wordRow k s) = absurd (d refl refl)
+no-word n p d (wordRow l r) (truthRow k s) = stopping
+no-word n p d (wordRow l r) (madeSymbol e) = stopping
+no-word n p d (wordRow l r) (otherSymbol e) = stopping
+no-word n p d (truthRow l r) m = stopping
+no-word n p d (madeSymbol e) m = stopping
+no-word n p d (otherSymbol e) m = stopping
+
+no-truth : (n : ℕ) {ws : List ℕ} {t q u s : ℕ} {v w : Symbolic} (p : Path) → (t ≡ 1 → u ≡ 1 → ⊥) → Means ws t q v → Means ws u s w
+    → Yields ws (Stopped (WrongType n)) (binaryExec n andOp v w p)
+unfolding binaryExec
+no-truth n p d (wordRow l r) m = stopping
+no-truth n p d (truthRow l r) (wordRow k s) = stopping
+no-truth n p d (truthRow l r) (truthRow k s) = absurd (d refl refl)
+no-truth n p d (truthRow l r) (madeSymbol e) = stopping
+no-truth n p d (truthRow l r) (otherSymbol e) = stopping
+no-truth n p d (madeSymbol e) m = stopping
+no-truth n p d (otherSymbol e) m = stopping
+
+two-words : (n : ℕ) {ws left : List ℕ} {r q s : ℕ} {v w : Symbolic} {p : Path} → Space ws 1 → r ≡ countIn ws → left ≡ pushed ws 2 q s → PathIn ws p
+    → Means ws 0 q v → Means ws 0 s w → Yields left (Gave 0 r) (binaryExec n addOp v w p)
+unfolding binaryExec
+two-words n x er e h (wordRow l f) (wordRow k g) = rw (er, e) (word-yields (made-sum x (h .distinct) f l g k) h)
+
+two-truths : (n : ℕ) {ws left : List ℕ} {r q s : ℕ} {v w : Symbolic} {p : Path} → Space ws 1 → r ≡ countIn ws → left ≡ pushed ws 5 q s → PathIn ws p
+    → Means ws 1 q v → Means ws 1 s w → Yields left (Gave 1 r) (binaryExec n andOp v w p)
+unfolding binaryExec
+two-truths n x er e h (truthRow l f) (truthRow k g) = rw (er, e) (truth-yields (made-conjunction x (h .distinct) f l g k) h)
+
+same-truths : (n : ℕ) {ws left : List ℕ} {r q s : ℕ} {v w : Symbolic} {p : Path} → Space ws 1 → r ≡ countIn ws → left ≡ pushed ws 6 q s → PathIn ws p
+    → Means ws 1 q v → Means ws 1 s w → Yields left (Gave 1 r) (binaryExec n eqOp v w p)
+unfolding binaryExec
+same-truths n x er e h (truthRow l f) (truthRow k g) = rw (er, e) (truth-yields (made-equality x (h .distinct) f l g k) h)
+
+same-words : (n : ℕ) {ws left : List ℕ} {r q s : ℕ} {v w : Symbolic} {p : Path} → Space ws 1 → r ≡ equalRow ws q s → left ≡ equalLeft ws q s → PathIn ws p
+    → Means ws 0 q v → Means ws 0 s w → Yields left (Gave 1 r) (binaryExec n eqOp v w p)
+unfolding binaryExec
+same-words n x er e h (wordRow l f) (wordRow k g) = truth-yields (made-equal x (h .distinct) f g l k _ _ er e) h
+
+-- where a reference's place is
+data PlaceOf : ℕ → ℕ → Symbolic → Type 0 where
+  is-place : {t s i : ℕ} {o : Origin} → i ≡ placeOf o s → PlaceOf (suc (suc t)) i (aReference o t s)
+
+place-of : {ws : List ℕ} {t i : ℕ} {v : Symbolic} → 2 ≤ t → Means ws t i v → PlaceOf t i v
+place-of h (wordRow l r) = absurd (omega arith)
+place-of h (truthRow l r) = absurd (omega arith)
+place-of h (madeSymbol {s = s} e) = is-place {o = made} e
+place-of h (otherSymbol {s = s} e) = is-place {o = other} e
+
+same-references : (n : ℕ) {ws left : List ℕ} {t r q s : ℕ} {v w : Symbolic} {p : Path} → Space ws 1 → r ≡ referencesRow ws q s → left ≡ referencesLeft ws q s
+    → PathIn ws p → PlaceOf t q v → PlaceOf t s w → Yields left (Gave 1 r) (binaryExec n eqOp v w p)
+unfolding binaryExec
+same-references n {t = t} x er e h (is-place {t = c} {s = a} {o = o} f) (is-place {s = b} {o = u} g) =
+    rw (eq-eqb c c refl) (truth-yields (made-references x (h .distinct) o a u b _ _ (rw (f, g) at er) (rw (f, g) at e)) h)
+
+other-types : (n : ℕ) {ws : List ℕ} {t q u s : ℕ} {v w : Symbolic} (p : Path) → (t ≡ u → ⊥) → Means ws t q v → Means ws u s w
+    → Yields ws (Stopped (WrongType n)) (binaryExec n eqOp v w p)
+unfolding binaryExec
+other-types n p d (wordRow l r) (wordRow k s) = absurd (d refl)
+other-types n p d (wordRow l r) (truthRow k s) = stopping
+other-types n p d (wordRow l r) (madeSymbol e) = stopping
+other-types n p d (wordRow l r) (otherSymbol e) = stopping
+other-types n p d (truthRow l r) (wordRow k s) = stopping
+other-types n p d (truthRow l r) (truthRow k s) = absurd (d refl)
+other-types n p d (truthRow l r) (madeSymbol e) = stopping
+other-types n p d (truthRow l r) (otherSymbol e) = stopping
+other-types n p d (madeSymbol e) (wordRow k s) = stopping
+other-types n p d (madeSymbol e) (truthRow k s) = stopping
+other-types n p d (madeSymbol {t = t} e) (madeSymbol {t = u} f) = rw (ne-eqb t u λ z. d (ap (λ x. suc (suc x)) z)) stopping
+other-types n p d (madeSymbol {t = t} e) (otherSymbol {t = u} f) = rw (ne-eqb t u λ z. d (ap (λ x. suc (suc x)) z)) stopping
+other-types n p d (otherSymbol e) (wordRow k s) = stopping
+other-types n p d (otherSymbol e) (truthRow k s) = stopping
+other-types n p d (otherSymbol {t = t} e) (madeSymbol {t = u} f) = rw (ne-eqb t u λ z. d (ap (λ x. suc (suc x)) z)) stopping
+other-types n p d (otherSymbol {t = t} e) (otherSymbol {t = u} f) = rw (ne-eqb t u λ z. d (ap (λ x. suc (suc x)) z)) stopping
+
+-- the rows that an equality adds
+words-added : {ws left : List ℕ} {q s : ℕ} {v w : Symbolic} → Space ws 1 → Distinct ws → left ≡ equalLeft ws q s → Means ws 0 q v → Means ws 0 s w → Added ws left 1
+words-added x d e (wordRow l f) (wordRow k g) = made-equal x d f g l k _ _ refl e .added
+
+references-added : {ws left : List ℕ} {t q s : ℕ} {v w : Symbolic} → Space ws 1 → Distinct ws → left ≡ referencesLeft ws q s → PlaceOf t q v → PlaceOf t s w
+    → Added ws left 1
+references-added {ws} x d e (is-place {s = a} {o = o} f) (is-place {s = b} {o = u} g) =
+    made-references x d o a u b (referencesRow ws (placeOf o a) (placeOf u b)) _ refl (rw (f, g) at e) .added
+
+word-inside : {ws : List ℕ} {q : ℕ} {v : Symbolic} → Means ws 0 q v → q < countIn ws
+word-inside (wordRow l f) = l
+
+module _ (n t q u s : ℕ) {ws : List ℕ} where
+  pub sum-wrong : (t ≡ 0 → u ≡ 0 → ⊥) → Two (binaryForm addOp) n t q u s ws (Stopped (WrongType n)) ws
+  unfolding twoExec
+  sum-wrong d = record { ruled = ruled-refl ws; yields = λ v w p m k h. no-word n p d m k }
+
+  pub conjunction-wrong : (t ≡ 1 → u ≡ 1 → ⊥) → Two (binaryForm andOp) n t q u s ws (Stopped (WrongType n)) ws
+  unfolding twoExec
+  conjunction-wrong d = record { ruled = ruled-refl ws; yields = λ v w p m k h. no-truth n p d m k }
+
+  pub equality-wrong : (t ≡ u → ⊥) → Two (binaryForm eqOp) n t q u s ws (Stopped (WrongType n)) ws
+  unfolding twoExec
+  equality-wrong d = record { ruled = ruled-refl ws; yields = λ v w p m k h. other-types n p d m k }
+
+  module _ {left : List ℕ} {r : ℕ} (x : Room ws 1) where
+    pub sum-made : t ≡ 0 → u ≡ 0 → r ≡ countIn ws → left ≡ pushed ws 2 q s → Two (binaryForm addOp) n t q u s ws (Gave 0 r) left
+    unfolding twoExec
+    sum-made a b er e =
+        record {
+          ruled = pushed-ruled (room-space x) 2 q s e;
+          yields = λ v w p m k h. two-words n (room-space x) er e h (rw a at m) (rw b at k);
+        }
+
+    pub conjunction-made : t ≡ 1 → u ≡ 1 → r ≡ countIn ws → left ≡ pushed ws 5 q s → Two (binaryForm andOp) n t q u s ws (Gave 1 r) left
+    unfolding twoExec
+    conjunction-made a b er e =
+        record {
+          ruled = pushed-ruled (room-space x) 5 q s e;
+          yields = λ v w p m k h. two-truths n (room-space x) er e h (rw a at m) (rw b at k);
+        }
+
+    pub truths-equal : t ≡ 1 → t ≡ u → r ≡ countIn ws → left ≡ pushed ws 6 q s → Two (binaryForm eqOp) n t q u s ws (Gave 1 r) left
+    unfolding twoExec
+    truths-equal a b er e =
+        record {
+          ruled = pushed-ruled (room-space x) 6 q s e;
+          yields = λ v w p m k h. same-truths n (room-space x) er e h (rw a at m) (rw (sym b ∙ a) at k);
+        }
+
+  pub words-required : Operable ws t q u s → t ≡ 0 → t ≡ u → Words ws q s
+  words-required x a b =
+      words-asked (room-space (x .room)) (word-inside (rw a at (x .first .means))) (word-inside (rw (sym b ∙ a) at (x .second .means)))
+
+  module _ {left : List ℕ} {r : ℕ} (x : Operable ws t q u s) where
+    pub words-equal : t ≡ 0 → t ≡ u → r ≡ equalRow ws q s → left ≡ equalLeft ws q s → Two (binaryForm eqOp) n t q u s ws (Gave 1 r) left
+    unfolding twoExec
+    words-equal a b er e =
+        record {
+          ruled =
+              added-ruled (ap length e ∙ equal-length ws q s)
+              (words-added (room-space (x .room)) (x .distinct) e (rw a at (x .first .means)) (rw (sym b ∙ a) at (x .second .means)));
+          yields = λ v w p m k h. same-words n (room-space (x .room)) er e h (rw a at m) (rw (sym b ∙ a) at k);
+        }
+
+    pub references-equal : 2 ≤ t → t ≡ u → r ≡ referencesRow ws q s → left ≡ referencesLeft ws q s → Two (binaryForm eqOp) n t q u s ws (Gave 1 r) left
+    unfolding twoExec
+    references-equal a b er e =
+        record {
+          ruled =
+              added-ruled (ap length e ∙ references-length ws q s)
+              (references-added (room-space (x .room)) (x .distinct) e (place-of a (x .first .means)) (place-of a (rw (sym b) at (x .second .means))));
+          yields = λ v w p m k h. same-references n (room-space (x .room)) er e h (place-of a m) (place-of a (rw (sym b) at k));
+        }
+
+-- ---- all kinds but some
+
+pub one-other : (n t q k : ℕ) {ws : List ℕ} → (k ≡ 6 → ⊥) → (k ≡ 10 → ⊥) → (k ≡ 11 → ⊥) → One (formOf k) n t q ws (Gave t q) ws
+unfolding oneExec rows
+one-other n t q k {ws} d₆ d₁₀ d₁₁ =
+    record {
+      ruled = ruled-refl ws;
+      yields = λ v p m h.
+          rw
+          (form-plain (λ f. oneExec f n v p) k
+          (plain-but 6 _ _ k d₆ λ i e. plain-but 3 _ _ i (λ z. d₁₀ (omega arith)) λ j g. plain-but 0 _ _ j (λ z. d₁₁ (omega arith)) λ l y. plain-all 3 l))
+          (ending m h);
+    }
+
+pub two-other : (n t q u s k : ℕ) {ws : List ℕ} → (k ≡ 4 → ⊥) → (k ≡ 5 → ⊥) → (k ≡ 7 → ⊥) → (k ≡ 12 → ⊥) → Two (formOf k) n t q u s ws (Gave u s) ws
+unfolding twoExec rows
+two-other n t q u s k {ws} d₄ d₅ d₇ d₁₂ =
+    record {
+      ruled = ruled-refl ws;
+      yields = λ v w p m x h.
+          rw
+          (form-plain (λ f. twoExec f n v w p) k
+          (plain-but 4 _ _ k d₄ λ i e. plain-but 0 _ _ i (λ z. d₅ (omega arith)) λ j g. plain-but 1 _ _ j (λ z. d₇ (omega arith)) λ l y.
+          plain-but 4 _ _ l (λ z. d₁₂ (omega arith)) λ o z. plain-all 2 o))
+          (ending x h);
+    }

@@ -1,0 +1,129 @@
+-- What a workspace holds: the values of the variables, the terms, and a path with its notes and what is known of its condition; what a step keeps of it,
+-- and how a step answers. Assumes nothing.
+pub mod Laws
+use mathlib.Core.Bool.{true}
+use mathlib.Core.List.{List, [], _∷_, _++_}
+use mathlib.Core.Path.{_≡_}
+use Prim.Native.Nat.{ℕ, zero, suc, _+_, _*_, _≤_, _<_}
+use lib.ListN.{length, getD}
+use Rattle.script.specs.Limits.{nodeLimit}
+use Rattle.script.specs.declared.Refusal.{Refusal}
+use Rattle.rules.specs.Paths.{Path, Paths, ends, stops, Write, writeOf}
+use Rattle.rules.specs.Satisfiable.{satisfiable}
+use Rattle.rules.specs.Symbolic.{Sum, Formula, Origin, made, other, Symbolic, aWord, aTruth, aReference}
+use Rattle.terms.specs.Terms.{countIn, SumRow, TruthRow, Distinct, Grown, rowLimit, symbolLimit}
+use Rattle.decision.specs.Known.{Remembers}
+use Rattle.workspace.specs.declared.Step.{Step}
+use Rattle.workspace.specs.declared.Step.the-variants.{Gave, Stopped}
+
+-- ---- the places of a workspace
+
+abbrev pub nextIn : List ℕ → ℕ
+nextIn ws = getD ws 724 0
+
+abbrev pub conditionIn : List ℕ → ℕ
+conditionIn ws = getD ws 725 0
+
+abbrev pub writesIn : List ℕ → ℕ
+writesIn ws = getD ws 726 0
+
+abbrev pub startIn : List ℕ → ℕ
+startIn ws = getD ws 727 0
+
+abbrev pub depthIn : List ℕ → ℕ
+depthIn ws = getD ws 728 0
+
+abbrev pub variablesEnd : ℕ
+variablesEnd = 288
+
+-- from here on stands what is known of the condition
+abbrev pub knownAt : ℕ
+knownAt = 1371
+
+abbrev pub spaceSize : ℕ
+spaceSize = 1415
+
+-- ---- the environment
+
+-- the types of the first variables
+unfoldable pub typesOn : List ℕ → ℕ → List ℕ
+typesOn ws zero = []
+typesOn ws (suc d) = typesOn ws d ++ (getD ws (2 * d) 0 ∷ [])
+
+-- what a type and a place stand for
+pub data Means (ws : List ℕ) : ℕ → ℕ → Symbolic → Type 0 where
+  wordRow : {i : ℕ} {p : Sum} → i < countIn ws → SumRow ws i p → Means ws 0 i (aWord p)
+  truthRow : {i : ℕ} {f : Formula} → i < countIn ws → TruthRow ws i f → Means ws 1 i (aTruth f)
+  madeSymbol : {t s i : ℕ} → i ≡ 2 * s + 1 → Means ws (suc (suc t)) i (aReference made t s)
+  otherSymbol : {t s i : ℕ} → i ≡ 2 * s → Means ws (suc (suc t)) i (aReference other t s)
+
+-- the values of the first variables
+pub data Variables (ws : List ℕ) : ℕ → List Symbolic → Type 0 where
+  noVariable : Variables ws 0 []
+  oneMore : {d : ℕ} {env : List Symbolic} {v : Symbolic} → Variables ws d env → Means ws (getD ws (2 * d) 0) (getD ws (2 * d + 1) 0) v
+      → Variables ws (suc d) (env ++ (v ∷ []))
+
+-- ---- the path
+
+-- the writes from the first that counts up to one, the newest in front
+pub data Log (ws : List ℕ) (begin : ℕ) : ℕ → List Write → Type 0 where
+  noWrite : Log ws begin begin []
+  aWrite : {k : ℕ} {o : Origin} {t s : ℕ} {v : Symbolic} {l : List Write} → Log ws begin k l
+      → Means ws (getD ws (729 + 4 * k) 0) (getD ws (729 + 4 * k + 1) 0) (aReference o t s)
+      → Means ws (getD ws (729 + 4 * k + 2) 0) (getD ws (729 + 4 * k + 3) 0) v → Log ws begin (suc k) (writeOf o t s v ∷ l)
+
+-- the condition is satisfiable: a branch is taken only where it is; if something is known, it is the condition's
+pub record PathIn (ws : List ℕ) (p : Path) : Type 0 where
+  pub next : nextIn ws ≡ p .next
+  pub inside : conditionIn ws < countIn ws
+  pub condition : TruthRow ws (conditionIn ws) (p .condition)
+  pub allowed : satisfiable (p .condition) ≡ true
+  pub log : Log ws (startIn ws) (writesIn ws) (p .log)
+  pub distinct : Distinct ws
+  pub remembers : Remembers ws knownAt (p .condition)
+
+pub record State (ws : List ℕ) (depth : ℕ) (env : List Symbolic) (p : Path) : Type 0 where
+  pub variables : Variables ws depth env
+  pub path : PathIn ws p
+
+-- a type and a place that stand for some value
+pub record Valued (ws : List ℕ) (t q : ℕ) : Type 0 where
+  pub value : Symbolic
+  pub means : Means ws t q value
+
+-- a workspace that stands for some environment and path
+pub record Standing (ws : List ℕ) (depth : ℕ) : Type 0 where
+  pub environment : List Symbolic
+  pub path : Path
+  pub state : State ws depth environment path
+
+-- ---- room
+
+-- a whole workspace, with room for so many more nodes
+pub record Room (ws : List ℕ) (more : ℕ) : Type 0 where
+  pub lent : spaceSize ≤ length ws
+  pub rows : countIn ws + more ≤ rowLimit
+  pub symbols : nextIn ws + more ≤ symbolLimit
+  pub writes : writesIn ws + more ≤ nodeLimit
+
+-- a step of so many nodes keeps the first variables, the rows and the log
+pub record Went (ws left : List ℕ) (depth nodes : ℕ) : Type 0 where
+  pub same : length left ≡ length ws
+  pub before : (k : ℕ) → k < 2 * depth → getD left k 0 ≡ getD ws k 0
+  pub grown : Grown ws left
+  pub rows : countIn left ≤ countIn ws + nodes
+  pub symbols : nextIn left ≤ nextIn ws + nodes
+  pub writes : writesIn left ≤ writesIn ws + nodes
+  pub logged : writesIn ws ≤ writesIn left
+  pub log : (k : ℕ) → 729 ≤ k → k < 729 + 4 * writesIn ws → getD left k 0 ≡ getD ws k 0
+
+-- ---- answers
+
+-- a value on a path, or a refusal
+pub data Yields (left : List ℕ) : Step → Paths → Type 0 where
+  ending : {t q : ℕ} {v : Symbolic} {p : Path} → Means left t q v → PathIn left p → Yields left (Gave t q) (ends v p)
+  stopping : {x : Refusal} → Yields left (Stopped x) (stops x)
+
+-- the notes are as before
+pub record Unnoted (ws left : List ℕ) : Type 0 where
+  pub each : (k : ℕ) → 1241 ≤ k → k < 1371 → getD left k 0 ≡ getD ws k 0
