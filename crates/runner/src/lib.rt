@@ -1,5 +1,5 @@
-// The runner: evaluation of a table on lent cells. `run` is the whole call; `steps` runs a node, `operators` has the rules for values, `tests` the
-// tests 35 and 34, `values` the 5-byte form.
+// The runner: evaluation of a table on lent cells. `run` is the whole call; `steps` runs a node, `operators` has the rules for values. `cells`, below it, has
+// the 5-byte form and the tests 35 and 34.
 ghost use mathlib.Core.Option.{none};
 ghost use mathlib.Core.Path.{_≡_};
 ghost use lib.ListN.{take};
@@ -14,19 +14,17 @@ ghost use Rattle.runner.specs.Code.Whole.{Runnable};
 
 mod operators;
 mod steps;
-mod tests;
-mod values;
 
+use cells::tests::right_cells;
+use cells::tests::right_values;
 use script::Ran;
 use script::Refusal;
 use script::Script;
 use script::table::Tested;
-use tests::test_table;
 use steps::Step;
 use steps::run_node;
 use steps::whole;
-use tests::right_cells;
-use tests::right_values;
+use tests::test_table;
 
 // Bytes of the environment: a script has at most as many variables as entries and nodes together.
 const ENVIRONMENT: usize = 5 * (Script::ENTRIES + Script::NODES);

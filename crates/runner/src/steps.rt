@@ -8,7 +8,7 @@ ghost use Rattle.runner.specs.Code.Steps.{wholeOf, Variables, nextOn, bo
 use crate::operators::leaf;
 use crate::operators::one;
 use crate::operators::two;
-use crate::values::store;
+use cells::store;
 use script::Value;
 use script::table::IF;
 use script::table::LEAVES;

@@ -1,9 +1,9 @@
--- `runner::tests::valid` meets its contract: the test that belongs to the kind. Assumes nothing.
+-- `cells::tests::valid` meets its contract: the test that belongs to the kind. Assumes nothing.
 use borrow.Author.Needs.{needs}
 use mathlib.Core.Path.{_∙_}
-use Rattle.runner.specs.Code.Tests.{word-valid, truth-valid, location-valid, kind-invalid, valid-read}
-use Rattle.runner.proofs.tests.valid.Statement.{statement}
-use Rattle.runner.proofs.tests.valid.Tie as tie
+use Rattle.cells.specs.Tests.{word-valid, truth-valid, location-valid, kind-invalid, valid-read}
+use Rattle.cells.proofs.tests.valid.Statement.{statement}
+use Rattle.cells.proofs.tests.valid.Tie as tie
 
 returns : tie.Need-returns
 returns c =

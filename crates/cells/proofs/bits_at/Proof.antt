@@ -1,10 +1,10 @@
--- `runner::values::bits_at` meets its contract: each of its sums fits, since a byte is below 256. Assumes nothing.
+-- `cells::bits_at` meets its contract: each of its sums fits, since a byte is below 256. Assumes nothing.
 use borrow.Author.Needs.{needs}
 use Prim.Native.Nat.{_+_, _*_}
 use native.Mathlib.Omega.{arith}
-use Rattle.runner.specs.Code.Steps.Values.{bits-read}
-use Rattle.runner.proofs.values.bits_at.Statement.{statement}
-use Rattle.runner.proofs.values.bits_at.Tie as tie
+use Rattle.cells.specs.Values.{bits-read}
+use Rattle.cells.proofs.bits_at.Statement.{statement}
+use Rattle.cells.proofs.bits_at.Tie as tie
 
 mul-result : tie.Need-mul-result
 mul-result c =

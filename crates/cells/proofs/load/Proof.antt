@@ -1,9 +1,9 @@
--- `runner::values::load` meets its contract: the value by its kind, with the bits behind it. Assumes nothing.
+-- `cells::load` meets its contract: the value by its kind, with the bits behind it. Assumes nothing.
 use borrow.Author.Needs.{needs}
 use mathlib.Core.Path.{_∙_}
-use Rattle.runner.specs.Code.Steps.Values.{word-kind, truth-kind, location-kind, value-read}
-use Rattle.runner.proofs.values.load.Statement.{statement}
-use Rattle.runner.proofs.values.load.Tie as tie
+use Rattle.cells.specs.Values.{word-kind, truth-kind, location-kind, value-read}
+use Rattle.cells.proofs.load.Statement.{statement}
+use Rattle.cells.proofs.load.Tie as tie
 
 returns : tie.Need-returns
 returns c =

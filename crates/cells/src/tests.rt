@@ -5,7 +5,7 @@ ghost use Prim.Native.Nat.{_+_, _*_, _<_, _≤_};
 ghost use lib.ListN.{length, getD, drop};
 ghost use Rattle.script.specs.Limits.{entryLimit};
 ghost use Rattle.rules.specs.Running.{bitsAt, validBy, allValid, rightCells, rightValues};
-use crate::values::bits_at;
+use crate::bits_at;
 
 // At most so many cells are used before a run.
 const USED: u32 = 64;

@@ -1,10 +1,10 @@
--- `runner::tests::all_valid` meets its contract. The loop's invariant: the values passed are valid, and the others decide. Assumes nothing.
+-- `cells::tests::all_valid` meets its contract. The loop's invariant: the values passed are valid, and the others decide. Assumes nothing.
 use Prim.Native.Nat.{_-_}
 use native.Mathlib.Omega.{arith}
 use borrow.Author.Tests.{not-true, not-false}
-use Rattle.runner.specs.Code.Tests.{Passed, passed-start, passed-next, passed-bad, passed-all}
-use Rattle.runner.proofs.tests.all_valid.Statement.{statement}
-use Rattle.runner.proofs.tests.all_valid.Tie as tie
+use Rattle.cells.specs.Tests.{Passed, passed-start, passed-next, passed-bad, passed-all}
+use Rattle.cells.proofs.tests.all_valid.Statement.{statement}
+use Rattle.cells.proofs.tests.all_valid.Tie as tie
 
 abbrev Inv-loop : tie.InvT-loop
 Inv-loop bytes count used i₀ i = Passed used bytes count i

@@ -1,11 +1,11 @@
--- `runner::values::store` meets its contract: its five stores are those of `sets`. Assumes nothing.
+-- `cells::store` meets its contract: its five stores are those of `sets`. Assumes nothing.
 use borrow.Author.Needs.{needs}
 use Prim.Native.Nat.{_*_}
 use native.Mathlib.Omega.{arith}
 use lib.ListN.{length-set}
-use Rattle.runner.specs.Code.Steps.Values.{kind-small, value-stores}
-use Rattle.runner.proofs.values.store.Statement.{statement}
-use Rattle.runner.proofs.values.store.Tie as tie
+use Rattle.cells.specs.Values.{kind-small, value-stores}
+use Rattle.cells.proofs.store.Statement.{statement}
+use Rattle.cells.proofs.store.Tie as tie
 
 cast-bytes : tie.Need-cast-bytes
 cast-bytes c = omega (arith, c .kind .ensures, kind-small (c .before .before .before .args .v))

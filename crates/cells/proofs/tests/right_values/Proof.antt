@@ -1,8 +1,8 @@
--- `runner::tests::right_values` meets its contract: test by test, the values before the used cells. Assumes nothing.
+-- `cells::tests::right_values` meets its contract: test by test, the values before the used cells. Assumes nothing.
 use borrow.Author.Needs.{needs}
-use Rattle.runner.specs.Code.Tests.{used-lent, other-count, broken-cell, bad-value, values-right}
-use Rattle.runner.proofs.tests.right_values.Statement.{statement}
-use Rattle.runner.proofs.tests.right_values.Tie as tie
+use Rattle.cells.specs.Tests.{used-lent, other-count, broken-cell, bad-value, values-right}
+use Rattle.cells.proofs.tests.right_values.Statement.{statement}
+use Rattle.cells.proofs.tests.right_values.Tie as tie
 
 cells-lent : tie.Need-all-valid-requires-2
 cells-lent c κs =

@@ -10,7 +10,7 @@ use lib.Seq.{drop-drop}
 use borrow.Author.Tests.{le-leb, lt-leb, eq-eqb, ne-eqb}
 use Rattle.rules.specs.Running.Room.{cells-fit}
 use Rattle.rules.specs.Running.{bitsAt, validBy, allValid, usedLimit, lentLimit, rightCells, rightValues}
-use Rattle.runner.specs.Code.Steps.Values.{first-drop}
+use Rattle.cells.specs.Values.{first-drop}
 
 -- ---- one value
 

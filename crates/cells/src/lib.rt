@@ -4,6 +4,9 @@ ghost use Prim.Native.Nat.{_+_, _*_, _<_};
 ghost use lib.ListN.{length, drop};
 ghost use lib.Seq.{sets};
 ghost use Rattle.rules.specs.Running.{bytesOf, bitsAt, valueAt};
+
+pub mod tests;
+
 use script::Value;
 
 // A byte as a number of 32 bits.
