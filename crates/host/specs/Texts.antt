@@ -3,6 +3,7 @@
 use mathlib.Core.List.{List}
 use mathlib.Core.Path.{_≡_}
 use Prim.Native.Nat.{ℕ}
+use Rattle.script.specs.Answers.{Report, reportOfCheck, reportOfRun}
 use Rattle.script.specs.Limits.{nodeLimit, entryLimit}
 use Rattle.script.specs.declared.Checked.{Checked}
 use Rattle.script.specs.declared.Ran.{Ran}
@@ -27,6 +28,13 @@ runMeant (refused r) values cells used = record { answer = Ran.Refused r; cells 
 -- the runner's answer to a text, and what the lent cells then hold
 unfoldable pub runText : List ℕ → List ℕ → List ℕ → ℕ → Run
 runText text values cells used = runMeant (meaningOf text) values cells used
+
+-- what the two report, in the numbers of `Answers` in `script`
+abbrev pub checkTextReport : List ℕ → Report
+checkTextReport text = reportOfCheck (checkText text)
+
+abbrev pub runTextReport : List ℕ → List ℕ → List ℕ → ℕ → Report
+runTextReport text values cells used = reportOfRun (runText text values cells used .answer)
 
 -- what a call of the runner promises of its answer and of what the lent cells then hold
 abbrev pub RanTo : Run → Ran → List ℕ → Type 0

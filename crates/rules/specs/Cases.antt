@@ -46,7 +46,7 @@ abbrev ranTo : Run → Answer
 ranTo r = runs (reportOfRun (r .answer)) (take 10 (r .cells))
 
 abbrev asked : Question → Table → Answer
-asked check? t = checks (reportOfCheck (checkTable pathLimit t))
+asked check? t = checks (checkReport pathLimit t)
 asked (run? values cells used) t = ranTo (runTable t values cells used)
 
 abbrev pub asking : Case → Answer

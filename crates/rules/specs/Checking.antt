@@ -5,6 +5,7 @@ use mathlib.Core.Option.{Option, none, some}
 use mathlib.Core.Path.{_≡_}
 use Prim.Native.Nat.{ℕ}
 use lib.ListN.{length, getElem?}
+use Rattle.script.specs.Answers.{Report, reportOfCheck}
 use Rattle.script.specs.Flat.{tableIn}
 use Rattle.script.specs.Table.{Table, entriesOf, tableTest}
 use Rattle.script.specs.Tree.{Expr, int, truth, var, unary, binary, ifElse, letIn, typedBlock, symBlock, treeOf}
@@ -61,6 +62,10 @@ answered (some r) c = Refused r
 -- the checker's whole answer
 unfoldable pub checkTable : ℕ → Table → Checked
 checkTable limit t = answered (tableTest t) (check limit (treeOf t) (entriesOf t))
+
+-- what it reports: a type's code, or a refusal's number and place
+abbrev pub checkReport : ℕ → Table → Report
+checkReport limit t = reportOfCheck (checkTable limit t)
 
 -- what a call of the checker promises of its answer, where the table is lent in flat form
 abbrev pub CheckedBy : ℕ → List ℕ → ℕ → List ℕ → ℕ → Checked → Type 0

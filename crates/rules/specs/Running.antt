@@ -10,7 +10,7 @@ use mathlib.Core.Option.{Option, none, some}
 use Prim.Native.Nat.{ℕ, zero, suc, _+_, _*_, _/_, _%_}
 use lib.Dec.{leb, ltb, eqb}
 use lib.ListN.{length, getD, drop}
-use Rattle.script.specs.Answers.{kindOf, bitsOf}
+use Rattle.script.specs.Answers.{kindOf, bitsOf, Report, reportOfRun}
 use Rattle.script.specs.Table.{Table, tableTest}
 use Rattle.script.specs.Tests.{need}
 use Rattle.script.specs.Tree.{treeOf}
@@ -109,3 +109,7 @@ runTable t values cells used =
     ranBy (tableTest t) cells
     (ranBy (runTest t values cells used) cells
     (finished cells (eval (treeOf t) (valuesOf (t .entryCount) values) (valuesOf used cells))))
+
+-- what it reports: a value's kind and bits or the node of the error state, each with the used count, or a refusal's number and place
+abbrev pub runReport : Table → List ℕ → List ℕ → ℕ → Report
+runReport t values cells used = reportOfRun (runTable t values cells used .answer)

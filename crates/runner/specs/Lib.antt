@@ -1,3 +1,4 @@
 pub mod Answered
 pub mod Code
 pub mod Demand3
+pub mod Reports

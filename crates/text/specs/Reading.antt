@@ -6,6 +6,7 @@ use mathlib.Core.List.{List, [], _++_}
 use Prim.Native.Nat.{ℕ, _*_, _-_}
 use lib.Dec.{leb}
 use lib.ListN.{length, drop, replicate}
+use Rattle.script.specs.Answers.{Report, reportOfReading}
 use Rattle.script.specs.Flat.{flat, nodesIn}
 use Rattle.script.specs.Limits.{nodeLimit, entryLimit, sizeOf}
 use Rattle.script.specs.Table.{Table, unused}
@@ -51,6 +52,10 @@ tried text n m = pick (leb nodeLimit n && leb entryLimit m) (meaningOf text) (re
 
 unfoldable pub reading : List ℕ → ℕ → ℕ → Outcome
 reading text n m = outcomeOf (tried text n m) n m
+
+-- what it reports: how many nodes and entries were read, or a refusal's number and place
+abbrev pub readingReport : List ℕ → ℕ → ℕ → Report
+readingReport text n m = reportOfReading (reading text n m .answer)
 
 -- ---- the table in flat form
 

@@ -6,6 +6,7 @@ use mathlib.Core.Option.{Option, none, some}
 use Prim.Native.Nat.{ℕ, zero, suc, _+_, _/_, _%_}
 use lib.Dec.{leb, ltb}
 use lib.ListN.{length, take, drop}
+use Rattle.script.specs.Answers.{Report, reportOfWriting}
 use Rattle.script.specs.Rows.{Row, rowOf}
 use Rattle.script.specs.Table.{Table, nodesOf, entriesOf, fields, tableTest}
 use Rattle.script.specs.Tests.{pick}
@@ -79,3 +80,7 @@ outcomeOf none text out =
 
 unfoldable pub writing : Table → List ℕ → Outcome
 writing t out = outcomeOf (tableTest t) (textOf (entriesOf t) (nodesOf t)) out
+
+-- what it reports: how many bytes were written, or a refusal's number and place
+abbrev pub writingReport : Table → List ℕ → Report
+writingReport t out = reportOfWriting (writing t out .answer)
