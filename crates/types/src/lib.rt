@@ -137,7 +137,7 @@ pub fn if_type(t: u32, u: u32, v: u32, n: u32) -> Checked
 pub fn bind_type(space: &mut [u32], depth: usize, kind: u32, t: u32) -> usize
     requires { ⌜ depth < symbolLimit ⌝ }
     requires { ⌜ variablesEnd ≤ length (now space) ⌝ }
-    ensures { λ r. ⌜ BoundTypes (formOf kind) depth t (now (space .entry)) r (now (space .exit)) ⌝ }
+    ensures { λ r. ⌜ BoundTypes kind depth t (now (space .entry)) r (now (space .exit)) ⌝ }
 {
     if kind == LET {
         space[2 * depth] = t;

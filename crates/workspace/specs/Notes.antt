@@ -7,8 +7,8 @@ use mathlib.Core.Bool.{Bool, true, false, _&&_}
 use mathlib.Core.List.{List}
 use mathlib.Core.Option.{some}
 use mathlib.Core.Path.{_≡_}
-use Prim.Native.Nat.{ℕ, zero, suc, _+_, _*_, _≤_, _<_}
-use lib.Dec.{eqb}
+use Prim.Native.Nat.{ℕ, zero, suc, _+_, _*_, _-_, _%_, _≤_, _<_}
+use lib.Dec.{leb, eqb}
 use lib.ListN.{length, getD, set, getElem?}
 use Rattle.script.specs.Code.Forms.{treeIn}
 use Rattle.script.specs.Rows.{Form, intForm, varForm, ifForm, letForm, typedForm, symForm, truthForm, unaryForm, binaryForm}
@@ -116,6 +116,19 @@ pub record Nameable (ws : List ℕ) (depth at : ℕ) : Type 0 where
   pub low : 1243 ≤ at
   pub high : at + 16 ≤ 1371
 
+-- the variables from k on, so many, of which those that the tree mentions are named in the note behind `count` others: how many are named then, or one more
+-- than a note can name, and what the workspace then holds
+unfoldable pub namesFrom : Expr → ℕ → ℕ → ℕ → ℕ → List ℕ → ℕ × List ℕ
+namesFrom e at k count zero ws = (count, ws)
+namesFrom e at k count (suc more) ws =
+    pick (mentions e k)
+    (pick (eqb count 6) (7, ws) (namesFrom e at (suc k) (suc count) more (named ws at count k)))
+    (namesFrom e at (suc k) count more ws)
+
+-- all from the base to the depth
+abbrev pub namesTo : Expr → ℕ → ℕ → List ℕ → ℕ × List ℕ
+namesTo e depth at ws = namesFrom e at (baseIn ws) 0 (depth - baseIn ws) ws
+
 -- so many of the variables from the base to k are named in the note, with their types; all those that the tree mentions
 pub record Naming (e : Expr) (at : ℕ) (ws : List ℕ) (k count : ℕ) (left : List ℕ) : Type 0 where
   pub same : length left ≡ length ws
@@ -127,6 +140,7 @@ pub record Naming (e : Expr) (at : ℕ) (ws : List ℕ) (k count : ℕ) (left : 
 
 -- all are named, or there are too many
 pub record Names (e : Expr) (depth at : ℕ) (ws : List ℕ) (r : ℕ) (left : List ℕ) : Type 0 where
+  pub is : _≡_ {A = ℕ × List ℕ} (r, left) (namesTo e depth at ws)
   pub same : length left ≡ length ws
   pub others : (j : ℕ) → (at + 4 ≤ j → j < at + 16 → ⊥) → getD left j 0 ≡ getD ws j 0
   pub naming : r ≤ 6 → baseIn ws ≤ depth → Naming e at ws depth r left
@@ -148,7 +162,18 @@ pub record NoteOf (limit : ℕ) (table ws : List ℕ) (at depth : ℕ) : Type 0 
 pub record Kept (limit : ℕ) (table ws : List ℕ) : Type 0 where
   pub notes : (i : ℕ) → i < 8 → (depth : ℕ) → depthIn ws (noteAt i) ≡ suc depth → NoteOf limit table ws (noteAt i) depth
 
+-- the whole note, if it can name all; else it says nothing, and the turn stays
+unfoldable pub notedAs : ℕ → ℕ → ℕ → ℕ → ℕ × List ℕ → List ℕ
+notedAs turn depth a t (count, ws) =
+    let at = noteAt turn in
+    pick (leb count 6) (set (set (set (set (set ws at a) (at + 1) (depth + 1)) (at + 2) t) (at + 3) count) 1242 (turn + 1)) ws
+
+-- the note whose turn it is, which says nothing before it is whole
+abbrev pub notedOn : ℕ → List ℕ → ℕ → ℕ → ℕ → List ℕ → List ℕ
+notedOn turn table depth a t ws = notedAs turn depth a t (namesTo (treeIn table a) depth (noteAt turn) (set ws (noteAt turn + 1) 0))
+
 pub record Noted (table : List ℕ) (depth a t : ℕ) (ws left : List ℕ) : Type 0 where
+  pub is : left ≡ notedOn (getD ws 1242 0 % 8) table depth a t ws
   pub same : length left ≡ length ws
   pub before : (k : ℕ) → k < 1242 → getD left k 0 ≡ getD ws k 0
   pub beyond : (k : ℕ) → knownAt ≤ k → getD left k 0 ≡ getD ws k 0

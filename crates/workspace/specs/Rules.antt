@@ -10,7 +10,7 @@ use mathlib.Core.Bool.{true, false}
 use mathlib.Core.List.{List, [], _∷_, _++_}
 use mathlib.Core.Path.{_≡_}
 use Prim.Native.Nat.{ℕ, suc, _+_, _*_, _≤_, _<_}
-use lib.ListN.{length, getD, getElem?}
+use lib.ListN.{length, getD, set, getElem?}
 use Rattle.script.specs.Code.Forms.{formOf, nodeIn, treeIn}
 use Rattle.script.specs.Flat.{FormedNodes}
 use Rattle.script.specs.Rows.{Form, intForm, varForm, ifForm, letForm, typedForm, symForm, truthForm, unaryForm, binaryForm, nodeOperands}
@@ -184,10 +184,13 @@ pub record Judged (c : Checked) (depth : ℕ) (ws : List ℕ) (r : Checked) (lef
   pub answer : r ≡ c
   pub aside : Aside depth ws left
 
-pub record BoundTypes (f : Form) (depth t : ℕ) (ws : List ℕ) (count : ℕ) (left : List ℕ) : Type 0 where
+-- what a `let` changes, and that no other kind changes anything; and what the types are then
+pub record BoundTypes (kind depth t : ℕ) (ws : List ℕ) (count : ℕ) (left : List ℕ) : Type 0 where
+  pub bound : kind ≡ 9 → (count ≡ depth + 1) × (left ≡ set ws (2 * depth) t)
+  pub other : (kind ≡ 9 → ⊥) → (count ≡ depth) × (left ≡ ws)
   pub least : depth ≤ count
   pub most : count ≤ depth + 1
-  pub types : typesOn left count ≡ boundOn f t (typesOn ws depth)
+  pub types : typesOn left count ≡ boundOn (formOf kind) t (typesOn ws depth)
   pub aside : Aside depth ws left
 
 -- ---- what the functions for symbolic mode ask and promise

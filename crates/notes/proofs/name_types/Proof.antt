@@ -33,6 +33,7 @@ returns c =
     let a = c .before .before .before .before .before .before .before .before .args in
     let l = c .before .before .before .before .loop in
     upto-full (treeIn (a .table .now) (a .a)) (a .depth) (a .at) (a .space .now) (l .k) (l .count) (l .space) (l .inv)
+    (c .before .before .before .loop-test .taken) (sym (c .before .before .mentions .ensures) ∙ c .before .if1 .taken) (c .if2 .taken)
 
 name-type-requires : tie.Need-name-type-requires Inv-loop μ-loop
 name-type-requires c κs =
@@ -63,7 +64,7 @@ loop-again c =
     ⊎-elim
     (λ w.
     upto-more e (a .depth) (a .at) (a .space .now) n (l .k) (l .count) (l .space) (l .inv) t (omega (arith, l .inv .naming .few, w .1 .left))
-    (w .6 ∙ w .3 .ensures) (w .7))
+    (sym (c .before .mentions .ensures) ∙ w .0 .taken) (w .6 ∙ w .3 .ensures) (w .7))
     (λ w.
     upto-on e (a .depth) (a .at) (a .space .now) n (l .k) (l .count) (l .space) (l .inv) t (sym (c .before .mentions .ensures) ∙ w .0 .left) (w .1) (w .2))
     (c .if1 .came)

@@ -1,6 +1,7 @@
 -- `notes::note` meets its contract. In the answers a is the arguments, p what is required of them, w which of the eight notes is made, l that the
 -- workspace is as long as before. Assumes nothing.
 use borrow.Author.Needs.{needs}
+use mathlib.Core.Path.{refl}
 use Prim.Native.Nat.{_%_}
 use native.Mathlib.Omega.{arith}
 use lib.ListN.{getD, length-set}
@@ -16,7 +17,7 @@ name-types-requires c κs =
     let a = c .before .before .before .before .args in
     let p = c .before .before .before .before .pre in
     let w = getD (a .space .now) 1242 0 % 8 in
-    (p .0, cleared-nameable (a .space .now) (a .depth) w (omega arith) (p .1 .1) (p .1 .0))
+    (p .0, cleared-nameable (a .space .now) (a .depth) w refl (omega arith) (p .1 .1) (p .1 .0))
 
 same-length : tie.Need-same-length
 same-length c = simp length-set at (c .before .before .before .name-types .ensures .same)
@@ -26,8 +27,8 @@ returns c =
     let a = c .before .before .before .before .before .before .before .before .args in
     let p = c .before .before .before .before .before .before .before .before .pre in
     let w = getD (a .space .now) 1242 0 % 8 in
-    noted-nothing (a .space .now) (a .depth) w (omega arith) (p .1 .1) (p .1 .0) (a .table .now) (a .a) (a .t)
-    (c .before .before .before .name-types .ensures)
+    noted-nothing (a .space .now) (a .depth) w refl (omega arith) (p .1 .1) (p .1 .0) (a .table .now) (a .a) (a .t)
+    (c .before .before .before .name-types .ensures) (c .if1 .taken)
 
 slice-write-space-2 : tie.Need-slice-write-space-2
 slice-write-space-2 c =
@@ -64,7 +65,7 @@ returns-2 c =
     let a = c .before .before .before .before .before .before .before .before .args in
     let p = c .before .before .before .before .before .before .before .before .pre in
     let w = getD (a .space .now) 1242 0 % 8 in
-    noted-all (a .space .now) (a .depth) w (omega arith) (p .1 .1) (p .1 .0) (a .table .now) (a .a) (a .t)
+    noted-all (a .space .now) (a .depth) w refl (omega arith) (p .1 .1) (p .1 .0) (a .table .now) (a .a) (a .t)
     (c .before .before .before .name-types .ensures) (c .if1 .left)
 
 pub note-spec : {M : Type 1} → statement M

@@ -4,13 +4,14 @@ use mathlib.Core.List.{List}
 use mathlib.Core.Logic.{_⊎_, inl, inr}
 use mathlib.Core.Option.{some}
 use mathlib.Core.Path.{_≡_, refl, sym, ap, _∙_}
-use Prim.Native.Nat.{ℕ, suc, _+_, _*_, _≤_, _<_}
+use Prim.Native.Nat.{ℕ, suc, _+_, _*_, _-_, _%_, _≤_, _<_}
 use native.Mathlib.Nat.{eq-or-lt-of-le}
+use native.Mathlib.Numerals.{add-one}
 use native.Mathlib.Omega.{arith}
 use lib.Dec.{leb, eqb}
 use lib.ListN.{length, getD, set, getElem?, length-set}
 use lib.Seq.{getD-set-same, getD-set-other}
-use borrow.Author.Tests.{eqb-true, eqb-false, leb-true, leb-false}
+use borrow.Author.Tests.{eqb-true, eqb-false, ne-eqb, leb-true, leb-false, le-leb, lt-leb}
 use Rattle.script.specs.Code.Forms.{treeIn}
 use Rattle.script.specs.Tests.Laws.{true-or-false}
 use Rattle.script.specs.Tree.{Expr}
@@ -18,7 +19,7 @@ use Rattle.script.specs.declared.Checked.the-variants.{Accepted}
 use Rattle.rules.specs.Checking.{check}
 use Rattle.rules.specs.Checking.Mentions.{mentions, check-same}
 use Rattle.terms.specs.Terms.{symbolLimit}
-use Rattle.workspace.specs.Notes.{baseIn, noteAt, operandIn, depthIn, typeIn, namesIn, nameIn, namedType, Named, named, Nameable, Naming, Names, Agrees, NoteOf, Kept, Noted}
+use Rattle.workspace.specs.Notes.{baseIn, noteAt, operandIn, depthIn, typeIn, namesIn, nameIn, namedType, Named, named, Nameable, namesFrom, namesTo, Naming, Names, notedAs, Agrees, NoteOf, Kept, Noted}
 use Rattle.workspace.specs.Notes.Keeping.{note-same}
 use Rattle.workspace.specs.State.{spaceSize, typesOn}
 use Rattle.workspace.specs.State.Laws.{types-at, types-length, types-kept, none-at}
@@ -52,6 +53,7 @@ module _ (at count k : ℕ) (xs : List ℕ) where
 
 -- those below k are named that the tree mentions; k begins at the base, which may be above the depth
 pub record Upto (e : Expr) (depth at : ℕ) (ws : List ℕ) (k count : ℕ) (left : List ℕ) : Type 0 where
+  pub is : namesFrom e at k count (depth - k) left ≡ namesTo e depth at ws
   pub naming : Naming e at ws k count left
   pub within : baseIn ws ≤ depth → k ≤ depth
   pub bounded : k ≤ depth + baseIn ws
@@ -60,6 +62,7 @@ module _ (e : Expr) (depth at : ℕ) (ws : List ℕ) where
   pub upto-start : Upto e depth at ws (baseIn ws) 0 ws
   upto-start =
       record {
+        is = refl;
         naming = record {
           same = refl;
           others = λ j h. refl;
@@ -73,11 +76,17 @@ module _ (e : Expr) (depth at : ℕ) (ws : List ℕ) where
       }
 
   module _ (n : Nameable ws depth at) (k count : ℕ) (left : List ℕ) (u : Upto e depth at ws k count left) (low : k < depth) where
+    -- what is left at k
+    left-on : depth - k ≡ suc (depth - (k + 1))
+    left-on = omega arith
+
     -- k is not mentioned
     upto-same : mentions e k ≡ false → Upto e depth at ws (k + 1) count left
+    unfolding namesFrom
     upto-same f =
         let s = u .naming in
         record {
+          is = rw (add-one k) (rw (left-on, f, add-one k) at (u .is));
           naming = record {
             same = s .same;
             others = s .others;
@@ -134,10 +143,13 @@ module _ (e : Expr) (depth at : ℕ) (ws : List ℕ) where
       more-all v b m (inr h) = let p = u .naming .all v b h m in (p .0, omega (arith, p .1), earlier-name (p .0) (p .1) ∙ p .2)
       more-all v b m (inl q) = (count, omega arith, named-name at count k left lent few ∙ sym q)
 
-      upto-one : Upto e depth at ws (k + 1) (count + 1) more
-      upto-one =
+      upto-one : mentions e k ≡ true → Upto e depth at ws (k + 1) (count + 1) more
+      unfolding namesFrom
+      upto-one m =
           let s = u .naming in
+          let o : eqb count 6 ≡ false = ne-eqb count 6 (λ q. omega arith) in
           record {
+            is = rw (add-one k, add-one count) (rw (left-on, m, o, add-one k) at (u .is));
             naming = record {
               same = named-length at count k left ∙ s .same;
               others = λ j h. named-other at count k left j (λ q. h (omega arith) (omega arith)) (λ q. h (omega arith) (omega arith)) ∙ s .others j h;
@@ -150,16 +162,28 @@ module _ (e : Expr) (depth at : ℕ) (ws : List ℕ) where
             bounded = omega arith;
           }
 
-      pub upto-more : {xs : List ℕ} {m : ℕ} → xs ≡ more → m ≡ count + 1 → Upto e depth at ws (k + 1) m xs
-      upto-more p q = rw (p, q) upto-one
+      pub upto-more : mentions e k ≡ true → {xs : List ℕ} {m : ℕ} → xs ≡ more → m ≡ count + 1 → Upto e depth at ws (k + 1) m xs
+      upto-more f p q = rw (p, q) (upto-one f)
 
   -- k is one too many
-  pub upto-full : (k count : ℕ) (left : List ℕ) → Upto e depth at ws k count left → Names e depth at ws 7 left
-  upto-full k count left u = record { same = u .naming .same; others = u .naming .others; naming = λ l h. absurd (omega arith) }
+  pub upto-full : (k count : ℕ) (left : List ℕ) → Upto e depth at ws k count left → k < depth → mentions e k ≡ true → count ≡ 6
+      → Names e depth at ws 7 left
+  unfolding namesFrom
+  upto-full k count left u low m six =
+      let o : depth - k ≡ suc (depth - (k + 1)) = omega arith in
+      record {
+        is = rw (o, m, six) at (u .is);
+        same = u .naming .same;
+        others = u .naming .others;
+        naming = λ l h. absurd (omega arith);
+      }
 
   pub upto-end : (k count : ℕ) (left : List ℕ) → Upto e depth at ws k count left → depth ≤ k → Names e depth at ws count left
+  unfolding namesFrom
   upto-end k count left u h =
+      let o : depth - k ≡ 0 = omega arith in
       record {
+        is = rw o at (u .is);
         same = u .naming .same;
         others = u .naming .others;
         naming = λ l b. let w = u .within b in let q : k ≡ depth = omega arith in rw q at (u .naming);
@@ -263,7 +287,7 @@ module _ {e : Expr} {depth at a t count : ℕ} {ws middle left : List ℕ} (low 
 
 -- ---- what becomes of the workspace
 
-module _ (ws : List ℕ) (depth turn : ℕ) (low : turn < 8) (lent : spaceSize ≤ length ws) (small : depth ≤ symbolLimit) where
+module _ (ws : List ℕ) (depth turn : ℕ) (its : turn ≡ getD ws 1242 0 % 8) (low : turn < 8) (lent : spaceSize ≤ length ws) (small : depth ≤ symbolLimit) where
   -- the note that is replaced says nothing from now on
   abbrev cleared : List ℕ
   cleared = set ws (noteAt turn + 1) 0
@@ -289,9 +313,12 @@ module _ (ws : List ℕ) (depth turn : ℕ) (low : turn < 8) (lent : spaceSize �
     middle-length = n .same ∙ cleared-length
 
     -- there are too many variables to name: the note still says nothing
-    pub noted-nothing : Noted table depth a t ws middle
-    noted-nothing =
+    pub noted-nothing : 6 < count → Noted table depth a t ws middle
+    unfolding notedAs
+    noted-nothing many =
+        let o : leb count 6 ≡ false = lt-leb 6 count many in
         record {
+          is = rw (sym its, sym (n .is), o) refl;
           same = middle-length;
           before = λ k l. middle-other k (λ x y. omega arith);
           beyond = λ k l. middle-other k (λ x y. omega arith);
@@ -351,8 +378,11 @@ module _ (ws : List ℕ) (depth turn : ℕ) (low : turn < 8) (lent : spaceSize �
         record { each = λ k d e. whole-put .others k d (λ x y. e (omega arith) (omega arith)) ∙ middle-other k e }
 
     pub noted-all : count ≤ 6 → Noted table depth a t ws whole
+    unfolding notedAs
     noted-all few =
+        let o : leb count 6 ≡ true = le-leb count 6 few in
         record {
+          is = rw (sym its, sym (n .is), o) refl;
           same = simp length-set middle-length;
           before = λ k l. whole-elsewhere .each k (λ e. omega arith) (λ x y. omega arith);
           beyond = λ k l. whole-elsewhere .each k (λ e. omega arith) (λ x y. omega arith);

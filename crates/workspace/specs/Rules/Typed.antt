@@ -140,7 +140,7 @@ module _ {xs ws : List ℕ} {depth n : ℕ} (q : CheckableRest xs ws depth n) wh
   pub second-earlier : nodeIn xs n .b < n
   second-earlier = rest-of (shaped 0 (q .formed)) (q .several) .earlier
 
-  module _ {t : ℕ} {ws₁ : List ℕ} {inner : ℕ} (b : BoundTypes (formOf (nodeIn xs n .kind)) depth t ws inner ws₁) where
+  module _ {t : ℕ} {ws₁ : List ℕ} {inner : ℕ} (b : BoundTypes (nodeIn xs n .kind) depth t ws inner ws₁) where
     pub second-checkable : Checkable xs ws₁ inner (nodeIn xs n .b)
     second-checkable =
         let f = rest-of (shaped 0 (q .formed)) (q .several) in

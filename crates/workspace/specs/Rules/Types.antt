@@ -144,11 +144,13 @@ let-bound v env k e = ap (λ (f : Form). boundOn f v env) (let-form k e)
 -- ---- the variables of the second operand
 
 module _ (k depth t : ℕ) (ws : List ℕ) (l : depth < 144) (h : 288 ≤ length ws) where
-  pub bind-type-let : k ≡ 9 → BoundTypes (formOf k) depth t ws (depth + 1) (set ws (2 * depth) t)
+  pub bind-type-let : k ≡ 9 → BoundTypes k depth t ws (depth + 1) (set ws (2 * depth) t)
   unfolding typesOn
   bind-type-let e =
       let z : depth + 1 ≡ suc depth = omega arith in
       record {
+        bound = λ _. (refl, refl);
+        other = λ d. absurd (d e);
         least = omega arith;
         most = omega arith;
         types =
@@ -165,9 +167,11 @@ module _ (k depth t : ℕ) (ws : List ℕ) (l : depth < 144) (h : 288 ≤ length
         };
       }
 
-  pub bind-type-other : (k ≡ 9 → ⊥) → BoundTypes (formOf k) depth t ws depth ws
+  pub bind-type-other : (k ≡ 9 → ⊥) → BoundTypes k depth t ws depth ws
   bind-type-other d =
       record {
+        bound = λ e. absurd (d e);
+        other = λ _. (refl, refl);
         least = omega arith;
         most = omega arith;
         types = sym (bound-other t (typesOn ws depth) k d);
