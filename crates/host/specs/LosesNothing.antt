@@ -15,7 +15,7 @@ use Rattle.rules.specs.Checking.Bounds.{Bounded, code, refusal}
 use Rattle.rules.specs.Running.{lentLimit}
 use Rattle.host.specs.Answers.{packed, placeField, answerOfRefusal, answerOfCheck, answerOfRun}
 use Rattle.host.specs.Texts.Bounds.{placeLimit, check-bounded, RanWithin, gave-within, failed-within, refused-within, run-within}
-use Rattle.host.specs.Texts.{checkText, runText}
+use Rattle.host.specs.Texts.{checkText, runText, checkTextReport, runTextReport}
 
 -- ---- how a host takes an answer apart
 
@@ -99,7 +99,7 @@ checked-back (code {t = t} h) =
     ap (λ (s : ℕ). checkedBy s a) (status-in 0 0 0 t (omega arith) (omega arith) (omega arith)) ∙ ap typeIs (value-in 0 0 0 t (omega arith) (omega arith) (omega arith))
 checked-back (refusal {r = r} h) = ap (λ (s : ℕ). checkedBy s (answerOfRefusal r)) (refused-status r h) ∙ refused-report r h
 
-pub check-loses-nothing : (text : List ℕ) → checkedIn (answerOfCheck (checkText text)) ≡ reportOfCheck (checkText text)
+pub check-loses-nothing : (text : List ℕ) → checkedIn (answerOfCheck (checkText text)) ≡ checkTextReport text
 check-loses-nothing text = checked-back (check-bounded text)
 
 ran-back : {r : Ran} → RanWithin placeLimit lentLimit r → ranIn (answerOfRun r) ≡ reportOfRun r
@@ -117,5 +117,5 @@ ran-back (failed-within {i = i} {used = used} b h) =
     ∙ ap₂ errorAt (value-in 2 0 used i (omega arith) (omega arith) room) (place-in 2 0 used i (omega arith) (omega arith) room)
 ran-back (refused-within {r = r} h) = ap (λ (s : ℕ). ranBy s (answerOfRefusal r)) (refused-status r h) ∙ refused-report r h
 
-pub run-loses-nothing : (text values cells : List ℕ) (used : ℕ) → ranIn (answerOfRun (runText text values cells used .answer)) ≡ reportOfRun (runText text values cells used .answer)
+pub run-loses-nothing : (text values cells : List ℕ) (used : ℕ) → ranIn (answerOfRun (runText text values cells used .answer)) ≡ runTextReport text values cells used
 run-loses-nothing text values cells used = ran-back (run-within text values cells used)

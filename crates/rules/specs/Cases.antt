@@ -5,7 +5,7 @@ use mathlib.Core.Path.{_≡_, refl}
 use mathlib.Core.List.{List, [], _∷_, map}
 use Prim.Native.Nat.{ℕ}
 use lib.ListN.{replicate, take}
-use Rattle.script.specs.Answers.{Report, typeIs, valueIs, refusedWith, reportOfCheck, reportOfRun}
+use Rattle.script.specs.Answers.{Report, typeIs, valueIs, refusedWith, reportOfRun}
 use Rattle.script.specs.Rows.{rows, rowOf}
 use Rattle.script.specs.Table.{Table, wellFormed, operands, timesIn, uses, symsAround, tooDeep, treeTest, nodesTest, tableTest}
 use Rattle.script.specs.Table.Cases.{lend, int′, true′, var′, add′, if′, let′, ref′, set′, sym′}
@@ -14,7 +14,7 @@ use Rattle.script.specs.Tree.{shape, treeBy, treesFrom, trees, root, treeOf}
 use Rattle.script.specs.declared.Node.{Node}
 use Rattle.script.specs.declared.Place.{Place}
 use Rattle.script.specs.declared.Place.the-variants.{Nowhere, At}
-use Rattle.rules.specs.Checking.{checkTable, pathLimit, check}
+use Rattle.rules.specs.Checking.{checkTable, checkReport, pathLimit, check}
 use Rattle.rules.specs.Evaluation.{unaryOn, binaryOn, eval}
 use Rattle.rules.specs.Paths.{has, consistentAfter, lookup, bind, leaves}
 use Rattle.rules.specs.Running.{Run, runTable, runTest, allValid, valuesOf, allBytes}

@@ -316,7 +316,7 @@ module _ (ws : List ℕ) (depth turn : ℕ) (its : turn ≡ getD ws 1242 0 % 8) 
     pub noted-nothing : 6 < count → Noted table depth a t ws middle
     unfolding notedAs
     noted-nothing many =
-        let o : leb count 6 ≡ false = lt-leb 6 count many in
+        let o : leb count 6 ≡ false = lt-leb count 6 many in
         record {
           is = rw (sym its, sym (n .is), o) refl;
           same = middle-length;
