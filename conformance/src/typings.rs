@@ -1,4 +1,4 @@
-//! Typings of cells, as document 01 defines them, and the search for an extension after a run.
+//! Typings of cells, as docs/RUNS.md has them, and the search for an extension after a run.
 
 use crate::stations::{value_of, LOCATION, TRUTH, WORD};
 

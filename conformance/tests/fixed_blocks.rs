@@ -1,5 +1,5 @@
 //! Fixed scripts for symbolic blocks: writes and reads, equalities, branches, borders of blocks, and
-//! document 01's four traps.
+//! the four traps.
 
 use conformance::fixed::Trial;
 

@@ -1,4 +1,4 @@
-//! Fixed scripts: document 01's own cases, and the typed rules with 6, 7 and 8.
+//! Fixed scripts: P1 to P9 and what stands beside them, and the typed rules with 6, 7 and 8.
 
 use conformance::fixed::{accepted, gives, refused, refused_whole, station, text, word, Trial};
 
@@ -24,7 +24,7 @@ fn cases_of_document_01() {
     ]);
     let p9 = text("int 4294967295; int 1; add 0 1");
     trial.run("P9", &p9, &station(&[], &[]), &gives(word(0), &[]));
-    trial.end("cases of document 01");
+    trial.end("cases P1 to P9");
 }
 
 #[test]

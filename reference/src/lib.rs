@@ -1,4 +1,4 @@
-//! A checker and a runner for check-station scripts, written from document 01 alone.
+//! A checker and a runner for check-station scripts, written from the customer's paper ('document 01', see the README) alone.
 //!
 //! One module a concern: `script` holds the records and the table's own rules, `text` reads and
 //! writes script text, `typed` and `symbolic` hold the two sets of rules of the checker, `sum` and

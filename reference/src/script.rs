@@ -2,10 +2,10 @@
 
 use crate::types;
 
-/// Why an input is turned down: document 01's number, and its place where it has one.
+/// Why an input is turned down: its number, and its place where it has one.
 #[derive(Clone, Copy, PartialEq, Eq, Debug)]
 pub struct Refusal {
-    /// The number in document 01's list.
+    /// The number in the list of refusals.
     pub number: u8,
     /// The line (1, 2 and 4 in text) or the node (4 in a table, 5 to 13).
     pub place: Option<u32>,
@@ -32,7 +32,7 @@ impl Refusal {
 /// One record: "a kind, 0 to 14 in this order, and three operands of 32 bits".
 #[derive(Clone, Copy, PartialEq, Eq, Debug)]
 pub struct Node {
-    /// The word's number in document 01's order.
+    /// The word's number, in the order of the words.
     pub kind: u32,
     /// The operands; unused ones are 0.
     pub operands: [u32; 3],
@@ -56,7 +56,7 @@ const MAX_VARIABLE: u32 = 143;
 /// "At most 4 `sym` nodes lie on any way from the root."
 const MAX_SYMS: u32 = 4;
 
-/// The kinds' numbers, in document 01's order.
+/// The kinds' numbers.
 pub(crate) mod kind {
     pub const INT: u32 = 0;
     pub const TRUE: u32 = 1;

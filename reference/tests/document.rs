@@ -1,4 +1,4 @@
-//! Document 01's own cases, and at least one case for each refusal of a script in text.
+//! The paper's own cases, and at least one case for each refusal of a script in text.
 
 use reference::{
     check, check_line, check_text, read, run, run_text, type_name, write, Node, Outcome, Refusal,

@@ -1,5 +1,5 @@
 //! Random scripts: no input makes a call panic, writing undoes reading, and an accepted script runs
-//! without the error state to a value of its type (document 01's demand 3, on samples).
+//! without the error state to a value of its type (demand 3, on samples).
 
 use reference::{check, check_line, read, run, write, Node, Outcome, Script};
 

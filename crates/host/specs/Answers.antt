@@ -1,5 +1,5 @@
 -- An answer as one number of 64 bits, for a host in C: bits 0 to 7 its status, 8 to 15 a number, 16 to 31 a place or a count, 32 to 63 a value.
--- Document 01's numbers and places are those of `Answers` in `script`. Assumes nothing.
+-- The numbers and places of refusals are those of `Answers` in `script`. Assumes nothing.
 use mathlib.Core.List.{List}
 use mathlib.Core.Path.{_≡_}
 use Prim.Native.Nat.{ℕ, suc, _+_, _*_}

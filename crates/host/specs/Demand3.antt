@@ -1,4 +1,4 @@
--- Demand 3 (document 01) read off the contracts of the two calls that a host in C makes: what `teqharis_check` accepts, `teqharis_run` takes to a value,
+-- Demand 3 (docs/RUNS.md) read off the contracts of the two calls that a host in C makes: what `teqharis_check` accepts, `teqharis_run` takes to a value,
 -- within the limits, on all cells and entry values that some typing fits. Assumes nothing.
 use mathlib.Core.Bool.{Bool, true, _&&_}
 use mathlib.Core.List.{List}

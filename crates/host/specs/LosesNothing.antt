@@ -1,4 +1,4 @@
--- An answer as a number loses nothing: what a host takes apart from the number is document 01's report of the answer, for every text, all values and all
+-- An answer as a number loses nothing: what a host takes apart from the number is the report of the answer, for every text, all values and all
 -- cells. Assumes nothing.
 use mathlib.Core.List.{List}
 use mathlib.Core.Path.{_≡_, refl, ap, ap₂, _∙_}

@@ -1,4 +1,4 @@
--- The line that the checking program prints (document 01, 'Scripts to try'): `accepted` and the type, or `refused`, the number and the place or `-`; a tab
+-- The line that the checking program prints (docs/CHECKS.md, 'The checking program'): `accepted` and the type, or `refused`, the number and the place or `-`; a tab
 -- between fields, LF at the end. Assumes nothing.
 use mathlib.Core.List.{List, [], _∷_, _++_}
 use mathlib.Core.Path.{_≡_}

@@ -1,4 +1,4 @@
--- Demand 3 (document 01) read off the contracts of `records::check` and `records::run`: where a check of a table of records answers with a type, a run of the
+-- Demand 3 (docs/RUNS.md) read off the contracts of `records::check` and `records::run`: where a check of a table of records answers with a type, a run of the
 -- same table, within the limits and on cells and values that some typing fits, answers with a value of that type, and what it leaves in the lent cells
 -- fits an extension of that typing. Assumes nothing.
 use mathlib.Core.Bool.{true}

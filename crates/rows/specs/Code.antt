@@ -142,6 +142,7 @@ pub record Lists (ms : List ℕ) (n least : ℕ) (os : List ℕ) (count : ℕ) (
   pub same : length out ≡ length os
   pub many : count ≡ length (rowsFrom ms least n)
   pub rows : take count out ≡ rowsFrom ms least n
+  pub rest : (k : ℕ) → count ≤ k → getD out k 0 ≡ getD os k 0
 
 -- so many rows in order
 pub record Rows (ws os : List ℕ) (count : ℕ) : Type 0 where

@@ -1,5 +1,5 @@
--- The proved cases P1 to P9 of document 01 as one table. Each row is a script, a question and its answer, and the table is proved whole, by
--- computation. The tables below are of the same form: `Traps` tells the rules from document 01's traps, `Refusals` has the tests of tables, values and
+-- The proved cases P1 to P9 (docs/CHECKS.md, 'Worked cases') as one table. Each row is a script, a question and its answer, and the table is proved whole, by
+-- computation. The tables below are of the same form: `Traps` tells the rules from the traps, `Refusals` has the tests of tables, values and
 -- cells. Assumes nothing.
 use mathlib.Core.Path.{_≡_, refl}
 use mathlib.Core.List.{List, [], _∷_, map}

@@ -1,5 +1,5 @@
--- Typed rules and symbolic rules over trees, each handing over to the other at a block, and the checker's whole answer for a table (document 01,
--- 'Typed mode', 'Symbolic mode', 'Turned down'). The path limit is a parameter: certification has 64. Assumes nothing.
+-- Typed rules and symbolic rules over trees, each handing over to the other at a block, and the checker's whole answer for a table (docs/CHECKS.md). The
+-- path limit is a parameter: certification has 64. Assumes nothing.
 use mathlib.Core.List.{List, [], _∷_, _++_, map}
 use mathlib.Core.Option.{Option, none, some}
 use mathlib.Core.Path.{_≡_}

@@ -1,4 +1,4 @@
--- Demand 3 (document 01): an accepted script, run within the limits on any cells and entry values that some typing fits, ends with a value, never in
+-- Demand 3 (docs/RUNS.md): an accepted script, run within the limits on any cells and entry values that some typing fits, ends with a value, never in
 -- the error state, never with a refusal; every such typing has an extension that fits the end cells and gives the value the reported type.
 -- Proved over the rules and evaluation, for every path limit. Assumes nothing.
 use mathlib.Core.Path.{_≡_, refl, sym, ap, _∙_, subst}

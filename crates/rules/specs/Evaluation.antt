@@ -1,4 +1,4 @@
--- Evaluation (document 01, 'Evaluation'): a value and the cells, or the node of the error state and the cells as they were then. The used count is
+-- Evaluation (docs/RUNS.md, 'What it does'): a value and the cells, or the node of the error state and the cells as they were then. The used count is
 -- the length of the cells. Assumes nothing.
 pub mod Every
 pub mod Inside

@@ -1,4 +1,4 @@
--- Paths of symbolic execution (document 01, 'Symbolic mode'): the state of a path with its write log, and the decision tree whose leaves are the
+-- Paths of symbolic execution (docs/CHECKS.md, 'Paths' and 'The log'): the state of a path with its write log, and the decision tree whose leaves are the
 -- paths in their order. Assumes nothing.
 use mathlib.Core.Bool.{Bool, true, false, _&&_, _||_}
 use mathlib.Core.List.{List, [], _∷_, _++_}

@@ -1,4 +1,4 @@
--- Satisfiable formulas (document 01, 'Symbolic mode'): some assignment of true and false to the different atoms makes the formula true.
+-- Satisfiable formulas (docs/CHECKS.md, 'Symbolic mode'): some assignment of true and false to the different atoms makes the formula true.
 -- Assumes nothing.
 pub mod Laws
 pub mod Apart

@@ -1,4 +1,4 @@
--- Symbolic values (document 01, 'Symbolic mode'): sums for words, formulas over atoms for truths, symbols for references. Assumes nothing.
+-- Symbolic values (docs/CHECKS.md, 'Values'): sums for words, formulas over atoms for truths, symbols for references. Assumes nothing.
 pub mod Laws
 use mathlib.Core.Bool.{Bool, true, false, not, _&&_, _||_}
 use mathlib.Core.List.{List, [], _∷_, _++_}

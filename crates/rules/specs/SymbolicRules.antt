@@ -1,4 +1,4 @@
--- The rules of the operators on symbolic values (document 01, 'Symbolic mode'). Assumes nothing.
+-- The rules of the operators on symbolic values (docs/CHECKS.md, 'Nodes on a path'). Assumes nothing.
 use mathlib.Core.Bool.{Bool, true, false}
 use mathlib.Core.List.{List, [], _∷_}
 use mathlib.Core.Option.{Option, none, some}

@@ -1,4 +1,4 @@
--- The type rules of the operators (document 01, 'Typed mode'). A type is its code: 0 is `i`, 1 is `b`, and 2 more is one `r` more. Assumes nothing.
+-- The type rules of the operators (docs/CHECKS.md, 'Typed mode'). A type is its code: 0 is `i`, 1 is `b`, and 2 more is one `r` more. Assumes nothing.
 use mathlib.Core.Bool.{Bool}
 use Prim.Native.Nat.{ℕ, zero, suc}
 use lib.Dec.{leb, eqb}

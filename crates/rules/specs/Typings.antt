@@ -1,4 +1,4 @@
--- Typings of cells, in the words of demand 3 (document 01, 'Evaluation'). A typing is the list of its cells' types. Assumes nothing.
+-- Typings of cells, in the words of demand 3 (docs/RUNS.md, 'What is promised of an accepted script'). A typing is the list of its cells' types. Assumes nothing.
 use mathlib.Core.Bool.{Bool}
 use mathlib.Core.List.{List, [], _∷_}
 use Prim.Native.Nat.{ℕ, zero, suc, _^_, _≤_, _<_}

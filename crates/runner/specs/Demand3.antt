@@ -1,4 +1,4 @@
--- Demand 3 (document 01) read off the contract of `runner::run`: for a table that the rules accept, lent within the limits with cells and values that
+-- Demand 3 (docs/RUNS.md) read off the contract of `runner::run`: for a table that the rules accept, lent within the limits with cells and values that
 -- some typing fits, the call answers with a value, and what it leaves in the lent cells fits an extension of that typing. Assumes nothing.
 use mathlib.Core.Bool.{true}
 use mathlib.Core.List.{List}

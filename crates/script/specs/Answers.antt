@@ -1,4 +1,4 @@
--- What document 01 has each answer say: the number and place of a refusal ('Turned down'), the kind and the 32 bits of a value ('Evaluation'), and the
+-- What each answer says: the number and place of a refusal (docs/REFUSALS.md), the kind and the 32 bits of a value (docs/RUNS.md), and the
 -- report of each call's answer. Assumes nothing.
 use mathlib.Core.Bool.{true, false}
 use Prim.Native.Nat.{ℕ}

@@ -1,4 +1,4 @@
--- The limits of a script, and a script by its counts (document 01, 'Script text'). The code's names for the limits are the constants of
+-- The limits of a script, and a script by its counts (docs/SCRIPTS.md, 'Limits'). The code's names for the limits are the constants of
 -- `Script`. Assumes nothing.
 use mathlib.Core.Bool.{Bool, true, false, _&&_}
 use Prim.Native.Nat.{ℕ, _+_}

@@ -1,4 +1,4 @@
--- A table as a call lends it, and the tests that a table passes or is turned down by (document 01, 'Turned down': 32, 2, 3, 33, 4, 5, 13, in
+-- A table as a call lends it, and the tests that a table passes or is turned down by (docs/REFUSALS.md: 32, 2, 3, 33, 4, 5, 13, in
 -- this order). Only the used places are looked at, and a refusal names the lowest node that it fits. Assumes nothing.
 use mathlib.Core.Bool.{Bool, false, not, _&&_}
 use mathlib.Core.List.{List, [], _∷_}

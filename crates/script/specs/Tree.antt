@@ -1,4 +1,4 @@
--- The tree of a table (document 01, 'Script text'): each node with its number, over the trees of its operands. The nodes are grouped by how many
+-- The tree of a table (docs/SCRIPTS.md, 'Tree and variables'): each node with its number, over the trees of its operands. The nodes are grouped by how many
 -- operands they take, with the operator as a parameter. Assumes nothing.
 use mathlib.Core.Bool.{Bool, false}
 use mathlib.Core.List.{List, [], _∷_, _++_}

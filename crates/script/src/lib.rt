@@ -49,7 +49,7 @@ impl Value {
     }
 }
 
-// Why an input is turned down, with the line or the node where it has a place. `number` gives document 01's number.
+// Why an input is turned down, with the line or the node where it has a place. `number` gives its number.
 pub enum Refusal {
     BadLine(u32),
     TooManyAt(u32),
@@ -80,7 +80,7 @@ pub enum Place {
 }
 
 impl Refusal {
-    // Document 01's number of this refusal.
+    // The number of this refusal.
     pub fn number(self) -> u32
         ensures { λ r. ⌜ r ≡ numberOf self ⌝ }
     {

@@ -16,7 +16,7 @@ use crate::Script;
 // How many kinds of node there are.
 pub const KINDS: u32 = 15;
 
-// The kinds of the words, in document 01's order.
+// The kinds of the words.
 pub const INT: u32 = 0;
 
 pub const TRUE: u32 = 1;

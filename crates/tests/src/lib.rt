@@ -1,4 +1,4 @@
-// The tests of a table in its flat form, in document 01's order: 32, 2, 3, 33, 4, 5, 13. Each loop passes once over the nodes.
+// The tests of a table in its flat form, in their order: 32, 2, 3, 33, 4, 5, 13. Each loop passes once over the nodes.
 ghost use mathlib.Core.Path.{_≡_};
 ghost use Prim.Native.Nat.{_+_, _<_, _≤_};
 ghost use lib.Dec.{leb};

@@ -1,4 +1,4 @@
--- The bytes that a script's text is made of (document 01, 'Script text'). Assumes nothing.
+-- The bytes that a script's text is made of (docs/SCRIPTS.md). Assumes nothing.
 use mathlib.Core.List.{List, [], _∷_}
 use Prim.Native.Nat.{ℕ}
 

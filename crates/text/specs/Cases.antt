@@ -1,4 +1,4 @@
--- Texts to try, with what document 01 has the reader say, and tables to write into outputs of several lengths. Proved together by computation.
+-- Texts to try, with what the reader has to say of each, and tables to write into outputs of several lengths. Proved together by computation.
 -- Assumes nothing.
 use mathlib.Core.List.{List, [], _∷_, _++_, map}
 use mathlib.Core.Path.{_≡_, refl}

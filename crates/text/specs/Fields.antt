@@ -1,4 +1,4 @@
--- What a field says (document 01, 'Script text'): a number, a type or a word. Assumes nothing.
+-- What a field says (docs/SCRIPTS.md): a number, a type or a word. Assumes nothing.
 use mathlib.Core.Bool.{Bool, true, false, not, _&&_}
 use mathlib.Core.List.{List, [], _∷_}
 use mathlib.Core.Option.{Option, none, some}

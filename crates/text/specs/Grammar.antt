@@ -1,4 +1,4 @@
--- What a text means (document 01, 'Script text' and 'Turned down'): a script's entries and nodes, or the refusal that it meets first, in the order 31;
+-- What a text means (docs/SCRIPTS.md, docs/REFUSALS.md): a script's entries and nodes, or the refusal that it meets first, in the order 31;
 -- 1, 2, 4 line by line; 3, 5, 13. Assumes nothing.
 use mathlib.Core.List.{List, [], _∷_, _++_}
 use mathlib.Core.Option.{Option, none, some}

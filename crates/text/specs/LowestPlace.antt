@@ -1,4 +1,4 @@
--- The place of a refused text (document 01, 'Turned down'): a line's refusal is that of the lowest line that is refused, all before it being taken, and a
+-- The place of a refused text (docs/REFUSALS.md, 'Which one comes first'): a line's refusal is that of the lowest line that is refused, all before it being taken, and a
 -- node's refusal is that of the lowest node that fails the test, all lines being taken. Assumes nothing.
 use mathlib.Core.Bool.{Bool, true, false, not}
 use mathlib.Core.List.{List, [], _∷_, _++_}

@@ -1,4 +1,4 @@
--- Every script has one text (document 01, 'Script text'): a text that is read is the text of what it means, so that no two texts mean the same, and
+-- Every script has one text (docs/SCRIPTS.md): a text that is read is the text of what it means, so that no two texts mean the same, and
 -- writing what a call of the reader read gives the same bytes back. The table that is read passes every test. Assumes nothing.
 use mathlib.Core.Bool.{Bool, true, false, not, _&&_}
 use mathlib.Core.List.{List, [], _++_}

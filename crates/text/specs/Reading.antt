@@ -1,4 +1,4 @@
--- The whole answer of reading a text into a lent table, and what every lent place then holds (document 01, 'Turned down'): 32 comes before all else; a
+-- The whole answer of reading a text into a lent table, and what every lent place then holds (docs/SCRIPTS.md, 'Reading and writing'): 32 comes before all else; a
 -- refused reading leaves `false` in every place of the table and 0 in every entry, and after success the unused places hold the same.
 -- Assumes nothing.
 use mathlib.Core.Bool.{_&&_}

@@ -1,4 +1,4 @@
--- What is written reads back as the same table (document 01, 'Script text'): for every table that passes its tests, its text is within the limit and
+-- What is written reads back as the same table (docs/SCRIPTS.md): for every table that passes its tests, its text is within the limit and
 -- means its entries and nodes, and reading what a call of the writer wrote fills a lent table with the same. Assumes nothing.
 use mathlib.Core.Bool.{Bool, true, false, not}
 use mathlib.Core.List.{List, [], _++_}

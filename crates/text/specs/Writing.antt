@@ -1,4 +1,4 @@
--- The text of a script, and the whole answer of writing it into lent bytes (document 01, 'Script text' and 'Turned down'): the tests of the table, then
+-- The text of a script, and the whole answer of writing it into lent bytes (docs/SCRIPTS.md, 'Reading and writing'): the tests of the table, then
 -- 36. A refusal changes nothing lent, and bytes after the text are untouched. Assumes nothing.
 use mathlib.Core.Bool.{Bool}
 use mathlib.Core.List.{List, [], _∷_, _++_}

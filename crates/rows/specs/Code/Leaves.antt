@@ -34,10 +34,11 @@ pub record Listing (ms : List ℕ) (n least : ℕ) (os ls : List ℕ) (count i :
   pub same : length ls ≡ length os
   pub many : count ≡ length (rowsFrom ms least i)
   pub rows : take count ls ≡ rowsFrom ms least i
+  pub rest : (k : ℕ) → count ≤ k → getD ls k 0 ≡ getD os k 0
 
 pub listing : (ms : List ℕ) (n least : ℕ) (os : List ℕ) → Listing ms n least os os 0 0
 unfolding rowsFrom
-listing ms n least os = record { within = omega arith; few = omega arith; same = refl; many = refl; rows = refl }
+listing ms n least os = record { within = omega arith; few = omega arith; same = refl; many = refl; rows = refl; rest = λ k h. refl }
 
 one-few : (t : Bool) (count i : ℕ) → count ≤ i → pick t count (count + 1) ≤ i + 1
 one-few true count i h = omega arith
@@ -56,6 +57,11 @@ one-more : (t : Bool) (ls rows : List ℕ) (count i : ℕ) → count < length ls
 one-more true ls rows count i h e = e
 one-more false ls rows count i h e = rw (add-one count, take-suc-set ls count i h, e)
 
+one-rest : (t : Bool) (os ls : List ℕ) (count i : ℕ) → ((k : ℕ) → count ≤ k → getD ls k 0 ≡ getD os k 0) → (k : ℕ) → pick t count (count + 1) ≤ k
+    → getD (pick t ls (set ls count i)) k 0 ≡ getD os k 0
+one-rest true os ls count i h k l = h k l
+one-rest false os ls count i h k l = getD-set-other ls count k i 0 (λ e. omega arith) ∙ h k (omega arith)
+
 pub listing-on : {ms : List ℕ} {n least : ℕ} {os ls : List ℕ} {count i : ℕ} (next : ℕ) (out : List ℕ) → Listing ms n least os ls count i → i < n
     → n ≤ length os → next ≡ countAfter ms least i count → out ≡ listedRow ms least ls i count → Listing ms n least os out next (i + 1)
 unfolding countAfter listedRow
@@ -70,6 +76,7 @@ listing-on {ms} {n} {least} {os} {ls} {count} {i} next out k h l en eo =
       same = one-same t ls count i ∙ k .same;
       many = one-many t (rowsFrom ms least i) count i (k .many) ∙ ap length (sym (rowsFrom-on ms least i));
       rows = one-more t ls (rowsFrom ms least i) count i (omega arith) (k .rows) ∙ sym (rowsFrom-on ms least i);
+      rest = one-rest t os ls count i (k .rest);
     })
 
 pub listing-end : {ms : List ℕ} {n least : ℕ} {os ls : List ℕ} {count i : ℕ} → Listing ms n least os ls count i → n ≤ i → Lists ms n least os count ls
@@ -78,6 +85,7 @@ listing-end {ms} {n} {least} {os} {ls} {count} {i} k h =
       same = k .same;
       many = ended (λ (m : ℕ). count ≡ length (rowsFrom ms least m)) i n (k .within) h (k .many);
       rows = ended (λ (m : ℕ). take count ls ≡ rowsFrom ms least m) i n (k .within) h (k .rows);
+      rest = k .rest;
     }
 
 -- ---- the numbers of the atoms

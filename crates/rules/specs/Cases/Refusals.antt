@@ -28,7 +28,7 @@ refusals =
     -- a table's own refusal is the answer, of the checker and of the runner, and comes before 35 and 34
     ∷ refuses [] (int′ 1 ∷ add′ 0 0 ∷ []) 5 (At 0)
     ∷ record { table = lend [] (int′ 1 ∷ add′ 0 0 ∷ []); question = run? (five 3 0) (zeros 4) 65; answer = runs (refusedWith 5 (At 0)) (zeros 4) }
-    -- 9 at a path's end: the script whose line document 01 prints whole
+    -- 9 at a path's end: the script whose line docs/CHECKS.md prints
     ∷ refuses (2 ∷ []) (var′ 0 ∷ true′ ∷ set′ 0 1 ∷ sym′ 2 ∷ []) 9 (At 3)
     -- 12: ten atoms and eleven
     ∷ accepts (replicate 10 1) (var′ 0 ∷ var′ 1 ∷ var′ 2 ∷ var′ 3 ∷ var′ 4 ∷ var′ 5 ∷ var′ 6 ∷ var′ 7 ∷ var′ 8 ∷ var′ 9 ∷ and′ 8 9 ∷ and′ 7 10 ∷ and′ 6 11 ∷ and′ 5 12 ∷ and′ 4 13 ∷ and′ 3 14 ∷ and′ 2 15 ∷ and′ 1 16 ∷ and′ 0 17 ∷ int′ 1 ∷ int′ 2 ∷ if′ 18 19 20 ∷ sym′ 21 ∷ []) 0

@@ -1,4 +1,4 @@
--- Rows that tell the rules from document 01's four traps and from the wrong programs of the reviewer's checklist, proved together by computation.
+-- Rows that tell the rules from the four traps (docs/CHECKS.md, 'What is easily got wrong') and from the wrong programs of the reviewer's checklist, proved together by computation.
 -- Assumes nothing.
 use mathlib.Core.Bool.{true}
 use mathlib.Core.Path.{_≡_, refl}
