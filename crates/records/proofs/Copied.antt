@@ -32,13 +32,13 @@ use denote.Triple.Spec.{tripleOf}
 use denote.Triple.Statement.{Contract, Triple}
 use Rattle.script.specs.declared.Node.{Node}
 use Rattle.script.proofs.Node as T
-use Rattle.records.specs.Code.Copies.{CopiedOut}
-use Rattle.records.proofs.Calling.{called}
-use Rattle.records.proofs.Locals.{at-spot}
-use Rattle.records.proofs.Lent.{Elems, refAt, made, counts, back-mut}
-use Rattle.records.proofs.Sliced.{slicing, sliced-mut, sliced-shr}
-use Rattle.records.proofs.copies.copy_out as copy-out
-use Rattle.records.proofs.copies.copy_out.Symbol.{name as #records·copies·copy-out}
+use Rattle.copies.specs.Copies.{CopiedOut}
+use Rattle.copies.proofs.Calling.{called}
+use Rattle.copies.proofs.Locals.{at-spot}
+use Rattle.copies.proofs.Lent.{Elems, refAt, made, counts, back-mut}
+use Rattle.copies.proofs.Sliced.{slicing, sliced-mut, sliced-shr}
+use Rattle.copies.proofs.copy_out as copy-out
+use Rattle.copies.proofs.copy_out.Symbol.{name as #copies·copy-out}
 
 -- the types of the table and of `flat`
 abbrev Table : Ty
@@ -55,7 +55,7 @@ module _ (n f : ℕ) where
   module _ (l m s m′ s′ : ℕ) where
     abbrev copying : Body → Body
     copying rest = zeroing (slicing (place f []) (int w64 n) m s
-        (seq (call #records·copies·copy-out (copy (place 1 []) ∷ copy (place s []) ∷ []) (place l [])) (slicing (place f []) (int w64 n) m′ s′ rest)))
+        (seq (call #copies·copy-out (copy (place 1 []) ∷ copy (place s []) ∷ []) (place l [])) (slicing (place f []) (int w64 n) m′ s′ rest)))
 
 module _ {M : Type 1} (𝓤 : URA M) (H : Heap 𝓤) (A : Atoms 𝓤) (mem : Memory → SProp 𝓤) (run : Routine → Fun 𝓤) where
   abbrev pub CopyOut : Contract 𝓤
@@ -74,7 +74,7 @@ module _ {M : Type 1} {𝓤 : URA M} {H : Heap 𝓤} {A : Atoms 𝓤} {K : Type 
 
 module _ {M : Type 1} {𝓤 : URA M} {H : Heap 𝓤} {A : Atoms 𝓤} {K : Type 0} {W : Given 𝓤 H A} {Γ : List (Item 𝓤)} {C : Calls 𝓤 H} {Λ : Loops 𝓤 H} {E : Env 𝓤 H}
     {rest : Body} {p : Post 𝓤 H} {f l m s m′ s′ lf ll lm ls lm′ ls′ lt : ℕ} {κ : Lft} {q : Share} {v : Val} where
-  pub copies : K → (mem : Memory → SProp 𝓤) (run : Routine → Fun 𝓤) → FmC 𝓤 H (W .laws) C → Triple 𝓤 (C #records·copies·copy-out) (CopyOut 𝓤 H A mem run) → (x : RefT (List Node)) (n : ℕ) → Room u32 n
+  pub copies : K → (mem : Memory → SProp 𝓤) (run : Routine → Fun 𝓤) → FmC 𝓤 H (W .laws) C → Triple 𝓤 (C #copies·copy-out) (CopyOut 𝓤 H A mem run) → (x : RefT (List Node)) (n : ℕ) → Room u32 n
       → spotOf 𝓤 H E f ≡ (Numbers n, lf, 0) → spotOf 𝓤 H E l ≡ (tyInt w64, ll, 0) → spotOf 𝓤 H E m ≡ (tyRef erased mut (Numbers n), lm, 0)
       → spotOf 𝓤 H E s ≡ (sliceTy (tyRef erased mut (tyInt w32)), ls, 0) → spotOf 𝓤 H E m′ ≡ (tyRef erased imm (Numbers n), lm′, 0)
       → spotOf 𝓤 H E s′ ≡ (sliceTy (tyRef erased imm (tyInt w32)), ls′, 0) → spotOf 𝓤 H E 1 ≡ (Table, lt, 0)

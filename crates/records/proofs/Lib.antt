@@ -1,11 +1,1 @@
-pub mod Again
-pub mod Answered
-pub mod Calling
 pub mod Copied
-pub mod Counted
-pub mod Lent
-pub mod Locals
-pub mod OneNode
-pub mod Row
-pub mod Said
-pub mod Sliced

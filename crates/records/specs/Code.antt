@@ -1,3 +1,2 @@
 -- What the contracts of the copying functions say, and the laws of the calls.
-pub mod Copies
 pub mod Whole

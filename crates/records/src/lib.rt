@@ -1,14 +1,12 @@
 // The calls over a lent table of records: checking, running, writing and reading. Each copies the table to flat form, or from it, and ends in the call over
-// a table in flat form, which makes every refusal. `copies` copies.
+// a table in flat form, which makes every refusal.
 ghost use mathlib.Core.Path.{_≡_};
 ghost use Prim.Native.Nat.{_*_, _≤_};
 ghost use lib.ListN.{length, take};
 ghost use Rattle.script.specs.Flat.{tableIn};
 ghost use Rattle.script.specs.Limits.{nodeLimit};
-ghost use Rattle.records.specs.Code.Copies.{places};
+ghost use Rattle.copies.specs.Copies.{places};
 ghost use Rattle.records.specs.Records.{tableOf, Checks, Runs, Writes, Reads};
-
-pub mod copies;
 
 use copies::copy_in;
 use copies::copy_out;

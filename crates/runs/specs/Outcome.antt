@@ -6,7 +6,7 @@ use Rattle.script.specs.declared.Reading.{Reading}
 use Rattle.script.specs.declared.Reading.the-variants.{Read, Refused}
 use Rattle.text.specs.Reading.{reading}
 use Rattle.rules.specs.Running.{runTable}
-use Rattle.records.specs.Code.Copies.{copied}
+use Rattle.copies.specs.Copies.{copied}
 use Rattle.trial.specs.Tables.{placeCount, tableAs}
 
 -- what a run of the table that was read leaves; as they were, if none was

@@ -11,7 +11,7 @@ use Rattle.script.specs.declared.Writing.{Writing}
 use Rattle.script.specs.Table.{Table}
 use Rattle.text.specs.Reading.{reading}
 use Rattle.text.specs.Writing.{Outcome, writing}
-use Rattle.records.specs.Code.Copies.{copied}
+use Rattle.copies.specs.Copies.{copied}
 use Rattle.records.specs.Records.{Writes}
 use Rattle.trial.specs.Tables.{placeCount, tableAs, ReadBack}
 

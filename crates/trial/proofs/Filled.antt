@@ -35,14 +35,14 @@ use denote.Triple.Statement.{Contract, Triple}
 use Rattle.script.specs.declared.Node.{Node}
 use Rattle.script.proofs.Node as T
 use Rattle.script.proofs.Node.Laws as T′
-use Rattle.records.specs.Code.Copies.{places}
-use Rattle.records.proofs.Calling.{called}
-use Rattle.records.proofs.Lent.{Elems, refAt, made, counts, back-mut}
-use Rattle.records.proofs.Locals.{at-spot}
-use Rattle.records.proofs.Row as Row
-use Rattle.records.proofs.Sliced.{slicing, sliced-mut, sliced-shr}
-use Rattle.records.proofs.copies.copy_in as copy-in
-use Rattle.records.proofs.copies.copy_in.Symbol.{name as #records·copies·copy-in}
+use Rattle.copies.specs.Copies.{places}
+use Rattle.copies.proofs.Calling.{called}
+use Rattle.copies.proofs.Lent.{Elems, refAt, made, counts, back-mut}
+use Rattle.copies.proofs.Locals.{at-spot}
+use Rattle.copies.proofs.Row as Row
+use Rattle.copies.proofs.Sliced.{slicing, sliced-mut, sliced-shr}
+use Rattle.copies.proofs.copy_in as copy-in
+use Rattle.copies.proofs.copy_in.Symbol.{name as #copies·copy-in}
 
 -- what each place holds at first
 abbrev stale : Node
@@ -73,7 +73,7 @@ module _ (n f i m s : ℕ) where
   -- and then the call, and the slice s′ by way of the reference m′
   module _ (u m′ s′ : ℕ) where
     abbrev pub filling : Body → Body
-    filling rest = staling (seq (call #records·copies·copy-in (copy (place s []) ∷ copy (place 1 []) ∷ []) (place u [])) (slicing (place f []) (int w64 n) m′ s′ rest))
+    filling rest = staling (seq (call #copies·copy-in (copy (place s []) ∷ copy (place 1 []) ∷ []) (place u [])) (slicing (place f []) (int w64 n) m′ s′ rest))
 
 module _ {M : Type 1} {𝓤 : URA M} {H : Heap 𝓤} {A : Atoms 𝓤} {K : Type 0} {W : Given 𝓤 H A} {Γ : List (Item 𝓤)} {C : Calls 𝓤 H} {Λ : Loops 𝓤 H} {E : Env 𝓤 H} {rest : Body} {p : Post 𝓤 H}
     {f i m s lf li lm ls : ℕ} where
@@ -102,7 +102,7 @@ module _ {M : Type 1} (𝓤 : URA M) (H : Heap 𝓤) (A : Atoms 𝓤) (mem : Mem
 
 module _ {M : Type 1} {𝓤 : URA M} {H : Heap 𝓤} {A : Atoms 𝓤} {K : Type 0} {W : Given 𝓤 H A} {Γ : List (Item 𝓤)} {C : Calls 𝓤 H} {Λ : Loops 𝓤 H} {E : Env 𝓤 H} {rest : Body} {p : Post 𝓤 H}
     {f i m s u m′ s′ lf li lm ls lu lm′ ls′ lt : ℕ} {κ : Lft} {q : Share} {τ : Ty} {v : Val} where
-  pub fills : K → (mem : Memory → SProp 𝓤) (run : Routine → Fun 𝓤) → FmC 𝓤 H (W .laws) C → Triple 𝓤 (C #records·copies·copy-in) (CopyIn 𝓤 H A mem run) → (flat : RefT (List ℕ)) (n : ℕ) → Room T.the-row n
+  pub fills : K → (mem : Memory → SProp 𝓤) (run : Routine → Fun 𝓤) → FmC 𝓤 H (W .laws) C → Triple 𝓤 (C #copies·copy-in) (CopyIn 𝓤 H A mem run) → (flat : RefT (List ℕ)) (n : ℕ) → Room T.the-row n
       → spotOf 𝓤 H E f ≡ (Records n, lf, 0) → spotOf 𝓤 H E i ≡ (T′.mir, li, 0) → spotOf 𝓤 H E m ≡ (tyRef erased mut (RecordsAt n), lm, 0) → spotOf 𝓤 H E s ≡ (sliceTy (tyRef erased mut RecordAt), ls, 0)
       → spotOf 𝓤 H E u ≡ (tyUnit, lu, 0) → spotOf 𝓤 H E m′ ≡ (tyRef erased imm (RecordsAt n), lm′, 0) → spotOf 𝓤 H E s′ ≡ (sliceTy (tyRef erased imm RecordAt), ls′, 0) → spotOf 𝓤 H E 1 ≡ (τ, lt, 0)
       -- what follows has [the slice; its token; the lender's part; _m′; _s′; flat's token; _m; _s; _i; _u; _1; …]

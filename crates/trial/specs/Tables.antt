@@ -7,7 +7,7 @@ use lib.ListN.{length}
 use Rattle.script.specs.Table.{Table}
 use Rattle.script.specs.declared.Reading.{Reading}
 use Rattle.text.specs.Reading.{reading}
-use Rattle.records.specs.Code.Copies.{copied, places}
+use Rattle.copies.specs.Copies.{copied, places}
 use Rattle.records.specs.Records.{tableOf}
 
 -- two places more than a script can use

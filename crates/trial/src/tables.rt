@@ -3,8 +3,8 @@
 ghost use lib.ListN.{length};
 ghost use Rattle.records.specs.Records.{Checks, Runs, Writes};
 ghost use Rattle.trial.specs.Tables.{tableAs, ReadBack};
-use records::copies::copy_in;
-use records::copies::copy_out;
+use copies::copy_in;
+use copies::copy_out;
 use script::Checked;
 use script::Node;
 use script::Ran;

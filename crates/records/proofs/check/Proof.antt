@@ -38,17 +38,17 @@ use Rattle.script.specs.Flat.{tableIn}
 use Rattle.script.proofs.Checked as T
 use Rattle.script.proofs.Checked.Laws as T′
 use Rattle.script.proofs.Node as N
-use Rattle.records.specs.Code.Copies.Laws.{copied-fits}
+use Rattle.copies.specs.Copies.Laws.{copied-fits}
 use Rattle.records.specs.Code.Whole.{check-copied}
 use Rattle.records.specs.Records.{Checks}
-use Rattle.records.proofs.Answered.{answers}
-use Rattle.records.proofs.Calling.{Toks, Walk, ends, proves}
+use Rattle.copies.proofs.Answered.{answers}
+use Rattle.copies.proofs.Calling.{Toks, Walk, ends, proves}
 use Rattle.records.proofs.Copied.{CopyOut, copies}
-use Rattle.records.proofs.Lent.{refAt}
-use Rattle.records.proofs.Locals.{var, freed}
-use Rattle.records.proofs.copies.copy_out.Symbol as copy-out-def
-use Rattle.records.proofs.copies.copy_out.Symbol.{name as #records·copies·copy-out}
-use Rattle.records.proofs.copies.copy_out.Met as copy-out-thm
+use Rattle.copies.proofs.Lent.{refAt}
+use Rattle.copies.proofs.Locals.{var, freed}
+use Rattle.copies.proofs.copy_out.Symbol as copy-out-def
+use Rattle.copies.proofs.copy_out.Symbol.{name as #copies·copy-out}
+use Rattle.copies.proofs.copy_out.Met as copy-out-thm
 use Rattle.records.proofs.check_flat as check-flat
 use Rattle.records.proofs.check_flat.Symbol as check-flat-def
 use Rattle.records.proofs.check_flat.Symbol.{name as #records·check-flat}
@@ -65,7 +65,7 @@ module _ {M : Type 1} (𝓤 : URA M) (H : Heap 𝓤) (A : Atoms 𝓤) (mem : Mem
   abbrev CheckFlat : Contract 𝓤
   CheckFlat = tripleOf 𝓤 H A check-flat.signature (check-flat.spec 𝓤 H A mem run)
 
-  module _ (W : Given 𝓤 H A) (𝓣 : Tables 𝓤 H) (known-copy : Triple 𝓤 (𝓣 .C #records·copies·copy-out) (CopyOut 𝓤 H A mem run)) (known-flat : Triple 𝓤 (𝓣 .C #records·check-flat) CheckFlat) where
+  module _ (W : Given 𝓤 H A) (𝓣 : Tables 𝓤 H) (known-copy : Triple 𝓤 (𝓣 .C #copies·copy-out) (CopyOut 𝓤 H A mem run)) (known-flat : Triple 𝓤 (𝓣 .C #records·check-flat) CheckFlat) where
     module _ (κs : Lfts 2) (qs : Shares 2) (a : Args check.signature κs) where
       abbrev vals : Vals check.signature κs
       vals = valss (typesAt (check.signature .params) κs) (spells κs) a
@@ -112,5 +112,5 @@ check-spec 𝓤 H 𝓜 𝓖 𝓡 =
     entered 𝓤 H (tripleOf 𝓤 H (𝓖 .A) check.signature (check.spec 𝓤 H (𝓖 .A) (𝓜 .mem) (𝓡 .run)))
     (tables 𝓤 H 𝓜 𝓡 code.env .C) (tables 𝓤 H 𝓜 𝓡 code.env .Λ) #records·check code.function (code.unfolded 𝓤 H 𝓜 𝓡)
     (check-meets 𝓤 H (𝓖 .A) (𝓜 .mem) (𝓡 .run) (givenOf 𝓤 H 𝓜 𝓖) (tablesOf 𝓤 H 𝓜 (tables 𝓤 H 𝓜 𝓡 code.env))
-    (cited 𝓤 H (CopyOut 𝓤 H (𝓖 .A) (𝓜 .mem) (𝓡 .run)) 𝓜 𝓡 code.env #records·copies·copy-out copy-out-def.routine code.calls-records·copies·copy-out (copy-out-thm.met 𝓤 H 𝓜 𝓖 𝓡))
+    (cited 𝓤 H (CopyOut 𝓤 H (𝓖 .A) (𝓜 .mem) (𝓡 .run)) 𝓜 𝓡 code.env #copies·copy-out copy-out-def.routine code.calls-records·copies·copy-out (copy-out-thm.met 𝓤 H 𝓜 𝓖 𝓡))
     (cited 𝓤 H (CheckFlat 𝓤 H (𝓖 .A) (𝓜 .mem) (𝓡 .run)) 𝓜 𝓡 code.env #records·check-flat check-flat-def.routine code.calls-records·check-flat (check-flat-thm.met 𝓤 H 𝓜 𝓖 𝓡)))

@@ -41,20 +41,20 @@ use Rattle.script.proofs.Node as T
 use Rattle.script.proofs.Reading as Z
 use Rattle.script.proofs.Reading.Laws as Z′
 use Rattle.records.specs.Records.{Reads}
-use Rattle.records.specs.Code.Copies.{places}
-use Rattle.records.proofs.Calling.{Toks, called, Walk, ends, proves}
+use Rattle.copies.specs.Copies.{places}
+use Rattle.copies.proofs.Calling.{Toks, called, Walk, ends, proves}
 use Rattle.records.proofs.Copied.{zeroed}
-use Rattle.records.proofs.Lent.{refAt, let-go, back-mut, back-shr}
-use Rattle.records.proofs.Locals.{var, freed}
-use Rattle.records.proofs.Sliced.{again, sliced-mut, sliced-shr}
+use Rattle.copies.proofs.Lent.{refAt, let-go, back-mut, back-shr}
+use Rattle.copies.proofs.Locals.{var, freed}
+use Rattle.copies.proofs.Sliced.{again, sliced-mut, sliced-shr}
 use Rattle.records.proofs.read_flat as read-flat
 use Rattle.records.proofs.read_flat.Symbol as read-flat-def
 use Rattle.records.proofs.read_flat.Symbol.{name as #records·read-flat}
 use Rattle.records.proofs.read_flat.Met as read-flat-thm
-use Rattle.records.proofs.copies.copy_in as copy-in
-use Rattle.records.proofs.copies.copy_in.Symbol as copy-in-def
-use Rattle.records.proofs.copies.copy_in.Symbol.{name as #records·copies·copy-in}
-use Rattle.records.proofs.copies.copy_in.Met as copy-in-thm
+use Rattle.copies.proofs.copy_in as copy-in
+use Rattle.copies.proofs.copy_in.Symbol as copy-in-def
+use Rattle.copies.proofs.copy_in.Symbol.{name as #copies·copy-in}
+use Rattle.copies.proofs.copy_in.Met as copy-in-thm
 use Rattle.records.proofs.read.Key.{name as #records·read}
 use Rattle.records.proofs.read as read
 use Rattle.records.proofs.read.Statement as stated
@@ -76,7 +76,7 @@ module _ {M : Type 1} (𝓤 : URA M) (H : Heap 𝓤) (A : Atoms 𝓤) (mem : Mem
   typed : Given 𝓤 H A → (r : Reading) (w : Val) → Is Z.the-row r (w ∷ []) → Holds (hasTy Z′.mir w) × WT w
   typed W r w is = EL.lawful Z.the-type Z′.the-laws 𝓤 H A W tt .typed r _ is .0
 
-  module _ (W : Given 𝓤 H A) (𝓣 : Tables 𝓤 H) (known-read : Triple 𝓤 (𝓣 .C #records·read-flat) ReadFlat) (known-copy : Triple 𝓤 (𝓣 .C #records·copies·copy-in) CopyIn) where
+  module _ (W : Given 𝓤 H A) (𝓣 : Tables 𝓤 H) (known-read : Triple 𝓤 (𝓣 .C #records·read-flat) ReadFlat) (known-copy : Triple 𝓤 (𝓣 .C #copies·copy-in) CopyIn) where
     module _ (κs : Lfts 3) (qs : Shares 3) (a : Args read.signature κs) where
       abbrev vals : Vals read.signature κs
       vals = valss (typesAt (read.signature .params) κs) (spells κs) a
@@ -153,4 +153,4 @@ read-spec 𝓤 H 𝓜 𝓖 𝓡 =
     (tables 𝓤 H 𝓜 𝓡 code.env .C) (tables 𝓤 H 𝓜 𝓡 code.env .Λ) #records·read code.function (code.unfolded 𝓤 H 𝓜 𝓡)
     (read-meets 𝓤 H (𝓖 .A) (𝓜 .mem) (𝓡 .run) (givenOf 𝓤 H 𝓜 𝓖) (tablesOf 𝓤 H 𝓜 (tables 𝓤 H 𝓜 𝓡 code.env))
     (cited 𝓤 H (ReadFlat 𝓤 H (𝓖 .A) (𝓜 .mem) (𝓡 .run)) 𝓜 𝓡 code.env #records·read-flat read-flat-def.routine code.calls-records·read-flat (read-flat-thm.met 𝓤 H 𝓜 𝓖 𝓡))
-    (cited 𝓤 H (CopyIn 𝓤 H (𝓖 .A) (𝓜 .mem) (𝓡 .run)) 𝓜 𝓡 code.env #records·copies·copy-in copy-in-def.routine code.calls-records·copies·copy-in (copy-in-thm.met 𝓤 H 𝓜 𝓖 𝓡)))
+    (cited 𝓤 H (CopyIn 𝓤 H (𝓖 .A) (𝓜 .mem) (𝓡 .run)) 𝓜 𝓡 code.env #copies·copy-in copy-in-def.routine code.calls-records·copies·copy-in (copy-in-thm.met 𝓤 H 𝓜 𝓖 𝓡)))

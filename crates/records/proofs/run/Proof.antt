@@ -38,18 +38,18 @@ use Rattle.script.specs.Flat.{tableIn}
 use Rattle.script.proofs.Ran as T
 use Rattle.script.proofs.Ran.Laws as T′
 use Rattle.script.proofs.Node as N
-use Rattle.records.specs.Code.Copies.Laws.{copied-fits}
+use Rattle.copies.specs.Copies.Laws.{copied-fits}
 use Rattle.records.specs.Code.Whole.{run-copied}
 use Rattle.records.specs.Records.{Runs}
-use Rattle.records.proofs.Answered.{answers}
-use Rattle.records.proofs.Calling.{Toks, Walk, ends, proves}
+use Rattle.copies.proofs.Answered.{answers}
+use Rattle.copies.proofs.Calling.{Toks, Walk, ends, proves}
 use Rattle.records.proofs.Copied.{CopyOut, copies}
-use Rattle.records.proofs.Lent.{refAt}
-use Rattle.records.proofs.Locals.{var, freed}
-use Rattle.records.proofs.Sliced.{again}
-use Rattle.records.proofs.copies.copy_out.Symbol as copy-out-def
-use Rattle.records.proofs.copies.copy_out.Symbol.{name as #records·copies·copy-out}
-use Rattle.records.proofs.copies.copy_out.Met as copy-out-thm
+use Rattle.copies.proofs.Lent.{refAt}
+use Rattle.copies.proofs.Locals.{var, freed}
+use Rattle.copies.proofs.Sliced.{again}
+use Rattle.copies.proofs.copy_out.Symbol as copy-out-def
+use Rattle.copies.proofs.copy_out.Symbol.{name as #copies·copy-out}
+use Rattle.copies.proofs.copy_out.Met as copy-out-thm
 use Rattle.records.proofs.run_flat as run-flat
 use Rattle.records.proofs.run_flat.Symbol as run-flat-def
 use Rattle.records.proofs.run_flat.Symbol.{name as #records·run-flat}
@@ -66,7 +66,7 @@ module _ {M : Type 1} (𝓤 : URA M) (H : Heap 𝓤) (A : Atoms 𝓤) (mem : Mem
   abbrev RunFlat : Contract 𝓤
   RunFlat = tripleOf 𝓤 H A run-flat.signature (run-flat.spec 𝓤 H A mem run′)
 
-  module _ (W : Given 𝓤 H A) (𝓣 : Tables 𝓤 H) (known-copy : Triple 𝓤 (𝓣 .C #records·copies·copy-out) (CopyOut 𝓤 H A mem run′)) (known-flat : Triple 𝓤 (𝓣 .C #records·run-flat) RunFlat) where
+  module _ (W : Given 𝓤 H A) (𝓣 : Tables 𝓤 H) (known-copy : Triple 𝓤 (𝓣 .C #copies·copy-out) (CopyOut 𝓤 H A mem run′)) (known-flat : Triple 𝓤 (𝓣 .C #records·run-flat) RunFlat) where
     module _ (κs : Lfts 4) (qs : Shares 4) (a : Args run.signature κs) where
       abbrev vals : Vals run.signature κs
       vals = valss (typesAt (run.signature .params) κs) (spells κs) a
@@ -119,5 +119,5 @@ run-spec 𝓤 H 𝓜 𝓖 𝓡 =
     entered 𝓤 H (tripleOf 𝓤 H (𝓖 .A) run.signature (run.spec 𝓤 H (𝓖 .A) (𝓜 .mem) (𝓡 .run)))
     (tables 𝓤 H 𝓜 𝓡 code.env .C) (tables 𝓤 H 𝓜 𝓡 code.env .Λ) #records·run code.function (code.unfolded 𝓤 H 𝓜 𝓡)
     (run-meets 𝓤 H (𝓖 .A) (𝓜 .mem) (𝓡 .run) (givenOf 𝓤 H 𝓜 𝓖) (tablesOf 𝓤 H 𝓜 (tables 𝓤 H 𝓜 𝓡 code.env))
-    (cited 𝓤 H (CopyOut 𝓤 H (𝓖 .A) (𝓜 .mem) (𝓡 .run)) 𝓜 𝓡 code.env #records·copies·copy-out copy-out-def.routine code.calls-records·copies·copy-out (copy-out-thm.met 𝓤 H 𝓜 𝓖 𝓡))
+    (cited 𝓤 H (CopyOut 𝓤 H (𝓖 .A) (𝓜 .mem) (𝓡 .run)) 𝓜 𝓡 code.env #copies·copy-out copy-out-def.routine code.calls-records·copies·copy-out (copy-out-thm.met 𝓤 H 𝓜 𝓖 𝓡))
     (cited 𝓤 H (RunFlat 𝓤 H (𝓖 .A) (𝓜 .mem) (𝓡 .run)) 𝓜 𝓡 code.env #records·run-flat run-flat-def.routine code.calls-records·run-flat (run-flat-thm.met 𝓤 H 𝓜 𝓖 𝓡)))

@@ -33,8 +33,8 @@ use Rattle.text.specs.Grammar.{Meaning, means, refused, meaningOf}
 use Rattle.text.specs.OneSpelling.{read-passes}
 use Rattle.text.specs.Reading.{outcomeOf as readTo, nodesRead, filled, tableRead, tried, reading, leaves, leftBy, readingIn}
 use Rattle.text.specs.Writing.{textOf, outcomeOf, writing}
-use Rattle.records.specs.Code.Copies.{CopiedOut, places}
-use Rattle.records.specs.Code.Copies.Laws.{length-front, filled-length}
+use Rattle.copies.specs.Copies.{CopiedOut, places}
+use Rattle.copies.specs.Copies.Laws.{length-front, filled-length}
 use Rattle.records.specs.Records.{tableOf, Checks, Runs, Writes, Reads}
 
 nodesIn-none : (ns : List Node) → ns ++ nodesIn [] ≡ ns

@@ -35,17 +35,17 @@ use denote.Triple.Walked.{says}
 use Rattle.script.proofs.Checked as Z
 use Rattle.script.proofs.Checked.Laws as Z′
 use Rattle.script.proofs.Node as T
-use Rattle.records.specs.Code.Copies.{places}
+use Rattle.copies.specs.Copies.{places}
 use Rattle.records.specs.Records.{Checks}
 use Rattle.trial.specs.Tables.{placeCount, tableAs}
-use Rattle.records.proofs.Answered.{answers}
-use Rattle.records.proofs.Calling.{Toks, Walk, ends, proves}
+use Rattle.copies.proofs.Answered.{answers}
+use Rattle.copies.proofs.Calling.{Toks, Walk, ends, proves}
 use Rattle.trial.proofs.Filled.{CopyIn, fills}
-use Rattle.records.proofs.Lent.{refAt}
-use Rattle.records.proofs.Locals.{var, freed}
-use Rattle.records.proofs.copies.copy_in.Symbol as copy-in-def
-use Rattle.records.proofs.copies.copy_in.Symbol.{name as #records·copies·copy-in}
-use Rattle.records.proofs.copies.copy_in.Met as copy-in-thm
+use Rattle.copies.proofs.Lent.{refAt}
+use Rattle.copies.proofs.Locals.{var, freed}
+use Rattle.copies.proofs.copy_in.Symbol as copy-in-def
+use Rattle.copies.proofs.copy_in.Symbol.{name as #copies·copy-in}
+use Rattle.copies.proofs.copy_in.Met as copy-in-thm
 use Rattle.records.proofs.check as callee
 use Rattle.records.proofs.check.Symbol as callee-def
 use Rattle.records.proofs.check.Symbol.{name as #records·check}
@@ -62,7 +62,7 @@ module _ {M : Type 1} (𝓤 : URA M) (H : Heap 𝓤) (A : Atoms 𝓤) (mem : Mem
   abbrev Callee : Contract 𝓤
   Callee = tripleOf 𝓤 H A callee.signature (callee.spec 𝓤 H A mem run)
 
-  module _ (W : Given 𝓤 H A) (𝓣 : Tables 𝓤 H) (known-copy : Triple 𝓤 (𝓣 .C #records·copies·copy-in) (CopyIn 𝓤 H A mem run)) (known : Triple 𝓤 (𝓣 .C #records·check) Callee) where
+  module _ (W : Given 𝓤 H A) (𝓣 : Tables 𝓤 H) (known-copy : Triple 𝓤 (𝓣 .C #copies·copy-in) (CopyIn 𝓤 H A mem run)) (known : Triple 𝓤 (𝓣 .C #records·check) Callee) where
     module _ (κs : Lfts 2) (qs : Shares 2) (a : Args check.signature κs) where
       abbrev vals : Vals check.signature κs
       vals = valss (typesAt (check.signature .params) κs) (spells κs) a
@@ -107,5 +107,5 @@ check-spec 𝓤 H 𝓜 𝓖 𝓡 =
     entered 𝓤 H (tripleOf 𝓤 H (𝓖 .A) check.signature (check.spec 𝓤 H (𝓖 .A) (𝓜 .mem) (𝓡 .run)))
     (tables 𝓤 H 𝓜 𝓡 code.env .C) (tables 𝓤 H 𝓜 𝓡 code.env .Λ) #trial·tables·check code.function (code.unfolded 𝓤 H 𝓜 𝓡)
     (check-meets 𝓤 H (𝓖 .A) (𝓜 .mem) (𝓡 .run) (givenOf 𝓤 H 𝓜 𝓖) (tablesOf 𝓤 H 𝓜 (tables 𝓤 H 𝓜 𝓡 code.env))
-    (cited 𝓤 H (CopyIn 𝓤 H (𝓖 .A) (𝓜 .mem) (𝓡 .run)) 𝓜 𝓡 code.env #records·copies·copy-in copy-in-def.routine code.calls-records·copies·copy-in (copy-in-thm.met 𝓤 H 𝓜 𝓖 𝓡))
+    (cited 𝓤 H (CopyIn 𝓤 H (𝓖 .A) (𝓜 .mem) (𝓡 .run)) 𝓜 𝓡 code.env #copies·copy-in copy-in-def.routine code.calls-records·copies·copy-in (copy-in-thm.met 𝓤 H 𝓜 𝓖 𝓡))
     (cited 𝓤 H (Callee 𝓤 H (𝓖 .A) (𝓜 .mem) (𝓡 .run)) 𝓜 𝓡 code.env #records·check callee-def.routine code.calls-records·check (callee-thm.met 𝓤 H 𝓜 𝓖 𝓡)))

@@ -40,19 +40,19 @@ use Rattle.script.proofs.Node as T
 use Rattle.script.proofs.Reading as Z
 use Rattle.script.proofs.Reading.Laws as Z′
 use Rattle.text.specs.Reading as Read
-use Rattle.records.specs.Code.Copies.{copied, CopiedOut}
+use Rattle.copies.specs.Copies.{copied, CopiedOut}
 use Rattle.records.specs.Records.{Reads}
 use Rattle.trial.specs.Tables.{placeCount, ReadBack}
-use Rattle.records.proofs.Calling.{Toks, called, Walk, ends, proves}
+use Rattle.copies.proofs.Calling.{Toks, called, Walk, ends, proves}
 use Rattle.records.proofs.Copied.{CopyOut}
 use Rattle.trial.proofs.Filled.{begins}
-use Rattle.records.proofs.Lent.{refAt, let-go, back-mut, back-shr}
-use Rattle.records.proofs.Locals.{var, freed}
-use Rattle.records.proofs.Sliced.{again, sliced-shr}
-use Rattle.records.proofs.copies.copy_out as copy-out
-use Rattle.records.proofs.copies.copy_out.Symbol as copy-out-def
-use Rattle.records.proofs.copies.copy_out.Symbol.{name as #records·copies·copy-out}
-use Rattle.records.proofs.copies.copy_out.Met as copy-out-thm
+use Rattle.copies.proofs.Lent.{refAt, let-go, back-mut, back-shr}
+use Rattle.copies.proofs.Locals.{var, freed}
+use Rattle.copies.proofs.Sliced.{again, sliced-shr}
+use Rattle.copies.proofs.copy_out as copy-out
+use Rattle.copies.proofs.copy_out.Symbol as copy-out-def
+use Rattle.copies.proofs.copy_out.Symbol.{name as #copies·copy-out}
+use Rattle.copies.proofs.copy_out.Met as copy-out-thm
 use Rattle.records.proofs.read as callee
 use Rattle.records.proofs.read.Symbol as callee-def
 use Rattle.records.proofs.read.Symbol.{name as #records·read}
@@ -85,7 +85,7 @@ module _ {M : Type 1} (𝓤 : URA M) (H : Heap 𝓤) (A : Atoms 𝓤) (mem : Mem
   typed : Given 𝓤 H A → (r : Reading) (w : Val) → Is Z.the-row r (w ∷ []) → Holds (hasTy Z′.mir w) × WT w
   typed W r w is = EL.lawful Z.the-type Z′.the-laws 𝓤 H A W tt .typed r _ is .0
 
-  module _ (W : Given 𝓤 H A) (𝓣 : Tables 𝓤 H) (known : Triple 𝓤 (𝓣 .C #records·read) Callee) (known-copy : Triple 𝓤 (𝓣 .C #records·copies·copy-out) (CopyOut 𝓤 H A mem run)) where
+  module _ (W : Given 𝓤 H A) (𝓣 : Tables 𝓤 H) (known : Triple 𝓤 (𝓣 .C #records·read) Callee) (known-copy : Triple 𝓤 (𝓣 .C #copies·copy-out) (CopyOut 𝓤 H A mem run)) where
     module _ (κs : Lfts 3) (qs : Shares 3) (a : Args read.signature κs) where
       abbrev vals : Vals read.signature κs
       vals = valss (typesAt (read.signature .params) κs) (spells κs) a
@@ -150,4 +150,4 @@ read-spec 𝓤 H 𝓜 𝓖 𝓡 =
     (tables 𝓤 H 𝓜 𝓡 code.env .C) (tables 𝓤 H 𝓜 𝓡 code.env .Λ) #trial·tables·read code.function (code.unfolded 𝓤 H 𝓜 𝓡)
     (read-meets 𝓤 H (𝓖 .A) (𝓜 .mem) (𝓡 .run) (givenOf 𝓤 H 𝓜 𝓖) (tablesOf 𝓤 H 𝓜 (tables 𝓤 H 𝓜 𝓡 code.env))
     (cited 𝓤 H (Callee 𝓤 H (𝓖 .A) (𝓜 .mem) (𝓡 .run)) 𝓜 𝓡 code.env #records·read callee-def.routine code.calls-records·read (callee-thm.met 𝓤 H 𝓜 𝓖 𝓡))
-    (cited 𝓤 H (CopyOut 𝓤 H (𝓖 .A) (𝓜 .mem) (𝓡 .run)) 𝓜 𝓡 code.env #records·copies·copy-out copy-out-def.routine code.calls-records·copies·copy-out (copy-out-thm.met 𝓤 H 𝓜 𝓖 𝓡)))
+    (cited 𝓤 H (CopyOut 𝓤 H (𝓖 .A) (𝓜 .mem) (𝓡 .run)) 𝓜 𝓡 code.env #copies·copy-out copy-out-def.routine code.calls-records·copies·copy-out (copy-out-thm.met 𝓤 H 𝓜 𝓖 𝓡)))

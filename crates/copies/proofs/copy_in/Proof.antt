@@ -1,4 +1,4 @@
--- `records::copies::copy_in` meets its contract: a walk of its MIR, by hand. Before turn i of the loop the table holds `placed xs ns i`. The loop is `Counted.antt`'s, and its two calls are `OneNode.antt`'s.
+-- `copies::copy_in` meets its contract: a walk of its MIR, by hand. Before turn i of the loop the table holds `placed xs ns i`. The loop is `Counted.antt`'s, and its two calls are `OneNode.antt`'s.
 -- All that the proof knows of `place_at` and `put_record` is that each meets its contract.
 -- Assumes nothing.
 use mathlib.Core.Path.{_≡_, refl, sym, subst, _∙_}
@@ -46,23 +46,23 @@ use Rattle.script.specs.Flat.{nodesIn}
 use Rattle.script.specs.Table.{nodeAt}
 use Rattle.script.proofs.Node as T
 use Rattle.script.proofs.Node.Laws as T′
-use Rattle.records.specs.Code.Copies.{placed}
-use Rattle.records.specs.Code.Copies.Laws.{placed-start, placed-next, placed-end, length-placed}
-use Rattle.records.proofs.Counted.{goes-on, stops, counted}
-use Rattle.records.proofs.OneNode.{Shared, Held, Taken, Back, takes, puts, taking, putting}
-use Rattle.records.proofs.copies.place_at as place-at
-use Rattle.records.proofs.copies.place_at.Symbol as place-at-def
-use Rattle.records.proofs.copies.place_at.Symbol.{name as #records·copies·place-at}
-use Rattle.records.proofs.copies.place_at.Met as place-at-thm
-use Rattle.records.proofs.copies.put_record as put-record
-use Rattle.records.proofs.copies.put_record.Symbol as put-record-def
-use Rattle.records.proofs.copies.put_record.Symbol.{name as #records·copies·put-record}
-use Rattle.records.proofs.copies.put_record.Met as put-record-thm
-use Rattle.records.proofs.copies.copy_in.Key.{name as #records·copies·copy-in}
-use Rattle.records.proofs.copies.copy_in as copy-in
-use Rattle.records.proofs.copies.copy_in.Statement as stated
-use Rattle.records.proofs.copies.copy_in.Code as code
-use Rattle.records.proofs.copies.copy_in.Code.Mir as Mir′
+use Rattle.copies.specs.Copies.{placed}
+use Rattle.copies.specs.Copies.Laws.{placed-start, placed-next, placed-end, length-placed}
+use Rattle.copies.proofs.Counted.{goes-on, stops, counted}
+use Rattle.copies.proofs.OneNode.{Shared, Held, Taken, Back, takes, puts, taking, putting}
+use Rattle.copies.proofs.place_at as place-at
+use Rattle.copies.proofs.place_at.Symbol as place-at-def
+use Rattle.copies.proofs.place_at.Symbol.{name as #copies·place-at}
+use Rattle.copies.proofs.place_at.Met as place-at-thm
+use Rattle.copies.proofs.put_record as put-record
+use Rattle.copies.proofs.put_record.Symbol as put-record-def
+use Rattle.copies.proofs.put_record.Symbol.{name as #copies·put-record}
+use Rattle.copies.proofs.put_record.Met as put-record-thm
+use Rattle.copies.proofs.copy_in.Key.{name as #copies·copy-in}
+use Rattle.copies.proofs.copy_in as copy-in
+use Rattle.copies.proofs.copy_in.Statement as stated
+use Rattle.copies.proofs.copy_in.Code as code
+use Rattle.copies.proofs.copy_in.Code.Mir as Mir′
 
 abbrev stayed : Stays (copy-in.ended .signature .params) (copy-in.ended .kept)
 stayed = (stay-slice (0 ∷ []) tt (plain (λ _. T.the-row)), (stay-none-slice (1 ∷ []) tt (plain (λ _. u32)) yes, tt))
@@ -133,7 +133,7 @@ module _ {M : Type 1} (𝓤 : URA M) (H : Heap 𝓤) (A : Atoms 𝓤) (W : Given
       split ! $ nothing ! $ move ! (2 ∷ 0 ∷ []) $ join ! $ move ! (2 ∷ []) $ split ! $ move ! (1 ∷ 2 ∷ []) $ join ! $ frame ! $
       nothing ! $ move ! (2 ∷ 0 ∷ []) $ fjoin ! $ move ! (1 ∷ 0 ∷ []) $ fjoin ! $ frame ! $ feqI ! (List Val) (vunit ∷ []) (vunit ∷ []) refl $ done !
 
-  module _ (𝓣 : Tables 𝓤 H) (known-at : Triple 𝓤 (𝓣 .C #records·copies·place-at) (PlaceAt 𝓤 H A mem run)) (known-put : Triple 𝓤 (𝓣 .C #records·copies·put-record) (PutRecord 𝓤 H A mem run))
+  module _ (𝓣 : Tables 𝓤 H) (known-at : Triple 𝓤 (𝓣 .C #copies·place-at) (PlaceAt 𝓤 H A mem run)) (known-put : Triple 𝓤 (𝓣 .C #copies·put-record) (PutRecord 𝓤 H A mem run))
       (n-fits : n < 2 ^ 64) (l₀ l₁ l₂ l₃ l₄ l₅ l₆ l₇ l₈ l₉ : ℕ) where
     abbrev fm : FmC 𝓤 H (W .laws) (𝓣 .C)
     fm = fmOf 𝓤 H (W .laws) 𝓣
@@ -159,15 +159,15 @@ module _ {M : Type 1} (𝓤 : URA M) (H : Heap 𝓤) (A : Atoms 𝓤) (W : Given
       i-fits : i < 2 ^ 64
       i-fits = lt-of-le-of-lt (omega (arith, small)) n-fits
 
-      taken : ent 𝓤 (mean 𝓤 H A Flat) (𝓣 .C #records·copies·place-at (t ∷ vint w64 i ∷ []) (λ w. mean 𝓤 H A (Taken u32 𝓤 κ′ q′ y (node i) w)))
-      taken = takes 𝓤 H A W u32 (𝓣 .C #records·copies·place-at) (fm #records·copies·place-at) κ′ q′ i i-fits (place-at.clauses 𝓤 H A mem run) y (node i) tt known-at (id⊢ 𝓤 (emp 𝓤)) (λ r e. id⊢ 𝓤 _)
+      taken : ent 𝓤 (mean 𝓤 H A Flat) (𝓣 .C #copies·place-at (t ∷ vint w64 i ∷ []) (λ w. mean 𝓤 H A (Taken u32 𝓤 κ′ q′ y (node i) w)))
+      taken = takes 𝓤 H A W u32 (𝓣 .C #copies·place-at) (fm #copies·place-at) κ′ q′ i i-fits (place-at.clauses 𝓤 H A mem run) y (node i) tt known-at (id⊢ 𝓤 (emp 𝓤)) (λ r e. id⊢ 𝓤 _)
 
       same-length : length (placed xs ns i) ≡ n
       same-length = length-placed xs ns i (omega (arith, small))
 
       put : (u : Val) → Is T.the-row (node i) (u ∷ [])
-          → ent 𝓤 (mean 𝓤 H A (Table i)) (H .⇛ (𝓣 .C #records·copies·put-record (s ∷ vint w64 i ∷ u ∷ []) (λ w. mean 𝓤 H A (Back T.the-row 𝓤 κ q b o γ n (placed xs ns (suc i)) w))))
-      put u is = puts 𝓤 H A W T.the-row (𝓣 .C #records·copies·put-record) (fm #records·copies·put-record) κ q i i-fits (put-record.clauses 𝓤 H A mem run) b o γ (node i) u is (placed xs ns i)
+          → ent 𝓤 (mean 𝓤 H A (Table i)) (H .⇛ (𝓣 .C #copies·put-record (s ∷ vint w64 i ∷ u ∷ []) (λ w. mean 𝓤 H A (Back T.the-row 𝓤 κ q b o γ n (placed xs ns (suc i)) w))))
+      put u is = puts 𝓤 H A W T.the-row (𝓣 .C #copies·put-record) (fm #copies·put-record) κ q i i-fits (put-record.clauses 𝓤 H A mem run) b o γ (node i) u is (placed xs ns i)
           (placed xs ns (suc i)) (λ ν δ. tt)
           n same-length known-put (λ ν δ. factI 𝓤 (i < length (placed xs ns i)) (emp 𝓤) (subst (λ (m : ℕ). i < m) (sym same-length) small))
           (λ ν δ e. fact-mono 𝓤 (now (e .0) ≡ set (placed xs ns i) i (node i)) (now (e .0) ≡ placed xs ns (suc i)) (λ p. p ∙ placed-next xs ns i small))
@@ -214,7 +214,7 @@ module _ {M : Type 1} (𝓤 : URA M) (H : Heap 𝓤) (A : Atoms 𝓤) (W : Given
     loops : ent 𝓤 (⋆ 𝓤 H A (At 0)) (Wp 𝓤 H (𝓣 .C) (𝓣 .Λ) E Mir′.s-2 (afterSeq 𝓤 H (Wp 𝓤 H (𝓣 .C) (𝓣 .Λ) E Mir′.t-3 (atReturn 𝓤 H E Post)) (atReturn 𝓤 H E Post)))
     loops = counted 𝓤 H A W 𝓣 E Mir′.turn-1 Left n (λ i. ⋆ 𝓤 H A (At i)) more ends
 
-  walk : (𝓣 : Tables 𝓤 H) → Triple 𝓤 (𝓣 .C #records·copies·place-at) (PlaceAt 𝓤 H A mem run) → Triple 𝓤 (𝓣 .C #records·copies·put-record) (PutRecord 𝓤 H A mem run)
+  walk : (𝓣 : Tables 𝓤 H) → Triple 𝓤 (𝓣 .C #copies·place-at) (PlaceAt 𝓤 H A mem run) → Triple 𝓤 (𝓣 .C #copies·put-record) (PutRecord 𝓤 H A mem run)
       → Room T.the-row n → Room u32 (length xs) → ent 𝓤 (onEntry 𝓤 H A copy-in.signature (κ, (κ′, tt)) (q, (q′, tt)) a vals) (WpFn 𝓤 H (𝓣 .C) (𝓣 .Λ) code.function (s ∷ t ∷ []) Post)
   walk 𝓣 known-at known-put room room′ =
       qed W ((‵ (flft κ q) ⊛ (‵ (flft κ′ q′) ⊛ ‵ ftrue)) ∷ ‵ (owns (MutSlice (named 0) κ T.the-row ∷ ShrSlice (named 1) κ′ u32 ∷ []) a vals) ∷ []) ∵ enter ! (𝓣 .C) (𝓣 .Λ) code.function (s ∷ t ∷ []) _ $
@@ -229,7 +229,7 @@ module _ {M : Type 1} (𝓤 : URA M) (H : Heap 𝓤) (A : Atoms 𝓤) (W : Given
       by ! (loops 𝓣 known-at known-put (room .0) l₀ l₁ l₂ l₃ l₄ l₅ l₆ l₇ l₈ l₉)))))))))))
 
 module _ {M : Type 1} (𝓤 : URA M) (H : Heap 𝓤) (A : Atoms 𝓤) (W : Given 𝓤 H A) (mem : Memory → SProp 𝓤) (run : Routine → Fun 𝓤) (𝓣 : Tables 𝓤 H)
-    (known-at : Triple 𝓤 (𝓣 .C #records·copies·place-at) (PlaceAt 𝓤 H A mem run)) (known-put : Triple 𝓤 (𝓣 .C #records·copies·put-record) (PutRecord 𝓤 H A mem run)) where
+    (known-at : Triple 𝓤 (𝓣 .C #copies·place-at) (PlaceAt 𝓤 H A mem run)) (known-put : Triple 𝓤 (𝓣 .C #copies·put-record) (PutRecord 𝓤 H A mem run)) where
   copy-in-walks : Walks 𝓤 H A copy-in.ended stayed (WpFn 𝓤 H (𝓣 .C) (𝓣 .Λ) code.function) (copy-in.clauses 𝓤 H A mem run)
   copy-in-walks = walked 𝓤 H A copy-in.ended stayed (copy-in.clauses 𝓤 H A mem run) (WpFn 𝓤 H (𝓣 .C) (𝓣 .Λ) code.function)
       (λ κs. (slice-vals, (slice-vals, tt))) (λ κs. (mut-slice-tells (named 0) (κs .0) T.the-row, (shr-slice-tells (named 1) (κs .1 .0) u32, tt)))
@@ -245,7 +245,7 @@ pub copy-in-spec : {M : Type 1} → stated.statement M
 unfolding code.routine tablesOf
 copy-in-spec 𝓤 H 𝓜 𝓖 𝓡 =
     entered 𝓤 H (tripleOf 𝓤 H (𝓖 .A) copy-in.signature (copy-in.spec 𝓤 H (𝓖 .A) (𝓜 .mem) (𝓡 .run)))
-    (tables 𝓤 H 𝓜 𝓡 code.env .C) (tables 𝓤 H 𝓜 𝓡 code.env .Λ) #records·copies·copy-in code.function (code.unfolded 𝓤 H 𝓜 𝓡)
+    (tables 𝓤 H 𝓜 𝓡 code.env .C) (tables 𝓤 H 𝓜 𝓡 code.env .Λ) #copies·copy-in code.function (code.unfolded 𝓤 H 𝓜 𝓡)
     (copy-in-meets 𝓤 H (𝓖 .A) (givenOf 𝓤 H 𝓜 𝓖) (𝓜 .mem) (𝓡 .run) (tablesOf 𝓤 H 𝓜 (tables 𝓤 H 𝓜 𝓡 code.env))
-    (cited 𝓤 H (PlaceAt 𝓤 H (𝓖 .A) (𝓜 .mem) (𝓡 .run)) 𝓜 𝓡 code.env #records·copies·place-at place-at-def.routine code.calls-records·copies·place-at (place-at-thm.met 𝓤 H 𝓜 𝓖 𝓡))
-    (cited 𝓤 H (PutRecord 𝓤 H (𝓖 .A) (𝓜 .mem) (𝓡 .run)) 𝓜 𝓡 code.env #records·copies·put-record put-record-def.routine code.calls-records·copies·put-record (put-record-thm.met 𝓤 H 𝓜 𝓖 𝓡)))
+    (cited 𝓤 H (PlaceAt 𝓤 H (𝓖 .A) (𝓜 .mem) (𝓡 .run)) 𝓜 𝓡 code.env #copies·place-at place-at-def.routine code.calls-records·copies·place-at (place-at-thm.met 𝓤 H 𝓜 𝓖 𝓡))
+    (cited 𝓤 H (PutRecord 𝓤 H (𝓖 .A) (𝓜 .mem) (𝓡 .run)) 𝓜 𝓡 code.env #copies·put-record put-record-def.routine code.calls-records·copies·put-record (put-record-thm.met 𝓤 H 𝓜 𝓖 𝓡)))

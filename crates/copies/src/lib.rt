@@ -4,7 +4,7 @@ ghost use Prim.Native.Nat.{_<_, min};
 ghost use lib.ListN.{length, set};
 ghost use Rattle.script.specs.Flat.{nodesIn};
 ghost use Rattle.script.specs.Table.{nodeAt};
-ghost use Rattle.records.specs.Code.Copies.{CopiedOut, places};
+ghost use Rattle.copies.specs.Copies.{CopiedOut, places};
 use script::Node;
 use script::table::FALSE;
 use script::table::node_at;

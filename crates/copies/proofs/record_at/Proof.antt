@@ -1,4 +1,4 @@
--- `records::copies::record_at` meets its contract: a walk of its MIR, by hand. The place of record i is computed, the slice is looked into, and the record is taken out of the row, read whole and
+-- `copies::record_at` meets its contract: a walk of its MIR, by hand. The place of record i is computed, the slice is looked into, and the record is taken out of the row, read whole and
 -- put back. That the result fits its type is learned where the record is taken out. Assumes nothing.
 use mathlib.Core.Path.{refl, sym}
 use Prim.Native.Nat.{ℕ, _<_, _^_}
@@ -38,11 +38,11 @@ use Rattle.script.specs.Table.{nodeAt, unused}
 use Rattle.script.specs.declared.Node.{Node}
 use Rattle.script.proofs.Node as T
 use Rattle.script.proofs.Node.Laws as T′
-use Rattle.records.proofs.Row.{vals, tells, within, makes, copies, typed}
-use Rattle.records.proofs.copies.record_at.Key.{name as #records·copies·record-at}
-use Rattle.records.proofs.copies.record_at as record-at
-use Rattle.records.proofs.copies.record_at.Statement as stated
-use Rattle.records.proofs.copies.record_at.Code as code
+use Rattle.copies.proofs.Row.{vals, tells, within, makes, copies, typed}
+use Rattle.copies.proofs.record_at.Key.{name as #copies·record-at}
+use Rattle.copies.proofs.record_at as record-at
+use Rattle.copies.proofs.record_at.Statement as stated
+use Rattle.copies.proofs.record_at.Code as code
 
 abbrev Arg : Type 0
 Arg = RefT (List Node) × (ℕ × Unit {0})
@@ -112,5 +112,5 @@ pub record-at-spec : {M : Type 1} → stated.statement M
 unfolding code.routine tablesOf
 record-at-spec 𝓤 H 𝓜 𝓖 𝓡 =
     entered 𝓤 H (tripleOf 𝓤 H (𝓖 .A) record-at.signature (record-at.spec 𝓤 H (𝓖 .A) (𝓜 .mem) (𝓡 .run)))
-    (tables 𝓤 H 𝓜 𝓡 code.env .C) (tables 𝓤 H 𝓜 𝓡 code.env .Λ) #records·copies·record-at code.function (code.unfolded 𝓤 H 𝓜 𝓡)
+    (tables 𝓤 H 𝓜 𝓡 code.env .C) (tables 𝓤 H 𝓜 𝓡 code.env .Λ) #copies·record-at code.function (code.unfolded 𝓤 H 𝓜 𝓡)
     (record-at-meets 𝓤 H (𝓖 .A) (givenOf 𝓤 H 𝓜 𝓖) (𝓜 .mem) (𝓡 .run) (tablesOf 𝓤 H 𝓜 (tables 𝓤 H 𝓜 𝓡 code.env)))

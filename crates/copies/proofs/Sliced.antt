@@ -21,8 +21,8 @@ use denote.RattleType.{RattleType}
 use denote.Memory.{lone}
 use denote.Slice.{sliceTy, sliceVal, MutSlice, ShrSlice, Room}
 use denote.Lend.{Held}
-use Rattle.records.proofs.Lent.{Elems, refAt, lent-mut, lent-shr}
-use Rattle.records.proofs.Locals.{at-spot}
+use Rattle.copies.proofs.Lent.{Elems, refAt, lent-mut, lent-shr}
+use Rattle.copies.proofs.Locals.{at-spot}
 
 -- a slice of n elements at the place p, made in s by way of m
 abbrev pub slicing : Place → Operand → ℕ → ℕ → Body → Body

@@ -1,4 +1,4 @@
--- `records::copies::put_record` meets its contract: a walk of its MIR, by hand. The place of record i is computed, the borrow is opened, record i is taken out of the row and stored to,
+-- `copies::put_record` meets its contract: a walk of its MIR, by hand. The place of record i is computed, the borrow is opened, record i is taken out of the row and stored to,
 -- the new record is put in its place, and the borrow is closed at the list with it. Assumes nothing.
 use mathlib.Core.Path.{refl, sym, ap, subst}
 use Prim.Native.Nat.{ℕ, _<_, _^_}
@@ -40,11 +40,11 @@ use Rattle.script.specs.Table.{unused}
 use Rattle.script.specs.declared.Node.{Node}
 use Rattle.script.proofs.Node as T
 use Rattle.script.proofs.Node.Laws as T′
-use Rattle.records.proofs.Row.{vals, tells, within, makes, typed}
-use Rattle.records.proofs.copies.put_record.Key.{name as #records·copies·put-record}
-use Rattle.records.proofs.copies.put_record as put-record
-use Rattle.records.proofs.copies.put_record.Statement as stated
-use Rattle.records.proofs.copies.put_record.Code as code
+use Rattle.copies.proofs.Row.{vals, tells, within, makes, typed}
+use Rattle.copies.proofs.put_record.Key.{name as #copies·put-record}
+use Rattle.copies.proofs.put_record as put-record
+use Rattle.copies.proofs.put_record.Statement as stated
+use Rattle.copies.proofs.put_record.Code as code
 
 abbrev Arg : Type 0
 Arg = RefT (List Node) × (ℕ × (Node × Unit {0}))
@@ -125,5 +125,5 @@ pub put-record-spec : {M : Type 1} → stated.statement M
 unfolding code.routine tablesOf
 put-record-spec 𝓤 H 𝓜 𝓖 𝓡 =
     entered 𝓤 H (tripleOf 𝓤 H (𝓖 .A) put-record.signature (put-record.spec 𝓤 H (𝓖 .A) (𝓜 .mem) (𝓡 .run)))
-    (tables 𝓤 H 𝓜 𝓡 code.env .C) (tables 𝓤 H 𝓜 𝓡 code.env .Λ) #records·copies·put-record code.function (code.unfolded 𝓤 H 𝓜 𝓡)
+    (tables 𝓤 H 𝓜 𝓡 code.env .C) (tables 𝓤 H 𝓜 𝓡 code.env .Λ) #copies·put-record code.function (code.unfolded 𝓤 H 𝓜 𝓡)
     (put-record-meets 𝓤 H (𝓖 .A) (givenOf 𝓤 H 𝓜 𝓖) (𝓜 .mem) (𝓡 .run) (tablesOf 𝓤 H 𝓜 (tables 𝓤 H 𝓜 𝓡 code.env)))

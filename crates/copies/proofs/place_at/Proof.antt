@@ -1,4 +1,4 @@
--- `records::copies::place_at` meets its contract: behind the last whole node there is none. Assumes nothing.
+-- `copies::place_at` meets its contract: behind the last whole node there is none. Assumes nothing.
 use borrow.Author.Needs.{needs}
 use mathlib.Core.Path.{sym}
 use native.Mathlib.Omega.{arith}
@@ -6,8 +6,8 @@ use lib.ListN.{List·getD-eq-default}
 use Rattle.script.specs.Flat.{nodesIn}
 use Rattle.script.specs.Flat.Laws.{length-nodesIn}
 use Rattle.script.specs.Table.{unused}
-use Rattle.records.proofs.copies.place_at.Statement.{statement}
-use Rattle.records.proofs.copies.place_at.Tie as tie
+use Rattle.copies.proofs.place_at.Statement.{statement}
+use Rattle.copies.proofs.place_at.Tie as tie
 
 returns-2 : tie.Need-returns-2
 returns-2 c =

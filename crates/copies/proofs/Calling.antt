@@ -29,7 +29,7 @@ use denote.Triple.Spec.{Meets, tripleOf}
 use denote.Triple.Statement.{Contract, Triple}
 use denote.Triple.Clauses.{Clauses, Ended, Lasts, atExit, lasts, closing}
 use denote.Triple.Walked.{walkOf, Ending, ends-at, walked, walk-meets}
-use Rattle.records.proofs.Said.{all-said, fit-said, go-said}
+use Rattle.copies.proofs.Said.{all-said, fit-said, go-said}
 
 abbrev pub Toks : {M : Type 1} {𝓤 : URA M} (n : ℕ) → Lfts n → Shares n → Item 𝓤
 Toks zero κs qs = ‵ ftrue

@@ -1,4 +1,4 @@
--- `records::copies::copy_out` meets its contract: a walk of its MIR, by hand. Before turn i of the loop the flat slice holds `copied ns i xs`. The loop is `Counted.antt`'s, and its two calls are `OneNode.antt`'s.
+-- `copies::copy_out` meets its contract: a walk of its MIR, by hand. Before turn i of the loop the flat slice holds `copied ns i xs`. The loop is `Counted.antt`'s, and its two calls are `OneNode.antt`'s.
 -- All that the proof knows of `lesser`, `record_at` and `put_node` is that each meets its contract.
 -- Assumes nothing.
 use mathlib.Core.Path.{_≡_, refl, sym, ap, subst, _∙_}
@@ -53,23 +53,23 @@ use Rattle.script.proofs.table.put_node as put-node
 use Rattle.script.proofs.table.put_node.Symbol as put-node-def
 use Rattle.script.proofs.table.put_node.Symbol.{name as #script·table·put-node}
 use Rattle.script.proofs.table.put_node.Met as put-node-thm
-use Rattle.records.specs.Code.Copies.{copied}
-use Rattle.records.specs.Code.Copies.Laws.{copied-start, copied-next, length-copied}
-use Rattle.records.proofs.Counted.{goes-on, stops, counted}
-use Rattle.records.proofs.OneNode.{Shared, Held, Taken, Back, takes, puts, taking, putting}
-use Rattle.records.proofs.copies.lesser as lesser
-use Rattle.records.proofs.copies.lesser.Symbol as lesser-def
-use Rattle.records.proofs.copies.lesser.Symbol.{name as #records·copies·lesser}
-use Rattle.records.proofs.copies.lesser.Met as lesser-thm
-use Rattle.records.proofs.copies.record_at as record-at
-use Rattle.records.proofs.copies.record_at.Symbol as record-at-def
-use Rattle.records.proofs.copies.record_at.Symbol.{name as #records·copies·record-at}
-use Rattle.records.proofs.copies.record_at.Met as record-at-thm
-use Rattle.records.proofs.copies.copy_out.Key.{name as #records·copies·copy-out}
-use Rattle.records.proofs.copies.copy_out as copy-out
-use Rattle.records.proofs.copies.copy_out.Statement as stated
-use Rattle.records.proofs.copies.copy_out.Code as code
-use Rattle.records.proofs.copies.copy_out.Code.Mir as Mir′
+use Rattle.copies.specs.Copies.{copied}
+use Rattle.copies.specs.Copies.Laws.{copied-start, copied-next, length-copied}
+use Rattle.copies.proofs.Counted.{goes-on, stops, counted}
+use Rattle.copies.proofs.OneNode.{Shared, Held, Taken, Back, takes, puts, taking, putting}
+use Rattle.copies.proofs.lesser as lesser
+use Rattle.copies.proofs.lesser.Symbol as lesser-def
+use Rattle.copies.proofs.lesser.Symbol.{name as #copies·lesser}
+use Rattle.copies.proofs.lesser.Met as lesser-thm
+use Rattle.copies.proofs.record_at as record-at
+use Rattle.copies.proofs.record_at.Symbol as record-at-def
+use Rattle.copies.proofs.record_at.Symbol.{name as #copies·record-at}
+use Rattle.copies.proofs.record_at.Met as record-at-thm
+use Rattle.copies.proofs.copy_out.Key.{name as #copies·copy-out}
+use Rattle.copies.proofs.copy_out as copy-out
+use Rattle.copies.proofs.copy_out.Statement as stated
+use Rattle.copies.proofs.copy_out.Code as code
+use Rattle.copies.proofs.copy_out.Code.Mir as Mir′
 
 abbrev stayed : Stays (copy-out.ended .signature .params) (copy-out.ended .kept)
 stayed = (stay-none-slice (0 ∷ []) tt (plain (λ _. T.the-row)) yes, (stay-slice (1 ∷ []) tt (plain (λ _. u32)), tt))
@@ -167,7 +167,7 @@ module _ {M : Type 1} (𝓤 : URA M) (H : Heap 𝓤) (A : Atoms 𝓤) (W : Given
       heard ! (r ≡ n) (λ e. split ! $ move ! (1 ∷ []) $
       facts ! usize (Is usize) (shows 𝓤 H A usize) r (w ∷ []) (λ is. at-once ! $ check ! (ap only (is .0) ∙ ap (vint w64) e, subst (λ (m : ℕ). m < 2 ^ 64) e (is .1)) $ done !))))))
 
-  module _ (𝓣 : Tables 𝓤 H) (known-at : Triple 𝓤 (𝓣 .C #records·copies·record-at) (RecordAt 𝓤 H A mem run)) (known-put : Triple 𝓤 (𝓣 .C #script·table·put-node) (PutNode 𝓤 H A mem run))
+  module _ (𝓣 : Tables 𝓤 H) (known-at : Triple 𝓤 (𝓣 .C #copies·record-at) (RecordAt 𝓤 H A mem run)) (known-put : Triple 𝓤 (𝓣 .C #script·table·put-node) (PutNode 𝓤 H A mem run))
       (xs-fits : length xs < 2 ^ 64) (n-fits : n < 2 ^ 64) (l₀ l₁ l₂ l₃ l₄ l₅ l₆ l₇ l₈ l₉ l₁₀ l₁₁ l₁₂ : ℕ) where
     abbrev fm : FmC 𝓤 H (W .laws) (𝓣 .C)
     fm = fmOf 𝓤 H (W .laws) 𝓣
@@ -194,8 +194,8 @@ module _ {M : Type 1} (𝓤 : URA M) (H : Heap 𝓤) (A : Atoms 𝓤) (W : Given
       i-fits : i < 2 ^ 64
       i-fits = lt-of-le-of-lt (omega (arith, small)) n-fits
 
-      taken : ent 𝓤 (mean 𝓤 H A Table) (𝓣 .C #records·copies·record-at (s ∷ vint w64 i ∷ []) (λ w. mean 𝓤 H A (Taken T.the-row 𝓤 κ q x (node i) w)))
-      taken = takes 𝓤 H A W T.the-row (𝓣 .C #records·copies·record-at) (fm #records·copies·record-at) κ q i i-fits (record-at.clauses 𝓤 H A mem run) x (node i) tt known-at
+      taken : ent 𝓤 (mean 𝓤 H A Table) (𝓣 .C #copies·record-at (s ∷ vint w64 i ∷ []) (λ w. mean 𝓤 H A (Taken T.the-row 𝓤 κ q x (node i) w)))
+      taken = takes 𝓤 H A W T.the-row (𝓣 .C #copies·record-at) (fm #copies·record-at) κ q i i-fits (record-at.clauses 𝓤 H A mem run) x (node i) tt known-at
           (factI 𝓤 (i < length ns) (emp 𝓤) (omega (arith, small))) (λ r e. id⊢ 𝓤 _)
 
       put : (u : Val) → Is T.the-row (node i) (u ∷ []) → ent 𝓤 (mean 𝓤 H A (Flat i)) (H .⇛ (𝓣 .C #script·table·put-node (t ∷ vint w64 i ∷ u ∷ []) (λ w. mean 𝓤 H A (Back u32 𝓤 κ′ q′ b o γ (length xs)
@@ -247,7 +247,7 @@ module _ {M : Type 1} (𝓤 : URA M) (H : Heap 𝓤) (A : Atoms 𝓤) (W : Given
     loops : ent 𝓤 (⋆ 𝓤 H A (At 0)) (Wp 𝓤 H (𝓣 .C) (𝓣 .Λ) E Mir′.s-6 (afterSeq 𝓤 H (Wp 𝓤 H (𝓣 .C) (𝓣 .Λ) E Mir′.t-7 (atReturn 𝓤 H E Post)) (atReturn 𝓤 H E Post)))
     loops = counted 𝓤 H A W 𝓣 E Mir′.turn-1 Left n (λ i. ⋆ 𝓤 H A (At i)) more ends
 
-  walk : (𝓣 : Tables 𝓤 H) → Triple 𝓤 (𝓣 .C #records·copies·lesser) (Lesser 𝓤 H A mem run) → Triple 𝓤 (𝓣 .C #records·copies·record-at) (RecordAt 𝓤 H A mem run)
+  walk : (𝓣 : Tables 𝓤 H) → Triple 𝓤 (𝓣 .C #copies·lesser) (Lesser 𝓤 H A mem run) → Triple 𝓤 (𝓣 .C #copies·record-at) (RecordAt 𝓤 H A mem run)
       → Triple 𝓤 (𝓣 .C #script·table·put-node) (PutNode 𝓤 H A mem run)
       → Room T.the-row (length ns) → Room u32 (length xs) → ent 𝓤 (onEntry 𝓤 H A copy-out.signature (κ, (κ′, tt)) (q, (q′, tt)) a vals) (WpFn 𝓤 H (𝓣 .C) (𝓣 .Λ) code.function (s ∷ t ∷ []) Post)
   walk 𝓣 known-less known-at known-put room room′ =
@@ -258,8 +258,8 @@ module _ {M : Type 1} (𝓤 : URA M) (H : Heap 𝓤) (A : Atoms 𝓤) (W : Given
       assigns ! (of-opd ! (load ! (from ! (fld ! refl (stop !))) (look-in ! 22 (sub ! 1 refl (whole !))))) (from ! (stop !)) (init ! 14 refl (tt, record { fits = room .0 })) $
       assigns ! (of-opd ! (load ! (from ! (fld ! refl (stop !))) (look-in ! 20 (sub ! 1 refl (whole !))))) (from ! (stop !)) (init ! 12 refl (tt, record { fits = room′ .0 })) $
       assigns ! (bin ! (load ! (from ! (stop !)) (look ! 12 refl)) (lit ! tt) (lit< tt)) (from ! (stop !)) (init ! 10 refl (tt, record { fits = fourth-fits (room′ .0) })) $
-      use0 W (raw (𝓣 .C #records·copies·lesser (vint w64 (length ns) ∷ vint w64 (length xs / 4) ∷ []) (λ w. mean 𝓤 H A (Least w)))) (least (𝓣 .C #records·copies·lesser)
-      (fmOf 𝓤 H (W .laws) 𝓣 #records·copies·lesser) known-less (room .0) (room′ .0)) $
+      use0 W (raw (𝓣 .C #copies·lesser (vint w64 (length ns) ∷ vint w64 (length xs / 4) ∷ []) (λ w. mean 𝓤 H A (Least w)))) (least (𝓣 .C #copies·lesser)
+      (fmOf 𝓤 H (W .laws) 𝓣 #copies·lesser) known-less (room .0) (room′ .0)) $
       calls ! (fmOf 𝓤 H (W .laws) 𝓣) Least (and-then ! (load ! (from ! (stop !)) (look ! 15 refl)) (and-then ! (load ! (from ! (stop !)) (look ! 11 refl)) (no-more !))) (λ w. await ! tt $
       learn ! (λ e. drop ! $
       land ! (from ! (stop !)) (init ! 18 refl (subst (λ (v : Val). Holds (hasTy word v) × WT v) (sym (e .0)) (tt, record { fits = e .1 }))) $
@@ -275,7 +275,7 @@ module _ {M : Type 1} (𝓤 : URA M) (H : Heap 𝓤) (A : Atoms 𝓤) (W : Given
       fourth-fits h = omega (arith, h)
 
 module _ {M : Type 1} (𝓤 : URA M) (H : Heap 𝓤) (A : Atoms 𝓤) (W : Given 𝓤 H A) (mem : Memory → SProp 𝓤) (run : Routine → Fun 𝓤) (𝓣 : Tables 𝓤 H)
-    (known-less : Triple 𝓤 (𝓣 .C #records·copies·lesser) (Lesser 𝓤 H A mem run)) (known-at : Triple 𝓤 (𝓣 .C #records·copies·record-at) (RecordAt 𝓤 H A mem run))
+    (known-less : Triple 𝓤 (𝓣 .C #copies·lesser) (Lesser 𝓤 H A mem run)) (known-at : Triple 𝓤 (𝓣 .C #copies·record-at) (RecordAt 𝓤 H A mem run))
     (known-put : Triple 𝓤 (𝓣 .C #script·table·put-node) (PutNode 𝓤 H A mem run)) where
   copy-out-walks : Walks 𝓤 H A copy-out.ended stayed (WpFn 𝓤 H (𝓣 .C) (𝓣 .Λ) code.function) (copy-out.clauses 𝓤 H A mem run)
   copy-out-walks = walked 𝓤 H A copy-out.ended stayed (copy-out.clauses 𝓤 H A mem run) (WpFn 𝓤 H (𝓣 .C) (𝓣 .Λ) code.function)
@@ -292,8 +292,8 @@ pub copy-out-spec : {M : Type 1} → stated.statement M
 unfolding code.routine tablesOf
 copy-out-spec 𝓤 H 𝓜 𝓖 𝓡 =
     entered 𝓤 H (tripleOf 𝓤 H (𝓖 .A) copy-out.signature (copy-out.spec 𝓤 H (𝓖 .A) (𝓜 .mem) (𝓡 .run)))
-    (tables 𝓤 H 𝓜 𝓡 code.env .C) (tables 𝓤 H 𝓜 𝓡 code.env .Λ) #records·copies·copy-out code.function (code.unfolded 𝓤 H 𝓜 𝓡)
+    (tables 𝓤 H 𝓜 𝓡 code.env .C) (tables 𝓤 H 𝓜 𝓡 code.env .Λ) #copies·copy-out code.function (code.unfolded 𝓤 H 𝓜 𝓡)
     (copy-out-meets 𝓤 H (𝓖 .A) (givenOf 𝓤 H 𝓜 𝓖) (𝓜 .mem) (𝓡 .run) (tablesOf 𝓤 H 𝓜 (tables 𝓤 H 𝓜 𝓡 code.env))
-    (cited 𝓤 H (Lesser 𝓤 H (𝓖 .A) (𝓜 .mem) (𝓡 .run)) 𝓜 𝓡 code.env #records·copies·lesser lesser-def.routine code.calls-records·copies·lesser (lesser-thm.met 𝓤 H 𝓜 𝓖 𝓡))
-    (cited 𝓤 H (RecordAt 𝓤 H (𝓖 .A) (𝓜 .mem) (𝓡 .run)) 𝓜 𝓡 code.env #records·copies·record-at record-at-def.routine code.calls-records·copies·record-at (record-at-thm.met 𝓤 H 𝓜 𝓖 𝓡))
+    (cited 𝓤 H (Lesser 𝓤 H (𝓖 .A) (𝓜 .mem) (𝓡 .run)) 𝓜 𝓡 code.env #copies·lesser lesser-def.routine code.calls-records·copies·lesser (lesser-thm.met 𝓤 H 𝓜 𝓖 𝓡))
+    (cited 𝓤 H (RecordAt 𝓤 H (𝓖 .A) (𝓜 .mem) (𝓡 .run)) 𝓜 𝓡 code.env #copies·record-at record-at-def.routine code.calls-records·copies·record-at (record-at-thm.met 𝓤 H 𝓜 𝓖 𝓡))
     (cited 𝓤 H (PutNode 𝓤 H (𝓖 .A) (𝓜 .mem) (𝓡 .run)) 𝓜 𝓡 code.env #script·table·put-node put-node-def.routine code.calls-script·table·put-node (put-node-thm.met 𝓤 H 𝓜 𝓖 𝓡)))

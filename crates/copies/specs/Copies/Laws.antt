@@ -11,7 +11,7 @@ use Rattle.script.specs.Flat.Laws.{length-flat}
 use Rattle.script.specs.Table.{nodeAt, unused}
 use Rattle.script.specs.declared.Node.{Node}
 use Rattle.text.specs.Reading.{filled}
-use Rattle.records.specs.Code.Copies.{copied, CopiedOut, places, placed}
+use Rattle.copies.specs.Copies.{copied, CopiedOut, places, placed}
 
 -- ---- records to flat form
 

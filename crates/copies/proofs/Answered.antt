@@ -21,9 +21,9 @@ use denote.Memory.{lone}
 use denote.Triple.Entry.{Res}
 use denote.Triple.Statement.{Triple}
 use denote.Triple.Clauses.{Clauses, Ended, Lasts, lasts}
-use Rattle.records.proofs.Calling.{Asked, Callee, tokens, requires, ensures, answer, called}
-use Rattle.records.proofs.Lent.{Elems, back-shr, let-go}
-use Rattle.records.proofs.Locals.{at-spot}
+use Rattle.copies.proofs.Calling.{Asked, Callee, tokens, requires, ensures, answer, called}
+use Rattle.copies.proofs.Lent.{Elems, back-shr, let-go}
+use Rattle.copies.proofs.Locals.{at-spot}
 
 -- the result is read, where the environment is not written out
 module _ {M : Type 1} {𝓤 : URA M} {H : Heap 𝓤} {A : Atoms 𝓤} {K : Type 0} {W : Given 𝓤 H A} {Γ : List (Item 𝓤)} (E : Env 𝓤 H) {τ : Ty} {lo : ℕ} {w : Val} where

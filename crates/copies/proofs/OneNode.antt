@@ -40,8 +40,8 @@ use denote.Triple.Clauses.{Clauses, Ended, Lasts, AtExit, atExit, ensured, closi
 use Rattle.script.specs.declared.Node.{Node}
 use Rattle.script.proofs.Node as T
 use Rattle.script.proofs.Node.Laws as T′
-use Rattle.records.proofs.Again.{LentAgain, lends-again, comes-back}
-use Rattle.records.proofs.Row.{makes, typed}
+use Rattle.copies.proofs.Again.{LentAgain, lends-again, comes-back}
+use Rattle.copies.proofs.Row.{makes, typed}
 
 module _ (R : RattleType) where
   abbrev pub Taking : Ended

@@ -1,0 +1,10 @@
+pub mod Again
+pub mod Answered
+pub mod Calling
+pub mod Counted
+pub mod Lent
+pub mod Locals
+pub mod OneNode
+pub mod Row
+pub mod Said
+pub mod Sliced
