@@ -1,10 +1,9 @@
 // The typed rules and the symbolic rules by the table: each node is checked or executed after its operands, whose numbers are smaller. A typed block in a
 // symbolic block hands over to the typed rules, on the same workspace, unless a note has its type; a `sym` in typed mode follows its paths in a workspace and
 // frames of its own.
-ghost use mathlib.Core.Bool.{false, _||_};
+ghost use mathlib.Core.Bool.{false};
 ghost use mathlib.Core.Path.{_≡_};
 ghost use Prim.Native.Nat.{_≤_, _<_};
-ghost use lib.Dec.{eqb};
 ghost use Rattle.script.specs.Code.Forms.{nodeIn, treeIn};
 ghost use Rattle.script.specs.Rows.{nodeOperands};
 ghost use Rattle.rules.specs.Checking.{check, exec};
@@ -38,6 +37,7 @@ use types::bind_type;
 use types::if_type;
 use types::leaf_type;
 use types::one_type;
+use types::right_type;
 use types::two_type;
 use workspace::DEPTH;
 use workspace::FORKED;
@@ -51,16 +51,6 @@ pub enum Walked {
     Wrong(Refusal),
     Last(u32),
     More(u32, u32),
-}
-
-// The type t of a path is the first path's: that of this path, if it is the first.
-fn right_type(t: u32, first: bool, wanted: u32) -> bool
-    ensures { λ r. ⌜ r ≡ (first || eqb t wanted) ⌝ }
-{
-    if first {
-        return true;
-    }
-    t == wanted
 }
 
 // At the end of a path of type t: the log first, then the type.

@@ -8,6 +8,7 @@ ghost use Rattle.workspace.specs.Rules.{Leaf, One, Two, After, Operable};
 ghost use Rattle.workspace.specs.State.{Room};
 use crate::path::fresh;
 use log::consistent;
+use log::forget;
 use log::lookup;
 use log::write;
 use script::Refusal;
@@ -33,9 +34,7 @@ use terms::words::equal_words;
 use types::DEEPEST;
 use workspace::Found;
 use workspace::NEXT;
-use workspace::START;
 use workspace::Step;
-use workspace::WRITES;
 
 // `var`: the value at place k of the environment.
 fn variable(space: &[u32], depth: usize, k: u32, n: u32) -> Step
@@ -195,6 +194,6 @@ pub fn typed_result(t: u32, space: &mut [u32], n: u32) -> Step
     if !consistent(space) {
         return Step::Stopped(Refusal::InconsistentLog(n));
     }
-    space[START] = space[WRITES];
+    forget(space);
     Step::Gave(t, fresh(space, t))
 }

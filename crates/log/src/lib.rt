@@ -2,7 +2,7 @@
 ghost use mathlib.Core.Path.{_≡_};
 ghost use Prim.Native.Nat.{suc, _-_, _<_, _≤_};
 ghost use lib.ListN.{length};
-ghost use Rattle.workspace.specs.Log.{rightOn, mendsOn, mendedOn, settledOn, consistentOn, apartOn, lookupOn, written};
+ghost use Rattle.workspace.specs.Log.{rightOn, mendsOn, mendedOn, settledOn, consistentOn, apartOn, lookupOn, written, emptied};
 ghost use Rattle.script.specs.Limits.{nodeLimit};
 ghost use Rattle.workspace.specs.State.{spaceSize, writesIn, startIn};
 use workspace::Found;
@@ -128,4 +128,12 @@ pub fn write(space: &mut [u32], t: u32, p: u32, u: u32, q: u32)
     space[at + 2] = u;
     space[at + 3] = q;
     space[WRITES] = count + 1;
+}
+
+// No write counts any more, after a typed block.
+pub fn forget(space: &mut [u32])
+    requires { ⌜ spaceSize ≤ length (now space) ⌝ }
+    ensures { λ _. ⌜ now (space .exit) ≡ emptied (now (space .entry)) ⌝ }
+{
+    space[START] = space[WRITES];
 }

@@ -1,4 +1,5 @@
 // The type rules: what node n gives in typed mode once its operands have given their types. A type is its code.
+ghost use mathlib.Core.Bool.{_||_};
 ghost use mathlib.Core.Path.{_≡_};
 ghost use Prim.Native.Nat.{_*_, _<_, _≤_};
 ghost use lib.Dec.{eqb};
@@ -144,4 +145,14 @@ pub fn bind_type(space: &mut [u32], depth: usize, kind: u32, t: u32) -> usize
         return depth + 1;
     }
     depth
+}
+
+// The type t of a path is the first path's: that of this path, if it is the first.
+pub fn right_type(t: u32, first: bool, wanted: u32) -> bool
+    ensures { λ r. ⌜ r ≡ (first || eqb t wanted) ⌝ }
+{
+    if first {
+        return true;
+    }
+    t == wanted
 }

@@ -63,3 +63,7 @@ abbrev pub written : List ℕ → ℕ → ℕ → ℕ → ℕ → List ℕ
 written ws t p u q =
     let at = 729 + 4 * writesIn ws in
     set (set (set (set (set ws at t) (at + 1) p) (at + 2) u) (at + 3) q) 726 (writesIn ws + 1)
+
+-- no write counts any more
+abbrev pub emptied : List ℕ → List ℕ
+emptied ws = set ws 727 (writesIn ws)

@@ -15,7 +15,7 @@ use Rattle.rules.specs.Symbolic.{Sum, Formula, Origin, made, Symbolic, aWord, a
 use Rattle.rules.specs.SymbolicRules.{got, unaryExec, binaryExec, typedResult}
 use Rattle.terms.specs.Terms.{countIn, Grown}
 use Rattle.terms.specs.Terms.Laws.{grown-trans, still-distinct}
-use Rattle.workspace.specs.Log.{consistentOn, lookupOn, written, FoundAs, found-none, found-some}
+use Rattle.workspace.specs.Log.{consistentOn, lookupOn, written, FoundAs, found-none, found-some, emptied}
 use Rattle.workspace.specs.Log.Laws.{consistent-is, lookup-is, written-grown, written-before, written-ruled, written-path}
 use Rattle.workspace.specs.Paths.{Fresh}
 use Rattle.workspace.specs.Paths.Conditions.{ruled-refl}
@@ -237,31 +237,28 @@ module _ (n t : ℕ) {ws : List ℕ} {b : Bool} (e : b ≡ consistentOn ws (star
 
   -- no write counts any more
   module _ (x : Room ws 1) where
-    abbrev emptied : List ℕ
-    emptied = set ws 727 (writesIn ws)
-
-    emptied-other : (k : ℕ) → (k ≡ 727 → ⊥) → getD emptied k 0 ≡ getD ws k 0
+    emptied-other : (k : ℕ) → (k ≡ 727 → ⊥) → getD (emptied ws) k 0 ≡ getD ws k 0
     emptied-other k d = getD-set-other ws 727 k (writesIn ws) 0 d
 
-    emptied-writes : writesIn emptied ≡ writesIn ws
+    emptied-writes : writesIn (emptied ws) ≡ writesIn ws
     emptied-writes = emptied-other 726 λ e. omega arith
 
-    emptied-start : startIn emptied ≡ writesIn ws
+    emptied-start : startIn (emptied ws) ≡ writesIn ws
     emptied-start = getD-set-same ws 727 (writesIn ws) 0 (omega (arith, x .lent))
 
-    emptied-grown : Grown ws emptied
+    emptied-grown : Grown ws (emptied ws)
     emptied-grown =
         let c = emptied-other 288 (λ e. omega arith) in
         record { grows = omega arith; rows = λ k h l. emptied-other k λ z. omega (arith, l, x .rows) }
 
-    emptied-path : {p : Path} → PathIn ws p → PathIn emptied (forget p)
+    emptied-path : {p : Path} → PathIn ws p → PathIn (emptied ws) (forget p)
     emptied-path h =
         let k = emptied-other 288 (λ e. omega arith) in
         path-moved emptied-grown (still-distinct emptied-grown (omega (arith, k)) (h .distinct)) (emptied-other 725 (λ e. omega arith))
         (emptied-other 724 (λ e. omega arith) ∙ h .next) (rw (emptied-writes, emptied-start) noWrite)
         (still-known (λ j l. emptied-other j λ e. omega arith) emptied-grown (h .remembers)) h
 
-    emptied-went : Went ws emptied 144 0
+    emptied-went : Went ws (emptied ws) 144 0
     emptied-went =
         record {
           same = length-set ws 727 (writesIn ws);
@@ -274,10 +271,10 @@ module _ (n t : ℕ) {ws : List ℕ} {b : Bool} (e : b ≡ consistentOn ws (star
           log = λ k l h. emptied-other k λ z. omega arith;
         }
 
-    pub emptied-room : Room emptied 1
+    pub emptied-room : Room (emptied ws) 1
     emptied-room = room-on x emptied-went
 
-    pub block-made : b ≡ true → {i : ℕ} {left : List ℕ} → Fresh t emptied i left → After n t ws (Gave t i) left
+    pub block-made : b ≡ true → {i : ℕ} {left : List ℕ} → Fresh t (emptied ws) i left → After n t ws (Gave t i) left
     unfolding typedResult
     block-made z y =
         record {

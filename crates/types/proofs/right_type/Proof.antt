@@ -1,6 +1,6 @@
--- `checker::nodes::right_type` meets its contract: the first path has the right type. Assumes nothing.
-use Rattle.checker.proofs.nodes.right_type.Statement.{statement}
-use Rattle.checker.proofs.nodes.right_type.Tie as tie
+-- `types::right_type` meets its contract: the first path has the right type. Assumes nothing.
+use Rattle.types.proofs.right_type.Statement.{statement}
+use Rattle.types.proofs.right_type.Tie as tie
 
 returns : tie.Need-returns
 returns c = rw (c .if1 .taken)
