@@ -1,10 +1,8 @@
 -- `checker::operators::typed_result` meets its contract: a consistent log, of which no write counts then, and a fresh symbol. Assumes nothing.
 use borrow.Author.Needs.{needs}
 use native.Mathlib.Omega.{arith}
-use lib.ListN.{length-set}
 use borrow.Author.Tests.{not-true, not-false}
 use Rattle.workspace.specs.Rules.Memory.{block-stopped, emptied-room, block-made}
-use Rattle.workspace.specs.State.{writesIn}
 use Rattle.checker.proofs.operators.typed_result.Statement.{statement}
 use Rattle.checker.proofs.operators.typed_result.Tie as tie
 
@@ -14,14 +12,17 @@ consistent-requires c κs = (omega (arith, c .before .before .pre .writes), c .b
 returns : tie.Need-returns
 returns c = block-stopped (c .before .before .before .before .args .n) (c .before .before .before .before .args .t) (c .before .consistent .ensures) (not-true _ (c .if1 .taken))
 
+forget-requires : tie.Need-forget-requires
+forget-requires c κs = c .before .before .before .before .before .pre .lent
+
 fresh-requires : tie.Need-fresh-requires
-fresh-requires c κs = emptied-room (c .before .before .before .before .before .before .args .n) (c .before .before .before .before .before .before .args .t) (c .before .before .before .consistent .ensures) (c .before .before .before .before .before .before .pre)
+fresh-requires c κs = rw (c .before .before .before .forget .ensures) (emptied-room (c .before .before .before .before .before .before .before .before .before .args .n) (c .before .before .before .before .before .before .before .before .before .args .t) (c .before .before .before .before .before .before .consistent .ensures) (c .before .before .before .before .before .before .before .before .before .pre))
 
 same-length-2 : tie.Need-same-length-2
-same-length-2 c = omega (arith, c .before .space .given, length-set (c .before .before .before .before .before .before .before .before .before .args .space .now) 727 (writesIn (c .before .before .before .before .before .before .before .before .before .args .space .now)))
+same-length-2 c = omega (arith, c .before .space2 .given, c .before .before .before .before .before .space .given)
 
 returns-2 : tie.Need-returns-2
-returns-2 c = block-made (c .before .before .before .before .before .before .before .before .before .args .n) (c .before .before .before .before .before .before .before .before .before .args .t) (c .before .before .before .before .before .before .consistent .ensures) (c .before .before .before .before .before .before .before .before .before .pre) (not-false _ (c .before .before .before .before .before .if1 .left)) (c .before .before .fresh .ensures)
+returns-2 c = block-made (c .before .before .before .before .before .before .before .before .before .before .before .before .args .n) (c .before .before .before .before .before .before .before .before .before .before .before .before .args .t) (c .before .before .before .before .before .before .before .before .before .consistent .ensures) (c .before .before .before .before .before .before .before .before .before .before .before .before .pre) (not-false _ (c .before .before .before .before .before .before .before .before .if1 .left)) (rw (c .before .before .before .before .before .before .forget .ensures) at (c .before .before .fresh .ensures))
 
 pub typed-result-spec : {M : Type 1} → statement M
 typed-result-spec =
@@ -30,8 +31,7 @@ typed-result-spec =
     consistent-requires
     (λ c. search needs)
     returns
-    (λ c. search needs)
-    (λ c. search needs)
+    forget-requires
     fresh-requires
     same-length-2
     returns-2)
