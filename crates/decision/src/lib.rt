@@ -4,9 +4,10 @@
 // known when the next guard comes.
 ghost use mathlib.Core.Path.{_≡_};
 ghost use Prim.Native.Nat.{_<_, _≤_};
-ghost use lib.ListN.{length};
+ghost use lib.ListN.{length, set};
 ghost use Rattle.rows.specs.Decision.{onlyOne};
-ghost use Rattle.rows.specs.Code.{conditionWord, Searchable, Searched, decidedAnew, LeftAnew};
+ghost use Rattle.script.specs.Tests.{pick};
+ghost use Rattle.rows.specs.Code.{conditionWord, Searchable, Searched, kept, Keepable, decidedAnew, LeftAnew};
 ghost use Rattle.decision.specs.Promise.{Decidable, Decides};
 
 mod conjuncts;
@@ -109,6 +110,45 @@ fn search(
     branches_of(yes, no)
 }
 
+// Nothing is known of the condition any more.
+pub fn forget(space: &mut [u32], at: usize)
+    requires { ⌜ at < length (now space) ⌝ }
+    ensures { λ _. ⌜ now (space .exit) ≡ set (now (space .entry)) at 0 ⌝ }
+{
+    space[at] = 0;
+}
+
+// After a decision of the guard alone: if one branch is impossible, nothing is known any more.
+fn forget_after(space: &mut [u32], at: usize, decision: Decision)
+    requires { ⌜ at < length (now space) ⌝ }
+    ensures { λ _. ⌜ now (space .exit) ≡ pick (onlyOne decision) (set (now (space .entry)) at 0) (now (space .entry)) ⌝ }
+{
+    if !only_one(decision) {
+        return;
+    }
+    forget(space, at);
+}
+
+// After a search with the condition: if one branch is impossible, its truths are kept.
+fn keep_after(
+    space: &mut [u32],
+    at: usize,
+    marks: &[u8],
+    n: usize,
+    blocks: u32,
+    truths: &[u64],
+    decision: Decision,
+)
+    requires { ⌜ Keepable (now space) at (now marks) n ⌝ }
+    requires { ⌜ (blocks ≤ 16) × (16 ≤ length (now truths)) ⌝ }
+    ensures { λ _. ⌜ now (space .exit) ≡ pick (onlyOne decision) (kept (now (space .entry)) at (now (marks .entry)) n blocks (now (truths .entry))) (now (space .entry)) ⌝ }
+{
+    if !only_one(decision) {
+        return;
+    }
+    keep(space, at, marks, n, blocks, truths);
+}
+
 // The decision by the rows: of the guard alone, if it shares no atom with the condition, and without a search, if it is a conjunct of it. If one branch is
 // impossible, the condition's truths are known then, or nothing is.
 fn decide_anew(space: &mut [u32], at: usize, condition: u32, guard: u32) -> Decision
@@ -137,27 +177,21 @@ fn decide_anew(space: &mut [u32], at: usize, condition: u32, guard: u32) -> Deci
             blocks_of(counts.own),
             &mut truths,
         );
-        if only_one(alone) {
-            space[at] = 0;
-            return alone;
-        }
+        forget_after(space, at, alone);
         return alone;
     }
     let link = conjunct(space, c, guard);
     if link == CONJUNCTION {
-        space[at] = 0;
+        forget(space, at);
         return Decision::OnlyTrue;
     }
     if link == EXCLUSION {
-        space[at] = 0;
+        forget(space, at);
         return Decision::OnlyFalse;
     }
     let blocks = blocks_of(counts.all);
     let decision = search(space, c, g, &marks, CONDITION, blocks, &mut truths);
-    if only_one(decision) {
-        keep(space, at, &marks, n, blocks, &truths);
-        return decision;
-    }
+    keep_after(space, at, &marks, n, blocks, &truths, decision);
     decision
 }
 

@@ -6,10 +6,10 @@ use Prim.Native.Nat.{ℕ, _+_, _≤_, _<_}
 use borrow.Author.Tests.{lt-ltb, le-ltb, eq-eqb, ne-eqb}
 use native.Mathlib.Omega.{arith}
 use lib.Dec.{eqb}
-use lib.ListN.{length, getD, take}
+use lib.ListN.{length, getD, set, take}
 use Rattle.script.specs.Tests.{pick}
 use Rattle.terms.specs.Terms.{rowLimit, rowsEnd}
-use Rattle.rows.specs.Code.{above, Room, marked, rank, Rows, numberedTo, noNumbers, countsOf, blocksOf, searched, Searched, knownSize, knownNumbers, kept, Keepable, guardMarks, guardRows, compared, startMarks, marksFrom, atomsFrom, conjunctOf, isLink, recalled, recalls, decidedAnew, aside, decided, LeftAnew, left-kept}
+use Rattle.rows.specs.Code.{above, Room, marked, rank, Rows, numberedTo, noNumbers, countsOf, blocksOf, searched, Searched, knownSize, knownNumbers, kept, Keepable, guardMarks, guardRows, compared, startMarks, marksFrom, atomsFrom, conjunctOf, isLink, recalled, recalls, decidedAnew, aside, decided, LeftAnew, left-same, left-none, left-kept}
 use Rattle.rows.specs.Code.Laws.{above-second, above-within, marked-length}
 use Rattle.decision.specs.Code.Ordered.{numbered-alike, taken-alike}
 use Rattle.decision.specs.Code.Searching.{rows-listed, order-long}
@@ -137,12 +137,29 @@ module _ (ws : List ℕ) (c g : ℕ) where
         all : Counts → ℕ
         all x = x .all
 
-    pub left-with : {at blocks : ℕ} {r : Decision} {start ts left : List ℕ} → aside ws c g ≡ false → k .all ≤ 10 → blocks ≡ blocksOf (k .all) → Searched ws ms 1 c g blocks start r ts → onlyOne r ≡ true
+    left-with : {at blocks : ℕ} {r : Decision} {start ts left : List ℕ} → aside ws c g ≡ false → k .all ≤ 10 → blocks ≡ blocksOf (k .all) → Searched ws ms 1 c g blocks start r ts → onlyOne r ≡ true
         → left ≡ kept ws at ms n blocks ts → LeftAnew ws at c g r left
     left-with {ts = ts} n few eb s t e =
         let a = parts-all in
         left-kept t n (omega arith) ts (λ b h. rw parts-marks at (s .truths t b (rw (eb ∙ ap blocksOf a) h)))
         (e ∙ rw (parts-marks, p .up, eb, a) refl)
+
+    pub left-after : {at blocks : ℕ} {r : Decision} {start ts left : List ℕ} → aside ws c g ≡ false → k .all ≤ 10 → blocks ≡ blocksOf (k .all)
+        → Searched ws ms 1 c g blocks start r ts → left ≡ pick (onlyOne r) (kept ws at ms n blocks ts) ws → LeftAnew ws at c g r left
+    left-after {at} {blocks} {r} {start} {ts} {left} a few eb s e = go (onlyOne r) refl e
+      where
+        go : (t : Bool) → onlyOne r ≡ t → left ≡ pick t (kept ws at ms n blocks ts) ws → LeftAnew ws at c g r left
+        go true q z = left-with a few eb s q z
+        go false q z = left-same q z
+
+-- where the condition's truths were not computed
+pub left-alone : {ws : List ℕ} {at c g : ℕ} {r : Decision} {left : List ℕ} → aside ws c g ≡ true → left ≡ pick (onlyOne r) (set ws at 0) ws
+    → LeftAnew ws at c g r left
+left-alone {ws} {at} {c} {g} {r} {left} a e = go (onlyOne r) refl e
+  where
+    go : (t : Bool) → onlyOne r ≡ t → left ≡ pick t (set ws at 0) ws → LeftAnew ws at c g r left
+    go true q z = left-none q a z
+    go false q z = left-same q z
 
 pub room-marked : {ws : List ℕ} {n : ℕ} {start : List ℕ} (ms : List ℕ) → Room ws n start → ms ≡ marked ws n start → Room ws n ms
 room-marked {ws} {n} {start} ms r e =
