@@ -13,6 +13,7 @@ use crate::operators::one;
 use crate::operators::two;
 use crate::path::assume;
 use crate::path::choose;
+use decision::forget;
 use frames::forks::fork;
 use frames::leave;
 use frames::wait;
@@ -65,7 +66,7 @@ fn branch(space: &mut [u32], frames: &mut [u32], b: u32, c: u32, t: u32, p: u32,
         Branch::Neither(why) => Move::Stopped(why),
         Branch::Both => {
             fork(space, frames);
-            space[KNOWN] = 0;
+            forget(space, KNOWN);
             assume(space, CONJUNCTION, p);
             Move::Operand(b)
         }

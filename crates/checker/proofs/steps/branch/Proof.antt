@@ -2,7 +2,6 @@
 use borrow.Author.Needs.{needs}
 use mathlib.Core.Path.{_∙_}
 use native.Mathlib.Omega.{arith}
-use lib.ListN.{length-set}
 use Rattle.checker.specs.Code.Going.Branching.{both-lent, stored-lent, stored-space, both-forkable, branched-first, branched-second, branched-none, branched-both}
 use Rattle.checker.proofs.steps.branch.Statement.{statement}
 use Rattle.checker.proofs.steps.branch.Tie as tie
@@ -12,16 +11,16 @@ fork-requires c κs =
     let p = c .before .before .before .before .before .before .before .before .before .before .before .before .before .before .pre in
     both-forkable (p .0) (c .before .before .enum-told3 .given .1) (c .before .before .before .before .before .before .choose .ensures) (p .1 .1 .1 .1) (c .before .before .before .before .before .before .before .before .before .before .wait .ensures) (p .1 .0) (p .1 .1 .0) (p .1 .1 .1 .0)
 
-slice-write-space : tie.Need-slice-write-space
-slice-write-space c =
-    let p = c .before .before .before .before .before .before .before .before .before .before .before .before .before .before .before .before .before .pre in
-    let l = both-lent (p .0) (c .before .before .before .before .before .enum-told3 .given .1) (c .before .before .before .before .before .before .before .before .before .choose .ensures) in
+forget-requires : tie.Need-forget-requires
+forget-requires c κs =
+    let p = c .before .before .before .before .before .before .before .before .before .before .before .before .before .before .before .before .before .before .pre in
+    let l = both-lent (p .0) (c .before .before .before .before .before .before .enum-told3 .given .1) (c .before .before .before .before .before .before .before .before .before .before .choose .ensures) in
     omega (arith, l)
 
 assume-requires : tie.Need-assume-requires
 assume-requires c κs =
-    let p = c .before .before .before .before .before .before .before .before .before .before .before .before .before .before .before .before .before .before .pre in
-    (stored-space (p .0) (c .before .before .before .before .before .before .enum-told3 .given .1) (c .before .before .before .before .before .before .before .before .before .before .choose .ensures) _, stored-lent (p .0) (c .before .before .before .before .before .before .enum-told3 .given .1) (c .before .before .before .before .before .before .before .before .before .before .choose .ensures) _)
+    let p = c .before .before .before .before .before .before .before .before .before .before .before .before .before .before .before .before .before .before .before .before .before .before .pre in
+    rw (c .before .before .before .forget .ensures) (stored-space (p .0) (c .before .before .before .before .before .before .before .before .before .before .enum-told3 .given .1) (c .before .before .before .before .before .before .before .before .before .before .before .before .before .before .choose .ensures) 0, stored-lent (p .0) (c .before .before .before .before .before .before .before .before .before .before .enum-told3 .given .1) (c .before .before .before .before .before .before .before .before .before .before .before .before .before .before .choose .ensures) 0)
 
 returns : tie.Need-returns
 returns c = branched-first (c .before .before .before .before .before .before .before .before .wait .ensures) (c .before .before .before .before .choose .ensures) (c .enum-told .given .1)
@@ -33,10 +32,10 @@ returns-3 : tie.Need-returns-3
 returns-3 c = branched-none (c .before .before .before .before .before .before .before .before .before .wait .ensures) (c .before .before .before .before .before .choose .ensures) (c .before .why .given .1)
 
 same-length-7 : tie.Need-same-length-7
-same-length-7 c = c .before .before .assume .kept .0 ∙ length-set (c .before .before .before .before .before .before .before .before .before .before .before .before .before .choose .last .0) 1371 _ ∙ c .before .before .before .before .before .before .before .before .before .before .before .before .before .choose .kept .0
+same-length-7 c = c .before .before .assume .kept .0 ∙ c .before .before .before .before .before .before .forget .kept .0 ∙ c .before .before .before .before .before .before .before .before .before .before .before .before .before .before .before .before .before .choose .kept .0
 
 returns-4 : tie.Need-returns-4
-returns-4 c = branched-both (c .before .before .before .before .before .before .before .before .before .before .before .before .before .before .before .before .before .wait .ensures) (c .before .before .before .before .before .before .before .before .before .before .before .before .before .choose .ensures) (c .before .before .before .before .before .before .before .before .before .enum-told3 .given .1) (c .before .before .before .before .before .before .fork .ensures) (c .before .before .assume .ensures)
+returns-4 c = branched-both (c .before .before .before .before .before .before .before .before .before .before .before .before .before .before .before .before .before .before .before .before .before .wait .ensures) (c .before .before .before .before .before .before .before .before .before .before .before .before .before .before .before .before .before .choose .ensures) (c .before .before .before .before .before .before .before .before .before .before .before .before .before .enum-told3 .given .1) (c .before .before .before .before .before .before .before .before .before .before .fork .ensures) (rw (c .before .before .before .before .before .before .forget .ensures) at (c .before .before .assume .ensures))
 
 pub branch-spec : {M : Type 1} → statement M
 branch-spec =
@@ -49,7 +48,7 @@ branch-spec =
     (λ c. search needs)
     (λ c. search needs)
     fork-requires
-    slice-write-space
+    forget-requires
     assume-requires
     (λ c. search needs)
     (λ c. search needs)
