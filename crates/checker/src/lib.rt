@@ -18,8 +18,8 @@ mod steps;
 use nodes::check_node;
 use script::Checked;
 use script::table::Tested;
-use tests::test_table;
 use terms::VARIABLES;
+use tests::test_table;
 
 // At most how many paths a `sym` has.
 const PATHS: u32 = 64;

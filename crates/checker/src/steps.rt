@@ -2,12 +2,12 @@
 ghost use mathlib.Core.Path.{_≡_};
 ghost use Prim.Native.Nat.{_+_, _*_, _≤_, _<_};
 ghost use lib.ListN.{length};
+ghost use Rattle.terms.specs.Terms.{symbolLimit};
 ghost use Rattle.workspace.specs.Frames.{frameIn, Waitable};
-ghost use Rattle.checker.specs.Code.Going.{boundTo, unbound, movedBy, Branched, Lastable, Lasts, Returnable, Backs, Climbs, Leafable, LeafArrives};
 ghost use Rattle.workspace.specs.Forks.{forkedIn, framesSize};
 ghost use Rattle.workspace.specs.Rules.{Decidable};
 ghost use Rattle.workspace.specs.State.{depthIn, spaceSize};
-ghost use Rattle.terms.specs.Terms.{symbolLimit};
+ghost use Rattle.checker.specs.Code.Going.{boundTo, unbound, movedBy, Branched, Lastable, Lasts, Returnable, Backs, Climbs, Leafable, LeafArrives};
 use crate::operators::leaf;
 use crate::operators::one;
 use crate::operators::two;

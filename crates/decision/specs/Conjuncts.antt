@@ -14,11 +14,11 @@ use Rattle.rules.specs.Satisfiable.Laws.{Respects, satisfiable-if, satisfiable-
 use Rattle.rules.specs.Symbolic.{Atom, Formula, negation, conjunction, sameAtom}
 use Rattle.terms.specs.Terms.{rowIn, rowLimit, bitOf, AtomRow, TruthRow, constantRow, atomRow, negationRow, conjunctionRow, equalityRow, exclusionRow}
 use Rattle.terms.specs.declared.Row.{Row}
-use Rattle.decision.specs.Atoms.{atom-one}
 use Rattle.rows.specs.Code.{isLink, conjunctAt, conjunctOf}
 use Rattle.rows.specs.Decision.{branchesOf}
 use Rattle.rows.specs.declared.Decision.{Decision}
 use Rattle.rows.specs.declared.Decision.the-variants.{OnlyTrue, OnlyFalse}
+use Rattle.decision.specs.Atoms.{atom-one}
 use Rattle.decision.specs.Words.{atom-op}
 
 -- ---- the way down

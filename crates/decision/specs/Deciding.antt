@@ -19,18 +19,18 @@ use Rattle.rules.specs.Satisfiable.Laws.{Respects, holds-agree, satisfiable-if,
 use Rattle.rules.specs.Symbolic.{Atom, Formula, constantly, negation, conjunction, sameAtom}
 use Rattle.rules.specs.Symbolic.Laws.{sameAtom-sym, sameAtom-trans}
 use Rattle.terms.specs.Terms.{rowIn, countIn, rowLimit, Space, TruthRow, AtomRow, Distinct}
-use Rattle.decision.specs.Atoms.{assign, assign-respects, numberOf, number-less, number-assigns, apart-length, different-apart}
 use Rattle.rows.specs.Bits.{bit, bit-zero, some-bit, or-second-most}
 use Rattle.rows.specs.Code.{above, seenAfter, rank, words, spreadOf, numbersFrom, blocksOf, together, conditionWord, trueWord, falseWord, nonZero, searchedBy, searched, truthsOf, startMarks, marksFrom, atomsFrom, conjunctOf, decidedAnew}
 use Rattle.rows.specs.Code.Laws.{above-first, above-second, above-within}
 use Rattle.rows.specs.Code.Loops.{together-grows}
-use Rattle.decision.specs.Code.Ordered.{numbered-rank}
-use Rattle.decision.specs.Conjuncts.{linked-branches}
 use Rattle.rows.specs.Decision.{branchesOf, decisionOf}
 use Rattle.rows.specs.declared.Decision.{Decision}
 use Rattle.rows.specs.declared.Decision.the-variants.{TooMany, OnlyTrue, OnlyFalse}
-use Rattle.decision.specs.Listed.{Counted, Listed, SomeList, some-list, list-made, rank-counted, listed-length, listed-in, listed-part, listed-apart, listed-assigns}
 use Rattle.rows.specs.Marks.{Within, part, Parts, Kept, AtLeast, Odd, kept-least, kept-odd, marked-keeps, closed-first, closed-second, parts-marked, start-length, start-parts, start-first, start-second}
+use Rattle.decision.specs.Atoms.{assign, assign-respects, numberOf, number-less, number-assigns, apart-length, different-apart}
+use Rattle.decision.specs.Code.Ordered.{numbered-rank}
+use Rattle.decision.specs.Conjuncts.{linked-branches}
+use Rattle.decision.specs.Listed.{Counted, Listed, SomeList, some-list, list-made, rank-counted, listed-length, listed-in, listed-part, listed-apart, listed-assigns}
 use Rattle.decision.specs.Words.{Assigned, Right, right-negation, right-conjunction, right-constant, Closed, RowOf, row-of, rows-of, Sweep, either, atom-op, rank-grows, rows-listed, rows-right}
 
 -- ---- the blocks together

@@ -18,10 +18,10 @@ use Rattle.rules.specs.Satisfiable.Laws.{among-same}
 use Rattle.rules.specs.Symbolic.{Atom, Formula, sameAtom}
 use Rattle.rules.specs.Symbolic.Laws.{sameAtom-refl}
 use Rattle.terms.specs.Terms.{rowIn, countIn, constantRow, atomRow, negationRow, conjunctionRow, equalityRow, exclusionRow, AtomRow, Distinct}
-use Rattle.decision.specs.Atoms.{Apart, apart-none, apart-more, same-turned, atom-one, assign}
 use Rattle.rows.specs.Bits.{bit}
 use Rattle.rows.specs.Code.{seenAfter, rank}
 use Rattle.rows.specs.Marks.{Part, part, Parts}
+use Rattle.decision.specs.Atoms.{Apart, apart-none, apart-more, same-turned, atom-one, assign}
 
 -- a row that is an atom and has at least a mark
 pub record Counted (ws ms : List ℕ) (least i : ℕ) : Type 0 where

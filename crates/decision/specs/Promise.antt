@@ -11,9 +11,9 @@ use Rattle.rules.specs.Symbolic.{Formula, negation, conjunction}
 use Rattle.terms.specs.Terms.{countIn, rowLimit, rowsEnd, Space, TruthRow, Distinct}
 use Rattle.rows.specs.Code.{knownSize, Sound, decided, LeftBy}
 use Rattle.rows.specs.Decision.{decisionOf}
-use Rattle.decision.specs.Known.{Remembers}
 use Rattle.rows.specs.declared.Decision.{Decision}
 use Rattle.rows.specs.declared.Decision.the-variants.{TooMany, Both, OnlyTrue, OnlyFalse}
+use Rattle.decision.specs.Known.{Remembers}
 
 -- the numbers and rows that it takes
 pub record Decidable (ws : List ℕ) (at c g : ℕ) : Type 0 where

@@ -19,11 +19,11 @@ use Rattle.rules.specs.Symbolic.Laws.{sameAtom-trans}
 use Rattle.rules.specs.Symbolic.{Atom, Formula, constantly, atom, negation, conjunction, equality, sameAtom}
 use Rattle.terms.specs.Terms.{rowIn, bitOf, TruthRow, constantRow, atomRow, negationRow, conjunctionRow, equalityRow, exclusionRow, AtomRow, truthSymbolRow, pairRow, differenceRow}
 use Rattle.terms.specs.declared.Row.{Row}
-use Rattle.decision.specs.Atoms.{assign, assign-respects}
 use Rattle.rows.specs.Bits.{bit, bit-and, bit-xor, bit-not}
 use Rattle.rows.specs.Code.{ones, spreadOf, patternOf, rank, rowWord, wordOf, words}
 use Rattle.rows.specs.Code.Laws.{seen-grows, words-length}
 use Rattle.rows.specs.Marks.{Operand, AtLeast}
+use Rattle.decision.specs.Atoms.{assign, assign-respects}
 use Rattle.decision.specs.Patterns.{pattern-bit, pattern-small, spread-bit, spread-small}
 
 -- ---- a row's word by its operator

@@ -5,8 +5,8 @@
 ghost use mathlib.Core.Path.{_≡_};
 ghost use Prim.Native.Nat.{_<_, _≤_};
 ghost use lib.ListN.{length, set};
-ghost use Rattle.rows.specs.Decision.{onlyOne};
 ghost use Rattle.script.specs.Tests.{pick};
+ghost use Rattle.rows.specs.Decision.{onlyOne};
 ghost use Rattle.rows.specs.Code.{conditionWord, Searchable, Searched, kept, Keepable, decidedAnew, LeftAnew};
 ghost use Rattle.decision.specs.Promise.{Decidable, Decides};
 

@@ -2,8 +2,8 @@
 ghost use mathlib.Core.Path.{_≡_};
 ghost use Prim.Native.Nat.{suc, _-_, _<_, _≤_};
 ghost use lib.ListN.{length};
-ghost use Rattle.workspace.specs.Log.{rightOn, mendsOn, mendedOn, settledOn, consistentOn, apartOn, lookupOn, written, emptied};
 ghost use Rattle.script.specs.Limits.{nodeLimit};
+ghost use Rattle.workspace.specs.Log.{rightOn, mendsOn, mendedOn, settledOn, consistentOn, apartOn, lookupOn, written, emptied};
 ghost use Rattle.workspace.specs.State.{spaceSize, writesIn, startIn};
 use workspace::Found;
 use workspace::LOG;

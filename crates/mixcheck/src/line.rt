@@ -7,13 +7,13 @@ ghost use Rattle.text.specs.Bytes.{tab};
 ghost use Rattle.text.specs.Code.Output.{Put};
 ghost use Rattle.host.specs.Texts.{checkText};
 ghost use Rattle.mixcheck.specs.Line.{placeText, lineOf, lineLimit, PutLine};
-use script::Checked;
-use script::Place;
-use script::Refusal;
 use output::put;
 use output::put_bytes;
 use output::put_number;
 use output::put_type;
+use script::Checked;
+use script::Place;
+use script::Refusal;
 
 // No line is longer.
 pub const MOST: usize = 26;

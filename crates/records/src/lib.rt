@@ -7,7 +7,6 @@ ghost use Rattle.script.specs.Flat.{tableIn};
 ghost use Rattle.script.specs.Limits.{nodeLimit};
 ghost use Rattle.copies.specs.Copies.{places};
 ghost use Rattle.records.specs.Records.{tableOf, Checks, Runs, Writes, Reads};
-
 use copies::copy_in;
 use copies::copy_out;
 use copies::lesser;

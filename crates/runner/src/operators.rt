@@ -1,11 +1,11 @@
 // The rules of evaluation: what node n gives once its operands have given theirs.
 ghost use Prim.Native.Nat.{ℕ, _*_, _≤_};
 ghost use lib.ListN.{length, getElem?};
+ghost use Rattle.script.specs.Code.Forms.{formOf};
+ghost use Rattle.script.specs.Rows.{notOp, refOp, getOp, addOp, eqOp, andOp, setOp};
 ghost use Rattle.rules.specs.Evaluation.{gave, failed, found, unaryOn, binaryOn};
 ghost use Rattle.rules.specs.Running.{valuesOf};
 ghost use Rattle.rules.specs.Running.Laws.{InRange};
-ghost use Rattle.script.specs.Code.Forms.{formOf};
-ghost use Rattle.script.specs.Rows.{notOp, refOp, getOp, addOp, eqOp, andOp, setOp};
 ghost use Rattle.runner.specs.Code.Steps.{Cells, Does, Says, leafOn, oneOn, twoOn};
 use crate::steps::Step;
 use cells::load;

@@ -1,9 +1,9 @@
 // Evaluation by the table: each node runs its operands, whose numbers are smaller, and then its rule.
 ghost use mathlib.Core.Path.{_≡_};
+ghost use Rattle.script.specs.Code.Forms.{formOf, nodeIn, treeIn};
 ghost use Rattle.rules.specs.Evaluation.{eval};
 ghost use Rattle.rules.specs.Running.{valuesOf};
 ghost use Rattle.rules.specs.Running.Laws.{InRange};
-ghost use Rattle.script.specs.Code.Forms.{formOf, nodeIn, treeIn};
 ghost use Rattle.runner.specs.Code.Steps.{wholeOf, Variables, nextOn, boundOn, Bound, restOn, Ready, Halfway, Runs};
 use crate::operators::leaf;
 use crate::operators::one;

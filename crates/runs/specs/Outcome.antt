@@ -4,8 +4,8 @@ use Prim.Native.Nat.{ℕ, min}
 use lib.ListN.{replicate}
 use Rattle.script.specs.declared.Reading.{Reading}
 use Rattle.script.specs.declared.Reading.the-variants.{Read, Refused}
-use Rattle.text.specs.Reading.{reading}
 use Rattle.rules.specs.Running.{runTable}
+use Rattle.text.specs.Reading.{reading}
 use Rattle.copies.specs.Copies.{copied}
 use Rattle.trial.specs.Tables.{placeCount, tableAs}
 

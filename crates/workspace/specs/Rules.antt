@@ -18,6 +18,7 @@ use Rattle.script.specs.Tree.{Expr, size}
 use Rattle.script.specs.declared.Checked.{Checked}
 use Rattle.script.specs.declared.Checked.the-variants.{Accepted}
 use Rattle.script.specs.declared.Refusal.{Refusal}
+use Rattle.script.specs.Limits.{nodeLimit}
 use Rattle.rules.specs.Checking.{known, check, exec}
 use Rattle.rules.specs.Paths.{Path, Paths, ends, stops, forks, bind, start, assume}
 use Rattle.rules.specs.Satisfiable.{satisfiable}
@@ -26,7 +27,6 @@ use Rattle.rules.specs.SymbolicRules.{unaryExec, binaryExec, decide, typedResul
 use Rattle.rules.specs.TypedRules.{andThen, unaryType, binaryType, ifType}
 use Rattle.terms.specs.Terms.{countIn, symbolLimit, Distinct}
 use Rattle.workspace.specs.Notes.{Bare}
-use Rattle.script.specs.Limits.{nodeLimit}
 use Rattle.workspace.specs.State.{variablesEnd, spaceSize, writesIn, depthIn, typesOn, Means, PathIn, State, Valued, Room, Went, Yields, Unnoted}
 use Rattle.workspace.specs.declared.Step.{Step}
 use Rattle.workspace.specs.declared.Branch.{Branch}

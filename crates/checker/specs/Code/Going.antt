@@ -15,7 +15,7 @@ pub mod Walking
 use mathlib.Core.Bool.{Bool, true}
 use mathlib.Core.List.{List, [], _∷_, _++_}
 use mathlib.Core.Path.{_≡_}
-use Prim.Native.Nat.{ℕ, suc, _+_, _*_, _-_, _/_, _%_, _≤_, _<_}
+use Prim.Native.Nat.{ℕ, suc, _+_, _*_, _-_, _≤_, _<_}
 use lib.ListN.{length, getD, set}
 use Rattle.script.specs.Code.Forms.{formOf, nodeIn, treeIn}
 use Rattle.script.specs.Flat.{FormedNodes}
@@ -24,25 +24,25 @@ use Rattle.script.specs.Tests.{pick}
 use Rattle.script.specs.Tree.{size}
 use Rattle.script.specs.declared.Checked.the-variants.{Accepted, Refused}
 use Rattle.script.specs.declared.Refusal.{Refusal}
+use Rattle.script.specs.Limits.{nodeLimit}
 use Rattle.rules.specs.Checking.{exec}
 use Rattle.rules.specs.Paths.{Path, Paths, ends, bind, Leaf, stopped, leaves}
 use Rattle.rules.specs.Satisfiable.{satisfiable}
 use Rattle.rules.specs.Symbolic.{Formula, Symbolic, aTruth}
 use Rattle.rules.specs.SymbolicRules.{firstType, judge}
-use Rattle.terms.specs.Terms.{countIn, Grown, symbolLimit}
+use Rattle.terms.specs.Terms.{Grown, symbolLimit}
 use Rattle.workspace.specs.Forks.{forkedIn, framesSize, forkAt, Forked, Forks}
 use Rattle.workspace.specs.Frames.{frameIn, topIn, nodeOf, upOf, firstOf, secondOf, framesEnd, Waits}
 use Rattle.workspace.specs.Notes.{baseIn, Kept}
 use Rattle.workspace.specs.Paths.{assumed, forgotten}
 use Rattle.workspace.specs.Rules.{oneExec, twoExec, restExec, restSize, withoutGuard, Two, Chooses, Operable}
-use Rattle.script.specs.Limits.{nodeLimit}
-use Rattle.workspace.specs.State.{nextIn, conditionIn, writesIn, startIn, depthIn, variablesEnd, knownAt, spaceSize, Means, Variables, State, Room}
-use Rattle.checker.specs.declared.nodes.Walked.{Walked}
-use Rattle.checker.specs.declared.nodes.Walked.the-variants.{Wrong, Last, More}
+use Rattle.workspace.specs.State.{writesIn, depthIn, variablesEnd, spaceSize, Means, Variables, State, Room}
 use Rattle.workspace.specs.declared.Step.{Step}
 use Rattle.workspace.specs.declared.Step.the-variants.{Gave}
 use Rattle.workspace.specs.declared.Step.the-variants as step
 use Rattle.workspace.specs.declared.Branch.the-variants.{First, Second, Both, Neither}
+use Rattle.checker.specs.declared.nodes.Walked.{Walked}
+use Rattle.checker.specs.declared.nodes.Walked.the-variants.{Wrong, Last, More}
 use Rattle.checker.specs.declared.steps.Move.{Move}
 use Rattle.checker.specs.declared.steps.Move.the-variants.{Value, Operand, Stopped}
 

@@ -16,11 +16,11 @@ use Rattle.terms.specs.Terms.{rowLimit, rowsEnd}
 use Rattle.rows.specs.Code.{above, words, rowsFrom, Rows, numbersTo, noNumbers, numbersFrom, evaluatedTo, changedTo, changesOf, ones, blocksOf, conditionWord, trueWord, falseWord, nonZero, searchedBy, searched, truthsOf, Searchable, Searched, knownWord, guardMarks, guardRows, guardedWords, guardedWord, withKnown, withoutKnown, compared, Comparable}
 use Rattle.rows.specs.Code.Laws.{above-first, above-second}
 use Rattle.rows.specs.Code.Loops.{Searching, searching, searching-on, searching-both, searching-end}
-use Rattle.decision.specs.Code.Ordered.{numbers-alike, evaluated-alike, changed-alike, taken-alike, rows-few, rows-below}
-use Rattle.decision.specs.Code.Steady.{Steadily, first-steadily, first-length, later-words, later-length, later-steadily}
 use Rattle.rows.specs.Decision.{branchesOf}
 use Rattle.rows.specs.declared.Decision.{Decision}
 use Rattle.rows.specs.declared.Decision.the-variants.{Both}
+use Rattle.decision.specs.Code.Ordered.{numbers-alike, evaluated-alike, changed-alike, taken-alike, rows-few, rows-below}
+use Rattle.decision.specs.Code.Steady.{Steadily, first-steadily, first-length, later-words, later-length, later-steadily}
 
 -- ---- the rows as they are listed
 

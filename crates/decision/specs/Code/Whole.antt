@@ -11,13 +11,13 @@ use Rattle.script.specs.Tests.{pick}
 use Rattle.terms.specs.Terms.{rowLimit, rowsEnd}
 use Rattle.rows.specs.Code.{above, Room, marked, rank, Rows, numberedTo, noNumbers, countsOf, blocksOf, searched, Searched, knownSize, knownNumbers, kept, Keepable, guardMarks, guardRows, compared, startMarks, marksFrom, atomsFrom, conjunctOf, isLink, recalled, recalls, decidedAnew, aside, decided, LeftAnew, left-same, left-none, left-kept}
 use Rattle.rows.specs.Code.Laws.{above-second, above-within, marked-length}
-use Rattle.decision.specs.Code.Ordered.{numbered-alike, taken-alike}
-use Rattle.decision.specs.Code.Searching.{rows-listed, order-long}
 use Rattle.rows.specs.Decision.{onlyOne}
 use Rattle.rows.specs.Marks.{start-length}
 use Rattle.rows.specs.declared.Counts.{Counts}
 use Rattle.rows.specs.declared.Decision.{Decision}
 use Rattle.rows.specs.declared.Decision.the-variants.{TooMany, OnlyTrue, OnlyFalse}
+use Rattle.decision.specs.Code.Ordered.{numbered-alike, taken-alike}
+use Rattle.decision.specs.Code.Searching.{rows-listed, order-long}
 
 module _ (ws : List ℕ) (c g : ℕ) where
   pub room-start : (n : ℕ) → n ≡ above c g → rowsEnd ≤ length ws → c < rowLimit → g < rowLimit → Room ws n (startMarks c g)

@@ -15,13 +15,13 @@ use Rattle.rules.specs.Satisfiable.{atomsOf, among, differentAtoms, satisfiable
 use Rattle.rules.specs.Satisfiable.Laws.{among-different}
 use Rattle.rules.specs.Symbolic.{Atom, Formula, negation, conjunction}
 use Rattle.terms.specs.Terms.{rowIn, rowLimit, TruthRow, AtomRow}
-use Rattle.decision.specs.Atoms.{atom-one, apart-fits, different-apart}
 use Rattle.rows.specs.Code.{words, rowsFrom, isNumbered, numberedTo, noNumbers, knownRow, knownNumbers, guardMarks, guardRows, withKnown, withoutKnown, compared, recalled, recalls}
-use Rattle.decision.specs.Code.Ordered.{rows-skip, rows-more}
 use Rattle.rows.specs.Decision.{branchesOf, decisionOf}
+use Rattle.rows.specs.Marks.{kept-least, marked-keeps, closed-first, closed-second}
+use Rattle.decision.specs.Atoms.{atom-one, apart-fits, different-apart}
+use Rattle.decision.specs.Code.Ordered.{rows-skip, rows-more}
 use Rattle.decision.specs.Deciding.{found-is, with-atoms, without-atoms}
 use Rattle.decision.specs.Known.{Numbered, Known}
-use Rattle.rows.specs.Marks.{kept-least, marked-keeps, closed-first, closed-second}
 use Rattle.decision.specs.Words.{Assigned, Right, right-negation, right-conjunction, Sweep, atom-op, rows-listed, rows-right}
 
 -- ---- a row that has the mark is among the rows in order

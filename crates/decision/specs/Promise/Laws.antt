@@ -15,15 +15,15 @@ use Rattle.terms.specs.Terms.{countIn, rowLimit}
 use Rattle.rows.specs.Code.{above, blocksOf, truthsOf, marksFrom, atomsFrom, kept, Keepable, compared, recalled, recalls, decidedAnew, decided, LeftAnew, left-same, left-none, left-kept, LeftBy, by-known, by-rows}
 use Rattle.rows.specs.Code.Laws.{above-within, marked-length}
 use Rattle.rows.specs.Decision.{branchesOf, onlyOne, decisionOf}
+use Rattle.rows.specs.Marks.{start-length}
+use Rattle.rows.specs.declared.Decision.{Decision}
+use Rattle.rows.specs.declared.Decision.the-variants.{TooMany, OnlyTrue, OnlyFalse}
 use Rattle.decision.specs.Deciding.{decides, truths}
 use Rattle.decision.specs.Known.{KnownOver, Remembers, blocks-most}
 use Rattle.decision.specs.Known.Keeping.{kept-length, kept-before, kept-beyond, kept-known, known-with, known-without}
 use Rattle.decision.specs.Known.Recalling.{recalled-atoms, recalled-decides}
 use Rattle.decision.specs.Listed.{listed-length}
-use Rattle.rows.specs.Marks.{start-length}
 use Rattle.decision.specs.Promise.{Decidable, Asked, Decides}
-use Rattle.rows.specs.declared.Decision.{Decision}
-use Rattle.rows.specs.declared.Decision.the-variants.{TooMany, OnlyTrue, OnlyFalse}
 
 -- ---- a decision by the rows
 

@@ -17,11 +17,11 @@ use Rattle.script.specs.declared.Reading.{Reading}
 use Rattle.script.specs.declared.Refusal.{Refusal}
 use Rattle.script.specs.declared.Script.{Script}
 use Rattle.rules.specs.Checking.{pathLimit, CheckedBy}
-use Rattle.runner.specs.Answered.{Answered}
 use Rattle.text.specs.Grammar.{means, refused, meaningOf}
 use Rattle.text.specs.LowestPlace.{reading-refused}
 use Rattle.text.specs.OneSpelling.{read-passes, read-as}
 use Rattle.text.specs.Reading.{Outcome, Left, leaves, reading, readingIn, filled, tableRead}
+use Rattle.runner.specs.Answered.{Answered}
 use Rattle.host.specs.Texts.{checkText, runText, RanTo}
 
 -- ---- what a reading leaves

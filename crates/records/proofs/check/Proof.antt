@@ -39,16 +39,16 @@ use Rattle.script.proofs.Checked as T
 use Rattle.script.proofs.Checked.Laws as T′
 use Rattle.script.proofs.Node as N
 use Rattle.copies.specs.Copies.Laws.{copied-fits}
-use Rattle.records.specs.Code.Whole.{check-copied}
-use Rattle.records.specs.Records.{Checks}
 use Rattle.copies.proofs.Answered.{answers}
 use Rattle.copies.proofs.Calling.{Toks, Walk, ends, proves}
-use Rattle.records.proofs.Copied.{CopyOut, copies}
 use Rattle.copies.proofs.Lent.{refAt}
 use Rattle.copies.proofs.Locals.{var, freed}
 use Rattle.copies.proofs.copy_out.Symbol as copy-out-def
 use Rattle.copies.proofs.copy_out.Symbol.{name as #copies·copy-out}
 use Rattle.copies.proofs.copy_out.Met as copy-out-thm
+use Rattle.records.specs.Code.Whole.{check-copied}
+use Rattle.records.specs.Records.{Checks}
+use Rattle.records.proofs.Copied.{CopyOut, copies}
 use Rattle.records.proofs.check_flat as check-flat
 use Rattle.records.proofs.check_flat.Symbol as check-flat-def
 use Rattle.records.proofs.check_flat.Symbol.{name as #records·check-flat}

@@ -40,21 +40,21 @@ use Rattle.script.specs.declared.Reading.{Reading}
 use Rattle.script.proofs.Node as T
 use Rattle.script.proofs.Reading as Z
 use Rattle.script.proofs.Reading.Laws as Z′
-use Rattle.records.specs.Records.{Reads}
 use Rattle.copies.specs.Copies.{places}
 use Rattle.copies.proofs.Calling.{Toks, called, Walk, ends, proves}
-use Rattle.records.proofs.Copied.{zeroed}
 use Rattle.copies.proofs.Lent.{refAt, let-go, back-mut, back-shr}
 use Rattle.copies.proofs.Locals.{var, freed}
 use Rattle.copies.proofs.Sliced.{again, sliced-mut, sliced-shr}
-use Rattle.records.proofs.read_flat as read-flat
-use Rattle.records.proofs.read_flat.Symbol as read-flat-def
-use Rattle.records.proofs.read_flat.Symbol.{name as #records·read-flat}
-use Rattle.records.proofs.read_flat.Met as read-flat-thm
 use Rattle.copies.proofs.copy_in as copy-in
 use Rattle.copies.proofs.copy_in.Symbol as copy-in-def
 use Rattle.copies.proofs.copy_in.Symbol.{name as #copies·copy-in}
 use Rattle.copies.proofs.copy_in.Met as copy-in-thm
+use Rattle.records.specs.Records.{Reads}
+use Rattle.records.proofs.Copied.{zeroed}
+use Rattle.records.proofs.read_flat as read-flat
+use Rattle.records.proofs.read_flat.Symbol as read-flat-def
+use Rattle.records.proofs.read_flat.Symbol.{name as #records·read-flat}
+use Rattle.records.proofs.read_flat.Met as read-flat-thm
 use Rattle.records.proofs.read.Key.{name as #records·read}
 use Rattle.records.proofs.read as read
 use Rattle.records.proofs.read.Statement as stated

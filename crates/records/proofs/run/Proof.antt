@@ -39,17 +39,17 @@ use Rattle.script.proofs.Ran as T
 use Rattle.script.proofs.Ran.Laws as T′
 use Rattle.script.proofs.Node as N
 use Rattle.copies.specs.Copies.Laws.{copied-fits}
-use Rattle.records.specs.Code.Whole.{run-copied}
-use Rattle.records.specs.Records.{Runs}
 use Rattle.copies.proofs.Answered.{answers}
 use Rattle.copies.proofs.Calling.{Toks, Walk, ends, proves}
-use Rattle.records.proofs.Copied.{CopyOut, copies}
 use Rattle.copies.proofs.Lent.{refAt}
 use Rattle.copies.proofs.Locals.{var, freed}
 use Rattle.copies.proofs.Sliced.{again}
 use Rattle.copies.proofs.copy_out.Symbol as copy-out-def
 use Rattle.copies.proofs.copy_out.Symbol.{name as #copies·copy-out}
 use Rattle.copies.proofs.copy_out.Met as copy-out-thm
+use Rattle.records.specs.Code.Whole.{run-copied}
+use Rattle.records.specs.Records.{Runs}
+use Rattle.records.proofs.Copied.{CopyOut, copies}
 use Rattle.records.proofs.run_flat as run-flat
 use Rattle.records.proofs.run_flat.Symbol as run-flat-def
 use Rattle.records.proofs.run_flat.Symbol.{name as #records·run-flat}

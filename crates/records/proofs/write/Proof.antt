@@ -39,17 +39,17 @@ use Rattle.script.proofs.Writing as T
 use Rattle.script.proofs.Writing.Laws as T′
 use Rattle.script.proofs.Node as N
 use Rattle.copies.specs.Copies.Laws.{copied-fits}
-use Rattle.records.specs.Code.Whole.{write-copied}
-use Rattle.records.specs.Records.{Writes}
 use Rattle.copies.proofs.Answered.{answers}
 use Rattle.copies.proofs.Calling.{Toks, Walk, ends, proves}
-use Rattle.records.proofs.Copied.{CopyOut, copies}
 use Rattle.copies.proofs.Lent.{refAt}
 use Rattle.copies.proofs.Locals.{var, freed}
 use Rattle.copies.proofs.Sliced.{again}
 use Rattle.copies.proofs.copy_out.Symbol as copy-out-def
 use Rattle.copies.proofs.copy_out.Symbol.{name as #copies·copy-out}
 use Rattle.copies.proofs.copy_out.Met as copy-out-thm
+use Rattle.records.specs.Code.Whole.{write-copied}
+use Rattle.records.specs.Records.{Writes}
+use Rattle.records.proofs.Copied.{CopyOut, copies}
 use Rattle.records.proofs.write_flat as write-flat
 use Rattle.records.proofs.write_flat.Symbol as write-flat-def
 use Rattle.records.proofs.write_flat.Symbol.{name as #records·write-flat}

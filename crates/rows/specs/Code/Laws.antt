@@ -5,7 +5,6 @@ use mathlib.Core.Path.{_≡_, refl, ap, _∙_}
 use Prim.Native.Nat.{ℕ, zero, suc, _+_, _-_, _/_, _%_, _≤_, _<_}
 use borrow.Author.Tests.{lt-ltb, le-ltb, le-leb}
 use native.Mathlib.Decide.{decLt}
-use native.Mathlib.Numerals.{add-one}
 use native.Mathlib.Omega.{arith}
 use lib.Bits.{bitOr}
 use lib.Dec.{leb, ltb, eqb}
@@ -14,7 +13,7 @@ use Rattle.script.specs.Tests.{pick}
 use Rattle.terms.specs.Terms.{rowIn}
 use Rattle.terms.specs.declared.Row.{Row}
 use Rattle.rows.specs.declared.Counts.{Counts}
-use Rattle.rows.specs.Code.{above, Room, operandBelow, reached, markRow, marked, seenAfter, rank, tally, Visited, spreadOf, patternOf, wordOf, words}
+use Rattle.rows.specs.Code.{above, operandBelow, reached, markRow, marked, seenAfter, rank, tally, Visited, spreadOf, patternOf, wordOf, words}
 
 -- ---- above
 

@@ -2,8 +2,8 @@
 use borrow.Author.Needs.{needs}
 use Prim.Native.Nat.{_≤_, _-_, pred}
 use native.Mathlib.Omega.{arith}
-use Rattle.tests.specs.Lowest.{notOnce, count-wrong, count-right, counts-passed}
 use Rattle.script.specs.Tests.Loops.{Looked, look}
+use Rattle.tests.specs.Lowest.{notOnce, count-wrong, count-right, counts-passed}
 use Rattle.tests.proofs.test_counts.Statement.{statement}
 use Rattle.tests.proofs.test_counts.Tie as tie
 

@@ -2,8 +2,8 @@
 use borrow.Author.Needs.{needs}
 use mathlib.Core.Path.{_≡_, sym, _∙_}
 use Prim.Native.Nat.{_-_}
-use Rattle.tests.specs.Lowest.{deepBy, deep-is, depths-refused, depths-passed}
 use Rattle.script.specs.Tests.Loops.{Looked, look, look-on}
+use Rattle.tests.specs.Lowest.{deepBy, deep-is, depths-refused, depths-passed}
 use Rattle.tests.proofs.test_depths.Statement.{statement}
 use Rattle.tests.proofs.test_depths.Tie as tie
 

@@ -4,8 +4,8 @@ use mathlib.Core.Bool.{not}
 use mathlib.Core.Path.{_≡_, sym, ap, _∙_}
 use Prim.Native.Nat.{_-_}
 use Rattle.script.specs.Code.TableTests.Laws.{formed-is}
-use Rattle.tests.specs.Lowest.{malformed, operands-refused, operands-passed}
 use Rattle.script.specs.Tests.Loops.{Looked, look, look-on}
+use Rattle.tests.specs.Lowest.{malformed, operands-refused, operands-passed}
 use Rattle.tests.proofs.test_operands.Statement.{statement}
 use Rattle.tests.proofs.test_operands.Tie as tie
 

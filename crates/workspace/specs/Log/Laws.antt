@@ -11,6 +11,7 @@ use lib.ListN.{length, getD, set, length-set}
 use lib.Seq.{getD-set-same, getD-set-other}
 use borrow.Author.Tests.{eqb-true, eqb-false, le-leb, eq-eqb, ne-eqb}
 use Rattle.script.specs.Tests.{pick}
+use Rattle.script.specs.Limits.{nodeLimit}
 use Rattle.rules.specs.Paths.{Path, Write, writeOf, write, isRight, has, consistentAfter, lookup}
 use Rattle.rules.specs.Symbolic.{Origin, made, other, Symbolic, aReference, typeOf, apart}
 use Rattle.terms.specs.Terms.{countIn, Grown, rowLimit}
@@ -18,7 +19,6 @@ use Rattle.terms.specs.Terms.Laws.{still-distinct}
 use Rattle.workspace.specs.Log.{rightOn, symbolOn, mendsOn, mendedOn, consistentOn, apartOn, lookupOn, FoundAs, found-none, found-some, written}
 use Rattle.workspace.specs.Log.Loops.{consistent-none, consistent-some, lookup-none, lookup-some}
 use Rattle.workspace.specs.Rules.{Ruled}
-use Rattle.script.specs.Limits.{nodeLimit}
 use Rattle.workspace.specs.State.{writesIn, spaceSize, Means, madeSymbol, otherSymbol, Log, noWrite, aWrite, PathIn}
 use Rattle.workspace.specs.State.Laws.{still-known, path-moved, means-type, means-at, log-kept}
 use Rattle.workspace.specs.declared.Found.the-variants.{Value, Nothing}

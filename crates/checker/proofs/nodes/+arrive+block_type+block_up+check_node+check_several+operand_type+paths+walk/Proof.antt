@@ -8,15 +8,25 @@ use native.Mathlib.Omega.{arith}
 use Rattle.script.specs.Code.Forms.{has-one, has-more, some-operand}
 use Rattle.workspace.specs.Frames.{topIn}
 use Rattle.workspace.specs.Frames.Laws.{waits-none}
-use Rattle.checker.specs.Code.Going.Arriving.{up-node, up-space, up-earlier, up-checkable, up-noting, up-refused, up-room, up-returnable, up-climbing, up-stopping}
-use Rattle.checker.specs.Code.Going.Steps.{enters-formed, descends-other}
-use Rattle.checker.specs.Code.Going.Walking.{Walking, walking-start, walking-descendable, walking-enterable, walking-earlier, walking-less, walking-on, walking-stopped, walking-end, walking-ended, Turn, turn-start, turn-walkable, turn-none, turn-wrong, turn-last, turn-more, no-frames}
 use Rattle.workspace.specs.Paths.Start.{blank}
 use Rattle.workspace.specs.Rules.Blocks.{block-small, block-recallables, block-recalled, judged-lent, block-judged, block-noted}
 use Rattle.workspace.specs.Rules.Typed.{some-of, several-no-sym, leaf-judged, first-earlier, first-checkable, sym-judged, one-judged, rest-checkable, rest-judged, first-refused, bind-room, second-earlier, second-checkable, third-earlier, third-checkable, if-judged, third-refused, two-judged, second-refused}
+use Rattle.checker.specs.Code.Going.Arriving.{up-node, up-space, up-earlier, up-checkable, up-noting, up-refused, up-room, up-returnable, up-climbing, up-stopping}
+use Rattle.checker.specs.Code.Going.Steps.{enters-formed, descends-other}
+use Rattle.checker.specs.Code.Going.Walking.{Walking, walking-start, walking-descendable, walking-enterable, walking-earlier, walking-less, walking-on, walking-stopped, walking-end, walking-ended, Turn, turn-start, turn-walkable, turn-none, turn-wrong, turn-last, turn-more, no-frames}
 use Prim.Native.Nat.{ℕ, _<_}
 use borrow.Fn.Kinds.{In}
 use borrow.Fn.PlainCycle.{Measures, is, falls, and}
+use Rattle.script.proofs.table.has_one.Reads as has-one-reads
+use Rattle.script.proofs.table.node_at.Reads as node-at-reads
+use Rattle.types.proofs.bind_type.Reads as bind-type-reads
+use Rattle.types.proofs.if_type.Reads as if-type-reads
+use Rattle.types.proofs.leaf_type.Reads as leaf-type-reads
+use Rattle.types.proofs.one_type.Reads as one-type-reads
+use Rattle.types.proofs.two_type.Reads as two-type-reads
+use Rattle.notes.proofs.note.Reads as note-reads
+use Rattle.notes.proofs.recall.Reads as recall-reads
+use Rattle.frames.proofs.descend.Reads as descend-reads
 use Rattle.checker.proofs.nodes.arrive.Reads as arrive
 use Rattle.checker.proofs.nodes.arrive.Kinds as arrive-kinds
 use Rattle.checker.proofs.nodes.+arrive+block_type+block_up+check_node+check_several+operand_type+paths+walk.Lts-arrive as arrive-lts
@@ -41,22 +51,12 @@ use Rattle.checker.proofs.nodes.+arrive+block_type+block_up+check_node+
 use Rattle.checker.proofs.nodes.walk.Reads as walk
 use Rattle.checker.proofs.nodes.walk.Kinds as walk-kinds
 use Rattle.checker.proofs.nodes.+arrive+block_type+block_up+check_node+check_several+operand_type+paths+walk.Lts-walk as walk-lts
-use Rattle.frames.proofs.descend.Reads as descend-reads
 use Rattle.checker.proofs.nodes.copied.Reads as copied-reads
 use Rattle.checker.proofs.nodes.path_end.Reads as path-end-reads
-use Rattle.notes.proofs.note.Reads as note-reads
-use Rattle.notes.proofs.recall.Reads as recall-reads
 use Rattle.checker.proofs.operators.typed_result.Reads as typed-result-reads
 use Rattle.checker.proofs.path.start.Reads as start-reads
 use Rattle.checker.proofs.steps.climb.Reads as climb-reads
 use Rattle.checker.proofs.steps.leaf_up.Reads as leaf-up-reads
-use Rattle.types.proofs.bind_type.Reads as bind-type-reads
-use Rattle.types.proofs.if_type.Reads as if-type-reads
-use Rattle.types.proofs.leaf_type.Reads as leaf-type-reads
-use Rattle.types.proofs.one_type.Reads as one-type-reads
-use Rattle.types.proofs.two_type.Reads as two-type-reads
-use Rattle.script.proofs.table.has_one.Reads as has-one-reads
-use Rattle.script.proofs.table.node_at.Reads as node-at-reads
 use Rattle.checker.proofs.nodes.+arrive+block_type+block_up+check_node+check_several+operand_type+paths+walk.{statement}
 use Rattle.checker.proofs.nodes.+arrive+block_type+block_up+check_node+check_several+operand_type+paths+walk.Tie.{close}
 

@@ -11,15 +11,15 @@ use borrow.Author.Tests.{eqb-true, eqb-false}
 use Rattle.script.specs.Code.Forms.{formOf, nodeIn}
 use Rattle.script.specs.Rows.{nodeOperands}
 use Rattle.workspace.specs.Frames.{frameIn, topIn, nodeOf, upOf, firstOf, secondOf, Waitable, Waits}
-use Rattle.checker.specs.Code.Going.{Returnable, came-operand, boundTo, movedBy, Branched, to-first, to-second, to-both, to-none, Lasts, Lastable, Backs}
 use Rattle.workspace.specs.Forks.{forkedIn, Forks}
-use Rattle.checker.specs.Code.Going.Climbing.{value-not-operand, stopped-not-operand, stopped-not-value}
-use Rattle.checker.specs.Code.Going.Following.{next-waitable, next-plain, next-let, next-deep, next-branch, next-decidable, next-forked}
-use Rattle.checker.specs.Code.Going.Upwards.{up, up-room, up-one, up-lastable, up-last, gives-came, up-next}
 use Rattle.workspace.specs.Rules.{One, Decidable}
 use Rattle.workspace.specs.State.{depthIn, Room}
 use Rattle.workspace.specs.declared.Step.{Step}
 use Rattle.workspace.specs.declared.Step.the-variants as step
+use Rattle.checker.specs.Code.Going.{Returnable, came-operand, boundTo, movedBy, Branched, to-first, to-second, to-both, to-none, Lasts, Lastable, Backs}
+use Rattle.checker.specs.Code.Going.Climbing.{value-not-operand, stopped-not-operand, stopped-not-value}
+use Rattle.checker.specs.Code.Going.Following.{next-waitable, next-plain, next-let, next-deep, next-branch, next-decidable, next-forked}
+use Rattle.checker.specs.Code.Going.Upwards.{up, up-room, up-one, up-lastable, up-last, gives-came, up-next}
 use Rattle.checker.specs.declared.steps.Move.{Move}
 use Rattle.checker.specs.declared.steps.Move.the-variants.{Value, Operand, Stopped}
 

@@ -10,7 +10,6 @@ use Rattle.rules.specs.Paths.{Path}
 use Rattle.rules.specs.Symbolic.{Symbolic}
 use Rattle.terms.specs.Terms.{Space, symbolLimit}
 use Rattle.workspace.specs.Frames.{Waitable, Waits}
-use Rattle.checker.specs.Code.Going.{unbound, movedBy, Branched, to-first, to-second, to-both, to-none, Lasts}
 use Rattle.workspace.specs.Forks.{forkedIn, framesSize, Forkable, Forks}
 use Rattle.workspace.specs.Paths.{assumed, forgotten}
 use Rattle.workspace.specs.Paths.Conditions.{learns-set, learnt-room}
@@ -20,6 +19,7 @@ use Rattle.workspace.specs.State.Laws.{room-space, log-from}
 use Rattle.workspace.specs.declared.Step.{Step}
 use Rattle.workspace.specs.declared.Branch.{Branch}
 use Rattle.workspace.specs.declared.Branch.the-variants.{First, Second, Both, Neither}
+use Rattle.checker.specs.Code.Going.{unbound, movedBy, Branched, to-first, to-second, to-both, to-none, Lasts}
 use Rattle.checker.specs.declared.steps.Move.{Move}
 use Rattle.checker.specs.declared.steps.Move.the-variants.{Value, Operand, Stopped}
 

@@ -13,12 +13,12 @@ use Rattle.rules.specs.Paths.{ends, Leaf, ended, leaves, consistent}
 use Rattle.rules.specs.Symbolic.{Symbolic, typeOf}
 use Rattle.rules.specs.SymbolicRules.{firstType, judge}
 use Rattle.workspace.specs.Frames.{frameIn}
-use Rattle.checker.specs.Code.Going.{Later, goOn, Awaits, no-frame, for-only, for-first, for-second, for-body, Left, none-left, one-left, Returning, Resumable, Resumes, AtEnd, PathEnds, WalkOf, refused, lasted, went-on}
 use Rattle.workspace.specs.Forks.{forkedIn}
 use Rattle.workspace.specs.Log.{consistentOn}
 use Rattle.workspace.specs.Log.Laws.{consistent-is}
 use Rattle.workspace.specs.State.{writesIn, startIn}
 use Rattle.workspace.specs.State.Laws.{means-type}
+use Rattle.checker.specs.Code.Going.{Later, goOn, Awaits, no-frame, for-only, for-first, for-second, for-body, Left, none-left, one-left, Returning, Resumable, Resumes, AtEnd, PathEnds, WalkOf, refused, lasted, went-on}
 use Rattle.checker.specs.declared.nodes.Walked.the-variants.{Wrong, Last, More}
 
 -- ---- the end of a path

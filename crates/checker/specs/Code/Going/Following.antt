@@ -21,10 +21,7 @@ use Rattle.terms.specs.Terms.{Grown}
 use Rattle.terms.specs.Terms.Laws.{grown-refl}
 use Rattle.workspace.specs.Frames.{frameIn, topIn, nodeOf, upOf, firstOf, secondOf, Waitable, Waits}
 use Rattle.workspace.specs.Frames.Laws.{size-some}
-use Rattle.checker.specs.Code.Going.{first, second, goOn, for-second, for-body, Onward, Forking, one-left, Stands, Entering, Returning, boundTo, Branched, to-first, to-second, to-both, to-none, Came, came-operand, came-stopped}
 use Rattle.workspace.specs.Forks.{forkedIn, Forks}
-use Rattle.checker.specs.Code.Going.Keeping.{onward-trans, waits-onward, awaits-kept, stands-base, stands-on, stands-ruled, waits-awaits, waits-slot, waits-forked, waits-stands}
-use Rattle.checker.specs.Code.Going.Steps.{then-on}
 use Rattle.workspace.specs.Paths.{assumed, forgotten}
 use Rattle.workspace.specs.Paths.Conditions.{learns-set, forgets, assumed-ruled, assumed-with}
 use Rattle.workspace.specs.Rules.{twoExec, restSize, withGuard, withoutGuard, Ruled, Chosen, Decidable}
@@ -34,6 +31,9 @@ use Rattle.workspace.specs.Rules.Types.{bound-other, let-bound}
 use Rattle.workspace.specs.State.{depthIn, Means, truthRow, Variables, oneMore, PathIn}
 use Rattle.workspace.specs.State.Laws.{means-kept, means-at, variables-kept, room-less, room-on}
 use Rattle.workspace.specs.declared.Branch.the-variants.{First, Second, Both, Neither}
+use Rattle.checker.specs.Code.Going.{first, second, goOn, for-second, for-body, Onward, Forking, one-left, Stands, Entering, Returning, boundTo, Branched, to-first, to-second, to-both, to-none, Came, came-operand, came-stopped}
+use Rattle.checker.specs.Code.Going.Keeping.{onward-trans, waits-onward, awaits-kept, stands-base, stands-on, stands-ruled, waits-awaits, waits-slot, waits-forked, waits-stands}
+use Rattle.checker.specs.Code.Going.Steps.{then-on}
 use Rattle.checker.specs.declared.steps.Move.{Move}
 use Rattle.checker.specs.declared.steps.Move.the-variants.{Operand}
 use Rattle.checker.specs.Code.Going.Upwards.{Shifted, shifted-grown, shifted-path, shifted-onward, shifted-room, shifted-unnoted, Next, up, up-room, up-valued, left-top, left-forked}

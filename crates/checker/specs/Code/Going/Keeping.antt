@@ -10,13 +10,13 @@ use Rattle.rules.specs.Symbolic.{Symbolic}
 use Rattle.terms.specs.Terms.{Grown, symbolLimit}
 use Rattle.terms.specs.Terms.Laws.{grown-refl, grown-trans}
 use Rattle.workspace.specs.Frames.{frameIn, topIn, Waits}
-use Rattle.checker.specs.Code.Going.{Later, Slot, Awaits, no-frame, for-only, for-first, for-second, for-body, Onward, Left, none-left, one-left, Stands}
 use Rattle.workspace.specs.Forks.{forkedIn, Forked}
 use Rattle.workspace.specs.Notes.{Noting, Holding}
 use Rattle.workspace.specs.Notes.Keeping.{still-holding}
 use Rattle.workspace.specs.Rules.{Ruled}
 use Rattle.workspace.specs.State.{depthIn, PathIn, State, Unnoted}
 use Rattle.workspace.specs.State.Laws.{means-at, variables-kept, unnoted-refl}
+use Rattle.checker.specs.Code.Going.{Later, Slot, Awaits, no-frame, for-only, for-first, for-second, for-body, Onward, Left, none-left, one-left, Stands}
 
 -- ---- only added
 

@@ -11,9 +11,7 @@ use Rattle.rules.specs.Symbolic.{Symbolic, aTruth}
 use Rattle.terms.specs.Terms.{Space, Grown}
 use Rattle.workspace.specs.Frames.{frameIn, topIn, nodeOf, secondOf}
 use Rattle.workspace.specs.Frames.Laws.{size-some}
-use Rattle.checker.specs.Code.Going.{Later, Awaits, Onward, Forking, Left, none-left, one-left, Stands, Entering, Restorable, Restores, Resumable, Resumes}
 use Rattle.workspace.specs.Forks.{forkedIn, Forked, Rewound}
-use Rattle.checker.specs.Code.Going.Keeping.{awaits-kept, left-kept, stands-base, stands-ruled}
 use Rattle.workspace.specs.Notes.{baseIn, Kept, Noting}
 use Rattle.workspace.specs.Notes.Keeping.{still-holding}
 use Rattle.workspace.specs.Paths.{assumed}
@@ -21,6 +19,8 @@ use Rattle.workspace.specs.Paths.Conditions.{learns-refl, assumed-ruled, assume
 use Rattle.workspace.specs.Rules.{withoutGuard}
 use Rattle.workspace.specs.State.{depthIn, knownAt, Means, Variables, PathIn, Room}
 use Rattle.workspace.specs.State.Laws.{nothing-known, room-same, means-kept, variables-kept, path-kept, path-rewound, distinct-same, room-less, room-on, room-space}
+use Rattle.checker.specs.Code.Going.{Later, Awaits, Onward, Forking, Left, none-left, one-left, Stands, Entering, Restorable, Restores, Resumable, Resumes}
+use Rattle.checker.specs.Code.Going.Keeping.{awaits-kept, left-kept, stands-base, stands-ruled}
 
 -- ---- the last fork
 

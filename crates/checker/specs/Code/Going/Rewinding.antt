@@ -1,19 +1,19 @@
--- Keeping a fork and going back to it: what the code's stores come to, and how the variables are found again in the frames. Assumes nothing.
+-- How the variables are found again in the frames, on the way back to a fork. Assumes nothing.
 use mathlib.Core.List.{List, [], _∷_, _++_}
 use mathlib.Core.Path.{_≡_, refl, _∙_}
-use Prim.Native.Nat.{ℕ, suc, _+_, _*_, _-_, _/_, _%_, _≤_, _<_}
+use Prim.Native.Nat.{ℕ, suc, _+_, _*_, _-_, _/_, _≤_, _<_}
 use native.Mathlib.Omega.{arith}
 use lib.ListN.{length, getD, set, length-set}
 use lib.Seq.{getD-set-same, getD-set-other}
 use Rattle.rules.specs.Symbolic.{Symbolic}
-use Rattle.terms.specs.Terms.{countIn, Grown, symbolLimit}
+use Rattle.terms.specs.Terms.{Grown, symbolLimit}
 use Rattle.workspace.specs.Frames.{frameIn, upOf, firstOf, secondOf}
-use Rattle.checker.specs.Code.Going.{Later, Slot, Awaits, no-frame, for-only, for-first, for-second, for-body, Restorable, Restores}
-use Rattle.workspace.specs.Forks.{forkedIn, framesSize, forkAt, savedFrame, savedCount, savedNext, savedCondition, savedWrites, savedStart, savedDepth, Forkable, Forks, Rewound, RestoredOne}
-use Rattle.checker.specs.Code.Going.Keeping.{awaits-base}
+use Rattle.workspace.specs.Forks.{RestoredOne}
 use Rattle.workspace.specs.Notes.{baseIn}
-use Rattle.workspace.specs.State.{nextIn, conditionIn, writesIn, startIn, depthIn, knownAt, spaceSize, Means, Variables, oneMore}
+use Rattle.workspace.specs.State.{depthIn, Means, Variables, oneMore}
 use Rattle.workspace.specs.State.Laws.{means-at, variables-kept, same-grown}
+use Rattle.checker.specs.Code.Going.{Later, Slot, Awaits, no-frame, for-only, for-first, for-second, for-body, Restorable, Restores}
+use Rattle.checker.specs.Code.Going.Keeping.{awaits-base}
 
 -- ---- the variables that the frames have
 

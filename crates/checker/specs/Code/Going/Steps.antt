@@ -15,15 +15,15 @@ use Rattle.rules.specs.Paths.{Path, Paths, ends, stops, forks, bind, Leaf, stop
 use Rattle.rules.specs.Symbolic.{Symbolic}
 use Rattle.workspace.specs.Frames.{topIn, Waits, waitsFor, Descendable, Descends, down-to, down-from}
 use Rattle.workspace.specs.Frames.Laws.{waits-inner, waits-other, size-some}
-use Rattle.checker.specs.Code.Going.{Later, only, first, goOn, for-only, for-first, Stands, Entering, Returning}
 use Rattle.workspace.specs.Forks.{forkedIn}
-use Rattle.checker.specs.Code.Going.Keeping.{waits-awaits, waits-slot, waits-forked, waits-stands, stands-ruled}
 use Rattle.workspace.specs.Rules.{oneExec, restExec, restSize, Ruled}
 use Rattle.workspace.specs.Rules.Nodes.{shaped, first-of, rest-of, one-exec, rest-exec-of}
 use Rattle.workspace.specs.State.{Room, Yields, ending, stopping}
 use Rattle.workspace.specs.State.Laws.{room-less, room-on}
 use Rattle.workspace.specs.declared.Step.{Step}
 use Rattle.workspace.specs.declared.Step.the-variants.{Gave, Stopped}
+use Rattle.checker.specs.Code.Going.{Later, only, first, goOn, for-only, for-first, Stands, Entering, Returning}
+use Rattle.checker.specs.Code.Going.Keeping.{waits-awaits, waits-slot, waits-forked, waits-stands, stands-ruled}
 
 -- ---- one after the other
 

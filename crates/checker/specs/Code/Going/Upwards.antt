@@ -11,15 +11,15 @@ use Rattle.rules.specs.Paths.{Path, Paths, ends, forks, bind, Leaf, leaves}
 use Rattle.rules.specs.Symbolic.{Symbolic}
 use Rattle.terms.specs.Terms.{Grown}
 use Rattle.workspace.specs.Frames.{frameIn, topIn, nodeOf, upOf, firstOf, secondOf}
-use Rattle.checker.specs.Code.Going.{Later, first, second, goOn, Awaits, no-frame, for-only, for-first, for-second, for-body, Onward, Stands, Returning, unbound, movedBy, Lasts, Lastable, Came, came-value, came-stopped}
 use Rattle.workspace.specs.Forks.{forkedIn}
-use Rattle.checker.specs.Code.Going.Keeping.{onward-trans, leave-onward, awaits-kept, stands-base, stands-on, leave-stands}
-use Rattle.checker.specs.Code.Going.Steps.{Gives, gives, gives-none, yields-gives}
 use Rattle.workspace.specs.Rules.{oneExec, twoExec, restExec, restSize, One, Operable}
 use Rattle.workspace.specs.Rules.Nodes.{let-form}
 use Rattle.workspace.specs.State.{depthIn, Means, Variables, noVariable, oneMore, PathIn, Room, Unnoted, Valued}
 use Rattle.workspace.specs.State.Laws.{still-known, room-same, means-kept, variables-kept, path-rewound, room-less}
 use Rattle.workspace.specs.declared.Step.{Step}
+use Rattle.checker.specs.Code.Going.{Later, first, second, goOn, Awaits, no-frame, for-only, for-first, for-second, for-body, Onward, Stands, Returning, unbound, movedBy, Lasts, Lastable, Came, came-value, came-stopped}
+use Rattle.checker.specs.Code.Going.Keeping.{onward-trans, leave-onward, awaits-kept, stands-base, stands-on, leave-stands}
+use Rattle.checker.specs.Code.Going.Steps.{Gives, gives, gives-none, yields-gives}
 use Rattle.checker.specs.declared.steps.Move.{Move}
 
 -- ---- other variables

@@ -21,13 +21,13 @@ use Rattle.rules.specs.Symbolic.{Symbolic, symbols}
 use Rattle.rules.specs.SymbolicRules.{firstType, judge, verdict}
 use Rattle.workspace.specs.Frames.{topIn, Descendable, Descends}
 use Rattle.workspace.specs.Frames.Laws.{size-some}
-use Rattle.checker.specs.Code.Going.{goOn, no-frame, none-left, Entering, Enterable, Arrives, AtEnd, PathEnds, WalkOf, refused, lasted, went-on, Walks, Walkable}
-use Rattle.checker.specs.Code.Going.Climbing.{came-returning, came-entering, came-none}
-use Rattle.checker.specs.Code.Going.Steps.{enters-descendable, enters-descends, descends-tops}
 use Rattle.workspace.specs.Notes.Keeping.{bare-noting}
 use Rattle.workspace.specs.Rules.{Checkable, Started}
 use Rattle.workspace.specs.Rules.Nodes.{bind-ends}
 use Rattle.workspace.specs.State.{typesOn}
+use Rattle.checker.specs.Code.Going.{goOn, no-frame, none-left, Entering, Enterable, Arrives, AtEnd, PathEnds, WalkOf, refused, lasted, went-on, Walks, Walkable}
+use Rattle.checker.specs.Code.Going.Climbing.{came-returning, came-entering, came-none}
+use Rattle.checker.specs.Code.Going.Steps.{enters-descendable, enters-descends, descends-tops}
 use Rattle.checker.specs.declared.nodes.Walked.{Walked}
 use Rattle.checker.specs.declared.nodes.Walked.the-variants.{Wrong, Last, More}
 use Rattle.checker.specs.declared.steps.Move.{Move}

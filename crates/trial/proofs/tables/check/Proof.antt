@@ -36,20 +36,20 @@ use Rattle.script.proofs.Checked as Z
 use Rattle.script.proofs.Checked.Laws as Z′
 use Rattle.script.proofs.Node as T
 use Rattle.copies.specs.Copies.{places}
-use Rattle.records.specs.Records.{Checks}
-use Rattle.trial.specs.Tables.{placeCount, tableAs}
 use Rattle.copies.proofs.Answered.{answers}
 use Rattle.copies.proofs.Calling.{Toks, Walk, ends, proves}
-use Rattle.trial.proofs.Filled.{CopyIn, fills}
 use Rattle.copies.proofs.Lent.{refAt}
 use Rattle.copies.proofs.Locals.{var, freed}
 use Rattle.copies.proofs.copy_in.Symbol as copy-in-def
 use Rattle.copies.proofs.copy_in.Symbol.{name as #copies·copy-in}
 use Rattle.copies.proofs.copy_in.Met as copy-in-thm
+use Rattle.records.specs.Records.{Checks}
 use Rattle.records.proofs.check as callee
 use Rattle.records.proofs.check.Symbol as callee-def
 use Rattle.records.proofs.check.Symbol.{name as #records·check}
 use Rattle.records.proofs.check.Met as callee-thm
+use Rattle.trial.specs.Tables.{placeCount, tableAs}
+use Rattle.trial.proofs.Filled.{CopyIn, fills}
 use Rattle.trial.proofs.tables.check.Key.{name as #trial·tables·check}
 use Rattle.trial.proofs.tables.check as check
 use Rattle.trial.proofs.tables.check.Statement as stated

@@ -41,11 +41,7 @@ use Rattle.script.proofs.Reading as Z
 use Rattle.script.proofs.Reading.Laws as Z′
 use Rattle.text.specs.Reading as Read
 use Rattle.copies.specs.Copies.{copied, CopiedOut}
-use Rattle.records.specs.Records.{Reads}
-use Rattle.trial.specs.Tables.{placeCount, ReadBack}
 use Rattle.copies.proofs.Calling.{Toks, called, Walk, ends, proves}
-use Rattle.records.proofs.Copied.{CopyOut}
-use Rattle.trial.proofs.Filled.{begins}
 use Rattle.copies.proofs.Lent.{refAt, let-go, back-mut, back-shr}
 use Rattle.copies.proofs.Locals.{var, freed}
 use Rattle.copies.proofs.Sliced.{again, sliced-shr}
@@ -53,10 +49,14 @@ use Rattle.copies.proofs.copy_out as copy-out
 use Rattle.copies.proofs.copy_out.Symbol as copy-out-def
 use Rattle.copies.proofs.copy_out.Symbol.{name as #copies·copy-out}
 use Rattle.copies.proofs.copy_out.Met as copy-out-thm
+use Rattle.records.specs.Records.{Reads}
+use Rattle.records.proofs.Copied.{CopyOut}
 use Rattle.records.proofs.read as callee
 use Rattle.records.proofs.read.Symbol as callee-def
 use Rattle.records.proofs.read.Symbol.{name as #records·read}
 use Rattle.records.proofs.read.Met as callee-thm
+use Rattle.trial.specs.Tables.{placeCount, ReadBack}
+use Rattle.trial.proofs.Filled.{begins}
 use Rattle.trial.proofs.tables.read.Key.{name as #trial·tables·read}
 use Rattle.trial.proofs.tables.read as read
 use Rattle.trial.proofs.tables.read.Statement as stated

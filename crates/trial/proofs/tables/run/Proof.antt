@@ -36,21 +36,21 @@ use Rattle.script.proofs.Ran as Z
 use Rattle.script.proofs.Ran.Laws as Z′
 use Rattle.script.proofs.Node as T
 use Rattle.copies.specs.Copies.{places}
-use Rattle.records.specs.Records.{Runs}
-use Rattle.trial.specs.Tables.{placeCount, tableAs}
 use Rattle.copies.proofs.Answered.{answers}
 use Rattle.copies.proofs.Calling.{Toks, Walk, ends, proves}
-use Rattle.trial.proofs.Filled.{CopyIn, fills}
 use Rattle.copies.proofs.Lent.{refAt}
 use Rattle.copies.proofs.Locals.{var, freed}
 use Rattle.copies.proofs.Sliced.{again}
 use Rattle.copies.proofs.copy_in.Symbol as copy-in-def
 use Rattle.copies.proofs.copy_in.Symbol.{name as #copies·copy-in}
 use Rattle.copies.proofs.copy_in.Met as copy-in-thm
+use Rattle.records.specs.Records.{Runs}
 use Rattle.records.proofs.run as callee
 use Rattle.records.proofs.run.Symbol as callee-def
 use Rattle.records.proofs.run.Symbol.{name as #records·run}
 use Rattle.records.proofs.run.Met as callee-thm
+use Rattle.trial.specs.Tables.{placeCount, tableAs}
+use Rattle.trial.proofs.Filled.{CopyIn, fills}
 use Rattle.trial.proofs.tables.run.Key.{name as #trial·tables·run}
 use Rattle.trial.proofs.tables.run as run
 use Rattle.trial.proofs.tables.run.Statement as stated

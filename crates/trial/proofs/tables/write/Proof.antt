@@ -36,21 +36,21 @@ use Rattle.script.proofs.Writing as Z
 use Rattle.script.proofs.Writing.Laws as Z′
 use Rattle.script.proofs.Node as T
 use Rattle.copies.specs.Copies.{places}
-use Rattle.records.specs.Records.{Writes}
-use Rattle.trial.specs.Tables.{placeCount, tableAs}
 use Rattle.copies.proofs.Answered.{answers}
 use Rattle.copies.proofs.Calling.{Toks, Walk, ends, proves}
-use Rattle.trial.proofs.Filled.{CopyIn, fills}
 use Rattle.copies.proofs.Lent.{refAt}
 use Rattle.copies.proofs.Locals.{var, freed}
 use Rattle.copies.proofs.Sliced.{again}
 use Rattle.copies.proofs.copy_in.Symbol as copy-in-def
 use Rattle.copies.proofs.copy_in.Symbol.{name as #copies·copy-in}
 use Rattle.copies.proofs.copy_in.Met as copy-in-thm
+use Rattle.records.specs.Records.{Writes}
 use Rattle.records.proofs.write as callee
 use Rattle.records.proofs.write.Symbol as callee-def
 use Rattle.records.proofs.write.Symbol.{name as #records·write}
 use Rattle.records.proofs.write.Met as callee-thm
+use Rattle.trial.specs.Tables.{placeCount, tableAs}
+use Rattle.trial.proofs.Filled.{CopyIn, fills}
 use Rattle.trial.proofs.tables.write.Key.{name as #trial·tables·write}
 use Rattle.trial.proofs.tables.write as write
 use Rattle.trial.proofs.tables.write.Statement as stated
