@@ -4,7 +4,7 @@
 // - `NODES<tab>ENTRIES<tab>NAME`: the used counts, and a name that tells what is tried;
 // - the lent entries, decimal and parted by blanks, or nothing;
 // - the numbers of the nodes, four for each, likewise; the numbers after them, up to 130 places, are 0.
-// Numbers are at most 255, and at most 20 entries are lent. A malformed table ends the trial.
+// Entries and numbers of nodes are at most 255, and at most 20 entries are lent. A malformed table ends the trial.
 //
 // Its line has fields parted by tabs: the name, then `accepted` and the letters of the type, or `refused`, number, and place or `-`; then `wrote` and the
 // length of the text, or `refused`, number, and place or `-`.

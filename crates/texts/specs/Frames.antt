@@ -25,11 +25,14 @@ pub record Frame : Type 0 where
 
 -- there is a name, which ends at `stop`, the input has the text and an LF after it, and the output has room for the share
 abbrev pub isWhole : List ℕ → ℕ → ℕ → ℕ → ℕ → ℕ → Bool
-isWhole input room size share name stop = ltb name stop && ltb size (length input - (stop + 1)) && eqb (getD input (stop + 1 + size) 0) 10 && leb share room
+isWhole input room size share name stop =
+    ltb name stop && ltb size (length input - (stop + 1)) && eqb (getD input (stop + 1 + size) 0) 10 && leb share room
+
+abbrev pub frameOf : List ℕ → ℕ → ℕ → ℕ → Frame
+frameOf input size share stop = record { text = take size (drop (stop + 1) input); share = share; next = stop + 1 + size + 1 }
 
 abbrev pub frameIn : List ℕ → ℕ → ℕ → ℕ → ℕ → ℕ → Option Frame
-frameIn input room size share name stop =
-    cond (isWhole input room size share name stop) (some (record { text = take size (drop (stop + 1) input); share = share; next = stop + 1 + size + 1 })) none
+frameIn input room size share name stop = cond (isWhole input room size share name stop) (some (frameOf input size share stop)) none
 
 abbrev pub frameBy : List ℕ → ℕ → Header → Option Frame
 frameBy input room header.Bad = none

@@ -11,7 +11,7 @@ pub enum Byte {
     Bad,
 }
 
-// The decimal byte at `at`, with a blank or an LF after it.
+// The decimal byte at `at`, with a blank or an LF after it, and the place after that.
 fn byte_at(input: &[u8], at: usize) -> Byte
     ensures { λ r. ⌜ r ≡ byteAt (now (input .entry)) at ⌝ }
 {
@@ -35,6 +35,7 @@ fn byte_at(input: &[u8], at: usize) -> Byte
 }
 
 // Reads the line of decimal bytes at `at`, parted by blanks or none at all, into `out`: how many they are, and where the next line starts.
+// If it is not of the form or has more bytes than `out`, the bytes before that place are in `out`.
 pub fn bytes_line(input: &[u8], at: usize, out: &mut [u8]) -> Number
     ensures { λ r. ⌜ line r (now (out .exit)) ≡ bytesLine (now (input .entry)) at (now (out .entry)) ⌝ }
 {

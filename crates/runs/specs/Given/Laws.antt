@@ -20,7 +20,8 @@ module _ (input : List ℕ) (used at : ℕ) (values before cells : List ℕ) {va
     unfolding givenAt
     no-cells f = rw (← v, e, ← b, f) refl
 
-    module _ {n from : ℕ} {cells₁ : List ℕ} {t : Number} (f : s ≡ Number.Is n from) (k : line t cells₁ ≡ bytesLine input next cells) {end : ℕ} (g : end ≡ textEnd input from) where
+    module _ {n from end : ℕ} {cells₁ : List ℕ} {t : Number} (f : s ≡ Number.Is n from) (k : line t cells₁ ≡ bytesLine input next cells)
+        (g : end ≡ textEnd input from) where
       pub no-text : length input ≤ end → left 0 values₁ before₁ cells₁ ≡ givenAt input used at values before cells
       unfolding givenAt
       no-text h = rw (← v, e, ← b, f, ← k, ← g, le-ltb end (length input) h) refl

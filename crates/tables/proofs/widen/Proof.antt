@@ -2,11 +2,11 @@
 use borrow.Author.Needs.{needs}
 use mathlib.Core.List.{_++_}
 use mathlib.Core.Path.{_≡_, refl, _∙_}
-use Prim.Native.Nat.{suc, _≤_, _-_}
+use Prim.Native.Nat.{_≤_, _-_}
 use native.Mathlib.Nat.{zero-add}
 use native.Mathlib.Numerals.{add-one}
 use native.Mathlib.Omega.{arith}
-use lib.ListN.{length, take, drop, getD, set, length-set}
+use lib.ListN.{length, take, drop, length-set}
 use lib.Seq.{paste-suc, take-length}
 use Rattle.tables.proofs.widen.Statement.{statement}
 use Rattle.tables.proofs.widen.Tie as tie
@@ -24,7 +24,8 @@ loop-again : tie.Need-loop-again Inv-loop μ-loop
 loop-again c =
     let l = c .before .before .before .loop in
     let a = (c .before .before .before .before .before .before) .args in
-    (omega arith, length-set (l .words) (l .i) (c .wide .result) ∙ l .inv .1, rw (c .wide .ensures, l .inv .2, add-one (l .i)) (simp zero-add at (paste-suc (a .words .now) 0 (a .bytes .now) (l .i) 0 (omega arith) (omega arith))))
+    let p = paste-suc (a .words .now) 0 (a .bytes .now) (l .i) 0 (omega arith) (omega arith) in
+    (omega arith, length-set (l .words) (l .i) (c .wide .result) ∙ l .inv .1, rw (c .wide .ensures, l .inv .2, add-one (l .i)) (simp zero-add at p))
 
 returns : tie.Need-returns Inv-loop μ-loop
 returns c =

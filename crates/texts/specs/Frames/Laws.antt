@@ -1,11 +1,10 @@
 -- How a frame is read and what its trial leaves, by where it ends, and how the trials of all frames go on. Assumes nothing.
-use mathlib.Core.Bool.{Bool, true, false, cond, _&&_}
+use mathlib.Core.Bool.{Bool, true, false, cond}
 use mathlib.Core.List.{List, _++_}
 use mathlib.Core.Option.{Option, none, some}
-use mathlib.Core.Path.{_≡_, refl, sym, ap, _∙_}
+use mathlib.Core.Path.{_≡_, refl, sym, _∙_}
 use Prim.Native.Nat.{ℕ, zero, suc, _+_, _-_, _≤_, _<_}
 use native.Mathlib.Omega.{arith}
-use lib.Dec.{leb, ltb, eqb}
 use lib.ListN.{length, take, drop, getD}
 use borrow.Author.Tests.{lt-ltb, le-ltb, le-leb, lt-leb, eq-eqb, ne-eqb}
 use Rattle.trial.specs.declared.Header.{Header}
@@ -16,7 +15,7 @@ use Rattle.trial.specs.Numbers.Laws.{BothWithin, header-within, header-past}
 use Rattle.trial.specs.Places.{nameEnd}
 use Rattle.trial.specs.Places.Laws.{name-least}
 use Rattle.texts.specs.Rounds.{Tried}
-use Rattle.texts.specs.Frames.{Frame, isWhole, frameIn, frameBy, frameAt, nextBy, Lent, lent, afterFrame, Framed, afterFrames}
+use Rattle.texts.specs.Frames.{Frame, isWhole, frameOf, frameIn, frameBy, frameAt, nextBy, Lent, lent, afterFrame, Framed, afterFrames}
 
 -- ---- one frame
 
@@ -42,19 +41,21 @@ module _ (input : List ℕ) (room at : ℕ) (l : Lent) {h : Header} (e : h ≡ h
 
       module _ (t : size < length input - (stop + 1)) where
         pub no-end : (getD input (stop + 1 + size) 0 ≡ 10 → ⊥) → Framed (frameAt input room at) l 0 l
-        no-end f = no-frame (by-header ∙ rw (lt-ltb name stop n, lt-ltb size (length input - (stop + 1)) t, ne-eqb (getD input (stop + 1 + size) 0) 10 f) refl)
+        no-end f = no-frame
+            (by-header ∙ rw (lt-ltb name stop n, lt-ltb size (length input - (stop + 1)) t, ne-eqb (getD input (stop + 1 + size) 0) 10 f) refl)
 
         module _ (f : getD input (stop + 1 + size) 0 ≡ 10) where
           pub no-room : room < share → Framed (frameAt input room at) l 0 l
-          no-room r = no-frame
-              (by-header ∙ rw (lt-ltb name stop n, lt-ltb size (length input - (stop + 1)) t, eq-eqb (getD input (stop + 1 + size) 0) 10 f, lt-leb share room r) refl)
+          no-room r = no-frame (by-header
+              ∙ rw (lt-ltb name stop n, lt-ltb size (length input - (stop + 1)) t, eq-eqb (getD input (stop + 1 + size) 0) 10 f, lt-leb share room r) refl)
 
           module _ (r : share ≤ room) where
-            is-frame : frameAt input room at ≡ some (record { text = take size (drop (stop + 1) input); share = share; next = stop + 1 + size + 1 })
+            is-frame : frameAt input room at ≡ some (frameOf input size share stop)
             is-frame = by-header
                 ∙ rw (lt-ltb name stop n, lt-ltb size (length input - (stop + 1)) t, eq-eqb (getD input (stop + 1 + size) 0) 10 f, le-leb share room r) refl
 
-            pub framed : {table₁ entries₁ out₁ : List ℕ} → Tried (take (stop + 1 + size - (stop + 1)) (drop (stop + 1) input)) (l .table) (l .entries) (take share (l .out)) table₁ entries₁ out₁
+            pub framed : {table₁ entries₁ out₁ : List ℕ}
+                → Tried (take (stop + 1 + size - (stop + 1)) (drop (stop + 1) input)) (l .table) (l .entries) (take share (l .out)) table₁ entries₁ out₁
                 → Framed (frameAt input room at) l (stop + 1 + size + 1) (lent table₁ entries₁ (out₁ ++ drop share (l .out)))
             framed w =
                 let q : stop + 1 + size - (stop + 1) ≡ size = omega arith in
@@ -74,13 +75,14 @@ unfolding frameAt
 frame-onward input room at = go (headerAt input at) (header-within input at)
   where
     whole : (size share name stop : ℕ) → at < name → name ≤ stop → (b : Bool)
-        → Onward at (cond b (some (record { text = take size (drop (stop + 1) input); share = share; next = stop + 1 + size + 1 })) none)
+        → Onward at (cond b (some (frameOf input size share stop)) none)
     whole size share name stop h l true = let m : at < stop + 1 + size + 1 = omega arith in goes m
     whole size share name stop h l false = stays
 
     go : (h : Header) → BothWithin largest at h → Onward at (frameBy input room h)
     go header.Bad w = stays
-    go (header.Is size share name) (known.a-header f s l) = whole size share name (nameEnd input name) l (name-least input name) (isWhole input room size share name (nameEnd input name))
+    go (header.Is size share name) (known.a-header f s l) =
+        whole size share name (nameEnd input name) l (name-least input name) (isWhole input room size share name (nameEnd input name))
 
 -- past the end there is none
 frame-past : (input : List ℕ) (room at : ℕ) → length input ≤ at → frameAt input room at ≡ none
@@ -106,7 +108,8 @@ module _ (input : List ℕ) where
     turn-none zero l e = refl
     turn-none (suc k) l e = rw e refl
 
-    turn-some : (k : ℕ) (l : Lent) {f : Frame} → frameAt input (length (l .out)) at ≡ some f → afterFrames input (suc k) at l ≡ afterFrames input k (f .next) (afterFrame (some f) l)
+    turn-some : (k : ℕ) (l : Lent) {f : Frame} → frameAt input (length (l .out)) at ≡ some f
+        → afterFrames input (suc k) at l ≡ afterFrames input k (f .next) (afterFrame (some f) l)
     unfolding afterFrames
     turn-some k l e = rw e refl
 

@@ -1,4 +1,5 @@
--- `trial::name_end` meets its contract. The loop's invariant: the end of the line, looked for from i on, is the one looked for from `at` on. Assumes nothing.
+-- `trial::name_end` meets its contract. The loop's invariant: the end of the line, looked for from i on, is the one looked for from `at` on. Assumes
+-- nothing.
 use borrow.Author.Needs.{needs}
 use mathlib.Core.Option.{Option, Option·getD}
 use mathlib.Core.Path.{_≡_, refl, sym, ap, _∙_}

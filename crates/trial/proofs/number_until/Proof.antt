@@ -1,4 +1,5 @@
--- `trial::number_until` meets its contract. The loop's invariant: the number that the bytes from i on make after the value is the whole number. Assumes nothing.
+-- `trial::number_until` meets its contract. The loop's invariant: the number that the bytes from i on make after the value is the whole number. Assumes
+-- nothing.
 use borrow.Author.Needs.{needs}
 use mathlib.Core.Path.{_≡_, sym, _∙_}
 use Prim.Native.Nat.{_≤_, _-_}

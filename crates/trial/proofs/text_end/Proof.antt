@@ -1,4 +1,5 @@
--- `trial::text_end` meets its contract. The loop's invariant: the first empty line, looked for from i on, is the one looked for from `at` on. Assumes nothing.
+-- `trial::text_end` meets its contract. The loop's invariant: the first empty line, looked for from i on, is the one looked for from `at` on. Assumes
+-- nothing.
 use borrow.Author.Needs.{needs}
 use mathlib.Core.Bool.{true}
 use mathlib.Core.Logic.{⊎-elim}
@@ -28,7 +29,8 @@ loop-again : tie.Need-loop-again Inv-loop μ-loop
 loop-again c =
     let a = (c .before .before .before .before) .args in
     let l = c .before .before .before .loop in
-    rw (add-one (l .i)) (sym (text-on (l .starts) (a .input .now) (l .i) (omega arith) (⊎-elim (λ w. rw (w .0 .taken) (w .1 .left)) (λ w. rw (w .left) refl) (c .if1 .came))) ∙ l .inv)
+    let on = text-on (l .starts) (a .input .now) (l .i) (omega arith) in
+    rw (add-one (l .i)) (sym (on (⊎-elim (λ w. rw (w .0 .taken) (w .1 .left)) (λ w. rw (w .left) refl) (c .if1 .came))) ∙ l .inv)
 
 returns-2 : tie.Need-returns-2 Inv-loop μ-loop
 returns-2 c =

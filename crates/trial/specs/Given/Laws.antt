@@ -1,20 +1,19 @@
 -- How a line of bytes is read, one byte at a time, and what callers know of it: it has no more bytes than are lent. Assumes nothing.
 use mathlib.Core.Bool.{Bool, true, false, cond}
-use mathlib.Core.List.{List, [], _∷_, _++_, append-assoc, append-nil}
-use mathlib.Core.Path.{_≡_, refl, sym, ap, _∙_}
+use mathlib.Core.List.{List, [], _∷_, append-assoc, append-nil}
+use mathlib.Core.Path.{_≡_, refl, _∙_}
 use Prim.Native.Nat.{ℕ, suc, _+_, _≤_, _<_}
 use native.Mathlib.Numerals.{add-one}
 use native.Mathlib.Omega.{arith}
-use lib.Dec.{leb, eqb}
+use lib.Dec.{eqb}
 use lib.ListN.{length, take, drop, getD, set, drop-of-length-le}
 use lib.Seq.{drop-cons, drop-set-lt, set-split, split-at, take-all, take-suc-set}
 use borrow.Author.Tests.{le-leb, lt-leb, eq-eqb, ne-eqb}
 use Rattle.trial.specs.declared.Number.{Number}
-use Rattle.trial.specs.declared.Number.the-variants as number
 use Rattle.trial.specs.declared.given.Byte.{Byte}
 use Rattle.trial.specs.declared.given.Byte.the-variants as byte
 use Rattle.trial.specs.Numbers.{numberAt}
-use Rattle.trial.specs.Given.{byteBy, byteAt, Line, line, after, lineBy, bytesFrom, lineIn, bytesLine}
+use Rattle.trial.specs.Given.{byteAt, Line, line, after, lineBy, bytesFrom, lineIn, bytesLine}
 
 -- ---- a byte
 
@@ -67,7 +66,8 @@ module _ (input : List ℕ) (n i : ℕ) (out : List ℕ) where
   line-full h = rw (drop-of-length-le out h, take-all n out h, append-nil out) refl
 
   module _ (h : n < length out) where
-    at-byte : going input n i out ≡ after (take n out) (lineBy (byteAt input i) n (getD out n 0) (drop (suc n) out) (λ next. bytesFrom input (suc n) next (drop (suc n) out)))
+    at-byte : going input n i out
+        ≡ after (take n out) (lineBy (byteAt input i) n (getD out n 0) (drop (suc n) out) (λ next. bytesFrom input (suc n) next (drop (suc n) out)))
     unfolding bytesFrom
     at-byte = rw (drop-cons out n 0 h) refl
 
@@ -96,7 +96,8 @@ unfolding bytesFrom
 from-counted m input n i [] h = no-line
 from-counted m input n i (o ∷ os) h = go (byteAt input i) (λ next. from-counted m input (suc n) next os (omega arith))
   where
-    go : (b : Byte) → ((next : ℕ) → Counted m (bytesFrom input (suc n) next os .answer)) → Counted m (lineBy b n o os (λ next. bytesFrom input (suc n) next os) .answer)
+    go : (b : Byte) → ((next : ℕ) → Counted m (bytesFrom input (suc n) next os .answer))
+        → Counted m (lineBy b n o os (λ next. bytesFrom input (suc n) next os) .answer)
     go (byte.More b next) ih = ih next
     go (byte.Last b next) ih = counted {v = suc n} {next = next} (omega arith)
     go byte.Bad ih = no-line
@@ -114,5 +115,6 @@ line-counted input at out = go (drop at input)
     go (c ∷ cs) = some (eqb c 10)
 
 -- a line has no more bytes than are lent
-pub count-most : (input : List ℕ) (at : ℕ) (out : List ℕ) {r : Number} {left : List ℕ} {v next : ℕ} → line r left ≡ bytesLine input at out → r ≡ Number.Is v next → v ≤ length out
+pub count-most : (input : List ℕ) (at : ℕ) (out : List ℕ) {r : Number} {left : List ℕ} {v next : ℕ} → line r left ≡ bytesLine input at out
+    → r ≡ Number.Is v next → v ≤ length out
 count-most input at out e f = count (rw (← e, f) at (line-counted input at out))

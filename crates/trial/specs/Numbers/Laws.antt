@@ -1,4 +1,5 @@
--- How a number is read, one digit at a time, and what callers know of one: it is no more than the largest, and the place after it is further on. Assumes nothing.
+-- How a number is read, one digit at a time, and what callers know of one: it is no more than the largest, and the place after it is further on. Assumes
+-- nothing.
 use mathlib.Core.Bool.{Bool, true, false, cond, _&&_}
 use mathlib.Core.List.{List, [], _∷_}
 use mathlib.Core.Path.{_≡_, refl, sym, _∙_}
@@ -111,7 +112,8 @@ from-within stop v i at (c ∷ cs) h = go (eqb c stop) (eqb (digitOf c) 10) (fro
     here false e = no-number
 
     go : (s d : Bool) → Within largest at (numberFrom stop (v * 10 + digitOf c) (suc i) cs)
-        → Within largest at (cond s (cond (leb v largest) (Number.Is v (suc i)) Number.Bad) (cond d Number.Bad (numberFrom stop (v * 10 + digitOf c) (suc i) cs)))
+        → Within largest at
+        (cond s (cond (leb v largest) (Number.Is v (suc i)) Number.Bad) (cond d Number.Bad (numberFrom stop (v * 10 + digitOf c) (suc i) cs)))
     go true d ih = here (leb v largest) refl
     go false true ih = no-number
     go false false ih = ih

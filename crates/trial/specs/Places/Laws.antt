@@ -2,7 +2,7 @@
 use mathlib.Core.Bool.{Bool, true, false, cond, _&&_}
 use mathlib.Core.List.{List, [], _∷_}
 use mathlib.Core.Option.{Option, none, some, Option·getD}
-use mathlib.Core.Path.{_≡_, refl, sym, _∙_}
+use mathlib.Core.Path.{_≡_, refl}
 use Prim.Native.Nat.{ℕ, suc, _+_, _≤_, _<_}
 use native.Mathlib.Omega.{arith}
 use lib.Dec.{ltb, eqb}
@@ -73,7 +73,8 @@ module _ (starts : Bool) (input : List ℕ) (i : ℕ) where
     unfolding emptyLine
     text-ends s e = rw (drop-cons input i 0 h, s, e) refl
 
-    pub text-on : starts && eqb (getD input i 0) 10 ≡ false → emptyLine starts i (drop i input) ≡ emptyLine (eqb (getD input i 0) 10) (suc i) (drop (suc i) input)
+    pub text-on : starts && eqb (getD input i 0) 10 ≡ false
+        → emptyLine starts i (drop i input) ≡ emptyLine (eqb (getD input i 0) 10) (suc i) (drop (suc i) input)
     unfolding emptyLine
     text-on e = rw (drop-cons input i 0 h, e) refl
 

@@ -1,4 +1,5 @@
--- `trial::given::bytes_line` meets its contract. The loop's invariant: the first n bytes of `out`, and those that come from i on, are the whole line. Assumes nothing.
+-- `trial::given::bytes_line` meets its contract. The loop's invariant: the first n bytes of `out`, and those that come from i on, are the whole line. Assumes
+-- nothing.
 use borrow.Author.Needs.{needs}
 use mathlib.Core.Path.{_≡_, refl, sym, _∙_}
 use Prim.Native.Nat.{_-_}
