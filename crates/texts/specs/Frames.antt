@@ -61,7 +61,7 @@ lent table entries out = record { table = table; entries = entries; out = out }
 abbrev pub outAfter : List ℕ → List ℕ → List ℕ → List ℕ → List ℕ
 outAfter text table entries out = outputBy (reading text placeCount (length entries) .answer) (tableAfter text table entries) (entriesAfter text entries) out
 
--- only the share changes of the output; a malformed frame changes nothing
+-- of the output only the share changes; a malformed frame changes nothing
 abbrev pub afterFrame : Option Frame → Lent → Lent
 afterFrame none l = l
 afterFrame (some f) l =
@@ -77,7 +77,7 @@ abbrev pub framesBy : Option Frame → Lent → (Frame → Lent) → Lent
 framesBy none l later = l
 framesBy (some f) l later = later f
 
--- the frames from a place on, up to a malformed one or the end, and k of them at most
+-- after the frames from a place on, up to a malformed one or the end, and k of them at most; an input has no more frames than bytes
 unfoldable pub afterFrames : List ℕ → ℕ → ℕ → Lent → Lent
 afterFrames input zero at l = l
 afterFrames input (suc k) at l = framesBy (frameAt input (length (l .out)) at) l (λ f. afterFrames input k (f .next) (afterFrame (some f) l))
