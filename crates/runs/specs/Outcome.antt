@@ -14,7 +14,7 @@ abbrev pub cellsBy : Reading → List ℕ → List ℕ → List ℕ → List ℕ
 cellsBy (Read s) xs es values cells used = runTable (tableAs xs (s .nodes) es (s .entries)) values cells used .cells
 cellsBy (Refused r) xs es values cells used = cells
 
--- the text is read into 128 places and 16 entries
+-- the text is read into 130 places and 16 entries; the flat table keeps the first 128 places
 abbrev pub cellsAfter : List ℕ → List ℕ → List ℕ → ℕ → List ℕ
 cellsAfter text values cells used =
     cellsBy (reading text placeCount 16 .answer) (copied (reading text placeCount 16 .lentNodes) (min placeCount 128) (replicate 512 0))

@@ -11,6 +11,9 @@
 // after the run, `KIND:BITS` parted by blanks, `-` if there is none, or `?` if the used count is more than the cells lent; then `kept` if each lent byte
 // after the used cells is as it was before the run, else `touched`.
 // After a refusal: the name, `refused`, number, place or `-`, and `kept` if each lent byte is as it was; `unread` if the text was refused, and nothing run.
+ghost use mathlib.Core.Path.{_≡_};
+ghost use Rattle.runs.specs.Given.{left, givenAt};
+
 mod outcome;
 
 use outcome::try_text;
@@ -34,7 +37,9 @@ fn try_given(
     before: &mut [u8],
     cells: &mut [u8],
     used: u32,
-) -> usize {
+) -> usize
+    ensures { λ r. ⌜ left r (now (values .exit)) (now (before .exit)) (now (cells .exit)) ≡ givenAt (now (input .entry)) used at (now (values .entry)) (now (before .entry)) (now (cells .entry)) ⌝ }
+{
     let Number::Is(count, next) = bytes_line(input, at, values) else {
         return 0;
     };

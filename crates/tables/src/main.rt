@@ -4,12 +4,14 @@
 // - `NODES<tab>ENTRIES<tab>NAME`: the used counts, and a name that tells what is tried;
 // - the lent entries, decimal and parted by blanks, or nothing;
 // - the numbers of the nodes, four for each, likewise; the numbers after them, up to 130 places, are 0.
-// Numbers are at most 255, and at most 20 entries are lent. A malformed table ends the trial.
+// Entries and numbers of nodes are at most 255, and at most 20 entries are lent. A malformed table ends the trial.
 //
 // Its line has fields parted by tabs: the name, then `accepted` and the letters of the type, or `refused`, number, and place or `-`; then `wrote` and the
 // length of the text, or `refused`, number, and place or `-`.
+ghost use mathlib.Core.List.{_++_};
+ghost use mathlib.Core.Path.{_≡_};
 ghost use Prim.Native.Nat.{_≤_};
-ghost use lib.ListN.{length};
+ghost use lib.ListN.{length, drop};
 use script::Writing;
 use trial::Header;
 use trial::Number;
@@ -23,13 +25,16 @@ use trial::say_refusal;
 use trial::tables;
 
 // A byte as a number of 32 bits.
-fn wide(b: u8) -> u32 {
+fn wide(b: u8) -> u32
+    ensures { λ r. ⌜ r ≡ b ⌝ }
+{
     b as u32
 }
 
-// Puts the bytes into the words' first places.
+// Puts the bytes into the words' first places; the words after them stay.
 fn widen(bytes: &[u8], words: &mut [u32])
     requires { ⌜ length (now bytes) ≤ length (now words) ⌝ }
+    ensures { λ _. ⌜ now (words .exit) ≡ now (bytes .entry) ++ drop (length (now (bytes .entry))) (now (words .entry)) ⌝ }
 {
     let mut i = 0;
     while i < bytes.len() {

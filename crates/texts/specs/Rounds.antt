@@ -24,10 +24,17 @@ abbrev pub outputBy : Reading → List ℕ → List ℕ → List ℕ → List �
 outputBy (Read s) xs es out = wroteBy xs (s .nodes) es (s .entries) out
 outputBy (Refused r) xs es out = out
 
--- the places and entries hold what reading leaves, over sevens, and the output what writing does
+-- the table and the entries after the reading of a text, over sevens
+abbrev pub tableAfter : List ℕ → List ℕ → List ℕ → List ℕ
+tableAfter text table entries = copied (reading text placeCount (length entries) .lentNodes) (min placeCount (length table / 4)) (replicate (length table) 7)
+
+abbrev pub entriesAfter : List ℕ → List ℕ → List ℕ
+entriesAfter text entries = reading text placeCount (length entries) .lentEntries
+
+-- the places and entries hold what reading leaves, and the output what writing does
 pub record Tried (text table entries out table₁ entries₁ out₁ : List ℕ) : Type 0 where
-  pub table-left : table₁ ≡ copied (reading text placeCount (length entries) .lentNodes) (min placeCount (length table / 4)) (replicate (length table) 7)
-  pub entries-left : entries₁ ≡ reading text placeCount (length entries) .lentEntries
+  pub table-left : table₁ ≡ tableAfter text table entries
+  pub entries-left : entries₁ ≡ entriesAfter text entries
   pub out-left : out₁ ≡ outputBy (reading text placeCount (length entries) .answer) table₁ entries₁ out
 
 -- ---- how the trial comes to it
@@ -41,10 +48,10 @@ module _ (table entries : List ℕ) {text filled sevens table₁ entries₁ : Li
   as-many : length sevens ≡ length entries
   as-many = ap length g ∙ length-replicate {A = ℕ} (length entries) 7
 
-  table-is : table₁ ≡ copied (reading text placeCount (length entries) .lentNodes) (min placeCount (length table / 4)) (replicate (length table) 7)
+  table-is : table₁ ≡ tableAfter text table entries
   table-is = rw (as-many, f, length-replicate {A = ℕ} (length table) 7) at (r .nodes-are)
 
-  entries-are : entries₁ ≡ reading text placeCount (length entries) .lentEntries
+  entries-are : entries₁ ≡ entriesAfter text entries
   entries-are = rw as-many at (r .entries-are)
 
   answer-is : a ≡ reading text placeCount (length entries) .answer

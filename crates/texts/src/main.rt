@@ -1,6 +1,10 @@
 // Tries the reader and the writer of script text on framed texts, and prints a line for each: its name, a tab, and what came of it.
 // A frame is a line `LENGTH<tab>OUT<tab>NAME`, then LENGTH bytes of text and an LF; OUT bytes are lent to the writer.
 // Names tell what is tried.
+ghost use mathlib.Core.Path.{_≡_};
+ghost use lib.ListN.{length};
+ghost use Rattle.texts.specs.Frames.{frameAt, lent, Framed, afterFrames};
+
 mod rounds;
 mod slices;
 
@@ -17,7 +21,9 @@ fn try_frame(
     table: &mut [u32],
     entries: &mut [u32],
     out: &mut [u8],
-) -> usize {
+) -> usize
+    ensures { λ r. ⌜ Framed (frameAt (now (input .entry)) (length (now (out .entry))) at) (lent (now (table .entry)) (now (entries .entry)) (now (out .entry))) r (lent (now (table .exit)) (now (entries .exit)) (now (out .exit))) ⌝ }
+{
     let Header::Is {
         first: length,
         second: lent,
@@ -49,7 +55,9 @@ fn try_frame(
 }
 
 // Tries all frames in turn. A malformed one ends it.
-fn try_all(input: &[u8], table: &mut [u32], entries: &mut [u32], out: &mut [u8]) {
+fn try_all(input: &[u8], table: &mut [u32], entries: &mut [u32], out: &mut [u8])
+    ensures { λ _. ⌜ lent (now (table .exit)) (now (entries .exit)) (now (out .exit)) ≡ afterFrames (now (input .entry)) (length (now (input .entry))) 0 (lent (now (table .entry)) (now (entries .entry)) (now (out .entry))) ⌝ }
+{
     let mut at = 0;
     while at < input.len() {
         let next = try_frame(input, at, table, entries, out);

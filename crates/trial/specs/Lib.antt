@@ -1,2 +1,4 @@
+pub mod Given
 pub mod Numbers
+pub mod Places
 pub mod Tables

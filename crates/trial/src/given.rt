@@ -1,6 +1,6 @@
 // What a stored trial gives after its header: lines of bytes.
-ghost use lib.ListN.{length};
-ghost use Rattle.trial.specs.Numbers.{Within};
+ghost use mathlib.Core.Path.{_≡_};
+ghost use Rattle.trial.specs.Given.{byteAt, line, bytesLine};
 use crate::Number;
 use crate::number_until;
 
@@ -11,8 +11,10 @@ pub enum Byte {
     Bad,
 }
 
-// The decimal byte at `at`, with a blank or an LF after it.
-fn byte_at(input: &[u8], at: usize) -> Byte {
+// The decimal byte at `at`, with a blank or an LF after it, and the place after that.
+fn byte_at(input: &[u8], at: usize) -> Byte
+    ensures { λ r. ⌜ r ≡ byteAt (now (input .entry)) at ⌝ }
+{
     match number_until(input, at, b' ') {
         Number::Is(value, next) => {
             if value <= 255 {
@@ -33,8 +35,9 @@ fn byte_at(input: &[u8], at: usize) -> Byte {
 }
 
 // Reads the line of decimal bytes at `at`, parted by blanks or none at all, into `out`: how many they are, and where the next line starts.
+// If it is not of the form or has more bytes than `out`, the bytes before that place are in `out`.
 pub fn bytes_line(input: &[u8], at: usize, out: &mut [u8]) -> Number
-    ensures { λ r. ⌜ Within (length (now (out .entry))) r ⌝ }
+    ensures { λ r. ⌜ line r (now (out .exit)) ≡ bytesLine (now (input .entry)) at (now (out .entry)) ⌝ }
 {
     if input.len() <= at {
         return Number::Bad;

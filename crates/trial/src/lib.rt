@@ -1,8 +1,8 @@
 // What the programs that try the other crates share: the headers, names and texts in their input, and what they print. `given` has lines of bytes, `tables` the
 // calls over a table of records.
-ghost use Prim.Native.Nat.{_≤_, _<_};
-ghost use lib.ListN.{length};
-ghost use Rattle.trial.specs.Numbers.{largest, Within, BothWithin};
+ghost use mathlib.Core.Path.{_≡_};
+ghost use Rattle.trial.specs.Numbers.{digitOf, numberAt, headerAt};
+ghost use Rattle.trial.specs.Places.{nameEnd, textEnd};
 
 pub mod given;
 pub mod tables;
@@ -30,7 +30,7 @@ pub enum Number {
 
 // The decimal digit that a byte spells, or 10.
 fn digit(b: u8) -> usize
-    ensures { λ r. ⌜ r ≤ 10 ⌝ }
+    ensures { λ r. ⌜ r ≡ digitOf b ⌝ }
 {
     if b'0' <= b {
         if b <= b'9' {
@@ -40,18 +40,21 @@ fn digit(b: u8) -> usize
     10
 }
 
-// The number at `at`, of one to seven digits, with the byte `stop` after it.
+// The number at `at`, of one digit or more and at most 9999999, with the byte `stop` after it, and the place after that byte.
 pub fn number_until(input: &[u8], at: usize, stop: u8) -> Number
-    ensures { λ r. ⌜ Within largest r ⌝ }
+    ensures { λ r. ⌜ r ≡ numberAt stop (now (input .entry)) at ⌝ }
 {
+    if input.len() <= at {
+        return Number::Bad;
+    }
+    if input[at] == stop {
+        return Number::Bad;
+    }
     let mut value: usize = 0;
     let mut i = at;
     while i < input.len() {
         let b = input[i];
         if b == stop {
-            if i == at {
-                return Number::Bad;
-            }
             return Number::Is(value, i + 1);
         }
         let d = digit(b);
@@ -67,9 +70,9 @@ pub fn number_until(input: &[u8], at: usize, stop: u8) -> Number
     Number::Bad
 }
 
-// The header at `at`: two numbers, each with a tab after it, and a name.
+// The header at `at`: two numbers, each with a tab after it, and the place of the name.
 pub fn header_at(input: &[u8], at: usize) -> Header
-    ensures { λ r. ⌜ BothWithin largest r ⌝ }
+    ensures { λ r. ⌜ r ≡ headerAt (now (input .entry)) at ⌝ }
 {
     match number_until(input, at, b'\t') {
         Number::Is(first, next) => match number_until(input, next, b'\t') {
@@ -86,7 +89,7 @@ pub fn header_at(input: &[u8], at: usize) -> Header
 
 // The place of the LF after the name at `at`; `at` itself if there is no LF, no name, or a byte below the blank in it, as a tab.
 pub fn name_end(input: &[u8], at: usize) -> usize
-    ensures { λ r. ⌜ (at < r → r < length (now (input .entry))) ⌝ }
+    ensures { λ r. ⌜ r ≡ nameEnd (now (input .entry)) at ⌝ }
 {
     let mut i = at;
     while i < input.len() {
@@ -102,9 +105,9 @@ pub fn name_end(input: &[u8], at: usize) -> usize
     at
 }
 
-// The end of the text at `at`: where the first empty line stands from there on, or the input's end.
+// The end of the text at `at`: where the first empty line stands from there on, or the input's end; `at` itself if that is past the end.
 pub fn text_end(input: &[u8], at: usize) -> usize
-    ensures { λ r. ⌜ (r < length (now (input .entry)) → at ≤ r) ⌝ }
+    ensures { λ r. ⌜ r ≡ textEnd (now (input .entry)) at ⌝ }
 {
     let mut i = at;
     let mut starts = true;
@@ -116,7 +119,7 @@ pub fn text_end(input: &[u8], at: usize) -> usize
         starts = ends;
         i += 1;
     }
-    input.len()
+    i
 }
 
 // Prints bytes.

@@ -1,32 +1,42 @@
--- `runs::try_given` is safe and ends: a text that was found is in the input, and there are as many values as were counted. Assumes nothing.
+-- `runs::try_given` meets its contract: a text that was found is in the input, and there are as many values as were counted. Assumes nothing.
 use borrow.Author.Needs.{needs}
 use mathlib.Core.Path.{sym}
 use native.Mathlib.Omega.{arith}
 use lib.Seq.{length-take-le}
-use Rattle.trial.specs.Numbers.{within}
+use Rattle.trial.specs.Given.Laws.{count-most}
+use Rattle.trial.specs.Places.Laws.{text-after}
+use Rattle.runs.specs.Given.Laws.{no-values, no-cells, no-text, ran}
 use Rattle.runs.proofs.try_given.Statement.{statement}
 use Rattle.runs.proofs.try_given.Tie as tie
 
+returns : tie.Need-returns
+returns c = no-values _ _ _ _ _ _ (c .before .before .before .before .bytes-line .ensures) (c .enum-told .given .1)
+
+returns-2 : tie.Need-returns-2
+returns-2 c = no-cells _ _ _ _ _ _ (c .before .before .before .before .before .before .before .before .before .before .before .bytes-line .ensures) (c .before .before .before .before .before .before .before .count .given .1) (c .before .before .before .before .bytes-line2 .ensures) (c .enum-told2 .given .1)
+
+returns-3 : tie.Need-returns-3
+returns-3 c =
+    no-text _ _ _ _ _ _ (c .before .before .before .before .before .before .before .before .before .before .before .before .before .before .before .before .before .before .bytes-line .ensures) (c .before .before .before .before .before .before .before .before .before .before .before .before .before .before .count .given .1) (c .before .before .before .before .before .before .before .before .before .before .before .bytes-line2 .ensures) (c .before .before .before .before .before .before .before .from .given .1) (c .before .before .before .before .bytes-line3 .ensures) (c .before .text-end .ensures) (c .if1 .taken)
+
 sub-try-text : tie.Need-sub-try-text
-sub-try-text c = c .before .text-end .ensures (omega arith)
+sub-try-text c = text-after _ _ (c .before .text-end .ensures)
 
 part-try-text-start : tie.Need-part-try-text-start
-part-try-text-start c = omega (arith, c .before .text-end .ensures (omega arith))
+part-try-text-start c = let h = text-after _ _ (c .before .text-end .ensures) in omega arith
 
 slice-reshare-prefix-try-text : tie.Need-slice-reshare-prefix-try-text
-slice-reshare-prefix-try-text c =
-    let read = c .before .before .before .before .before .before .before .before .before .before .before .before .before .before .before in
-    omega (arith, within (rw (read .count .given .1) at (read .before .before .before .before .bytes-line .ensures)))
+slice-reshare-prefix-try-text c = let h = count-most _ _ _ (c .before .before .before .before .before .before .before .before .before .before .before .before .before .before .before .before .before .before .before .bytes-line .ensures) (c .before .before .before .before .before .before .before .before .before .before .before .before .before .before .before .count .given .1) in omega arith
 
 slice-aggregate-try-text : tie.Need-slice-aggregate-try-text
-slice-aggregate-try-text c =
-    let read = c .before .before .before .before .before .before .before .before .before .before .before .before .before .before .before .before in
-    sym (length-take-le _ _ (omega (arith, within (rw (read .count .given .1) at (read .before .before .before .before .bytes-line .ensures)))))
+slice-aggregate-try-text c = let h = count-most _ _ _ (c .before .before .before .before .before .before .before .before .before .before .before .before .before .before .before .before .before .before .before .before .bytes-line .ensures) (c .before .before .before .before .before .before .before .before .before .before .before .before .before .before .before .before .count .given .1) in sym (length-take-le _ _ (omega arith))
 
 add-result : tie.Need-add-result
-add-result c =
-    let found = c .before .before .before .before .before .before .before .before .before in
-    omega (arith, found .if1 .left, found .before .before .before .before .before .before .before .before .before .before .before .before .before .before .before .before .before .before .before .before .before .before .before .before .good)
+add-result c = omega (arith, c .before .before .before .before .before .before .before .before .before .if1 .left, c .before .before .before .before .before .before .before .before .before .before .before .before .before .before .before .before .before .before .before .before .before .before .before .before .before .before .before .before .before .before .before .before .before .good)
+
+returns-4 : tie.Need-returns-4
+returns-4 c =
+    ran _ _ _ _ _ _ (c .before .before .before .before .before .before .before .before .before .before .before .before .before .before .before .before .before .before .before .before .before .before .before .before .before .before .before .bytes-line .ensures) (c .before .before .before .before .before .before .before .before .before .before .before .before .before .before .before .before .before .before .before .before .before .before .before .count .given .1) (c .before .before .before .before .before .before .before .before .before .before .before .before .before .before .before .before .before .before .before .before .bytes-line2 .ensures) (c .before .before .before .before .before .before .before .before .before .before .before .before .before .before .before .before .from .given .1) (c .before .before .before .before .before .before .before .before .before .before .before .before .before .bytes-line3 .ensures) (c .before .before .before .before .before .before .before .before .before .before .text-end .ensures) (c .before .before .before .before .before .before .before .before .before .if1 .left) (c .before .before .before .before .try-text .ensures)
 
 pub try-given-spec : {M : Type 1} → statement M
 try-given-spec =
@@ -36,19 +46,19 @@ try-given-spec =
     (λ c. search needs)
     (λ c. search needs)
     (λ c. search needs)
-    (λ c. search needs)
+    returns
     (λ c κs. search needs)
     (λ c. search needs)
     (λ c. search needs)
     (λ c. search needs)
     (λ c. search needs)
-    (λ c. search needs)
+    returns-2
     (λ c κs. search needs)
     (λ c κs. search needs)
     (λ c. search needs)
     (λ c. search needs)
     (λ c. search needs)
-    (λ c. search needs)
+    returns-3
     sub-try-text
     part-try-text-start
     (λ c. search needs)
@@ -61,4 +71,4 @@ try-given-spec =
     (λ c. search needs)
     (λ c. search needs)
     (λ c. search needs)
-    (λ c. search needs))
+    returns-4)

@@ -3,17 +3,16 @@ use borrow.Author.Needs.{needs}
 use mathlib.Core.Path.{sym}
 use native.Mathlib.Omega.{arith}
 use lib.Seq.{length-take-le}
-use Rattle.trial.specs.Numbers.{second-within}
+use Rattle.trial.specs.Numbers.Laws.{second-most}
+use Rattle.trial.specs.Places.Laws.{name-within}
 use Rattle.runs.proofs.try_run.Statement.{statement}
 use Rattle.runs.proofs.try_run.Tie as tie
 
 part-say-end : tie.Need-part-say-end
-part-say-end c = omega (arith, c .before .name-end .ensures (c .if1 .left))
+part-say-end c = let h = name-within _ _ (c .before .name-end .ensures) (c .if1 .left) in omega arith
 
 add-try-given : tie.Need-add-try-given
-add-try-given c =
-    let named = c .before .before .before .before .before in
-    omega (arith, named .before .name-end .ensures (named .if1 .left))
+add-try-given c = let h = name-within _ _ (c .before .before .before .before .before .before .name-end .ensures) (c .before .before .before .before .before .if1 .left) in omega arith
 
 slice-aggregate-try-given-2 : tie.Need-slice-aggregate-try-given-2
 slice-aggregate-try-given-2 c = sym (length-take-le _ _ (search needs))
@@ -22,9 +21,7 @@ slice-aggregate-try-given-3 : tie.Need-slice-aggregate-try-given-3
 slice-aggregate-try-given-3 c = sym (length-take-le _ _ (search needs))
 
 cast-try-given : tie.Need-cast-try-given
-cast-try-given c =
-    let read = c .before .before .before .before .before .before .before .before .before .before .before in
-    omega (arith, second-within (rw (read .lent .given .1) at (read .before .before .header-at .ensures)))
+cast-try-given c = let h = second-most _ _ (c .before .before .before .before .before .before .before .before .before .before .before .before .before .header-at .ensures) (c .before .before .before .before .before .before .before .before .before .before .before .lent .given .1) in omega arith
 
 pub try-run-spec : {M : Type 1} → statement M
 try-run-spec =

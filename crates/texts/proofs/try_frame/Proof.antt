@@ -1,19 +1,39 @@
--- `texts::try_frame` is safe and ends: a name that was found ends in the input, and the part that is lent is as long as said. Assumes nothing.
+-- `texts::try_frame` meets its contract: a name that was found ends in the input, and the part that is lent is as long as said. Assumes nothing.
 use borrow.Author.Needs.{needs}
 use mathlib.Core.Path.{sym}
 use native.Mathlib.Omega.{arith}
 use lib.Seq.{length-take-le}
+use Rattle.trial.specs.Places.Laws.{name-within}
+use Rattle.texts.specs.Frames.Laws.{no-header, no-name, no-text, no-end, no-room, framed}
 use Rattle.texts.proofs.try_frame.Statement.{statement}
 use Rattle.texts.proofs.try_frame.Tie as tie
 
+returns : tie.Need-returns
+returns c = no-header _ _ _ _ (c .before .before .header-at .ensures) (c .enum-told .given .1)
+
+returns-2 : tie.Need-returns-2
+returns-2 c = no-name _ _ _ _ (c .before .before .before .before .before .header-at .ensures) (c .before .before .before .length .given .1) (c .before .name-end .ensures) (c .if1 .taken)
+
 add-from : tie.Need-add-from
-add-from c = omega (arith, c .before .name-end .ensures (c .if1 .left))
+add-from c = let h = name-within _ _ (c .before .name-end .ensures) (c .if1 .left) in omega arith
 
 sub-if2 : tie.Need-sub-if2
-sub-if2 c = omega (arith, c .before .name-end .ensures (c .if1 .left))
+sub-if2 c = let h = name-within _ _ (c .before .name-end .ensures) (c .if1 .left) in omega arith
+
+returns-3 : tie.Need-returns-3
+returns-3 c = no-text _ _ _ _ (c .before .before .before .before .before .before .header-at .ensures) (c .before .before .before .before .length .given .1) (c .before .before .name-end .ensures) (c .before .if1 .left) (c .if2 .taken)
+
+returns-4 : tie.Need-returns-4
+returns-4 c = no-end _ _ _ _ (c .before .before .before .before .before .before .before .before .header-at .ensures) (c .before .before .before .before .before .before .length .given .1) (c .before .before .before .before .name-end .ensures) (c .before .before .before .if1 .left) (c .before .before .if2 .left) (c .if3 .taken)
+
+returns-5 : tie.Need-returns-5
+returns-5 c = no-room _ _ _ _ (c .before .before .before .before .before .before .before .before .before .header-at .ensures) (c .before .before .before .before .before .before .before .length .given .1) (c .before .before .before .before .before .name-end .ensures) (c .before .before .before .before .if1 .left) (c .before .before .before .if2 .left) (c .before .if3 .left) (c .if4 .taken)
 
 slice-aggregate-try-text : tie.Need-slice-aggregate-try-text
 slice-aggregate-try-text c = sym (length-take-le _ _ (search needs))
+
+returns-6 : tie.Need-returns-6
+returns-6 c = framed _ _ _ _ (c .before .before .before .before .before .before .before .before .before .before .before .before .before .before .before .before .before .before .before .before .before .before .before .before .before .before .header-at .ensures) (c .before .before .before .before .before .before .before .before .before .before .before .before .before .before .before .before .before .before .before .before .before .before .before .before .length .given .1) (c .before .before .before .before .before .before .before .before .before .before .before .before .before .before .before .before .before .before .before .before .before .before .name-end .ensures) (c .before .before .before .before .before .before .before .before .before .before .before .before .before .before .before .before .before .before .before .before .before .if1 .left) (c .before .before .before .before .before .before .before .before .before .before .before .before .before .before .before .before .before .before .before .before .if2 .left) (c .before .before .before .before .before .before .before .before .before .before .before .before .before .before .before .before .before .before .if3 .left) (c .before .before .before .before .before .before .before .before .before .before .before .before .before .before .before .before .before .if4 .left) (c .before .before .before .before .before .before .before .before .try-text .ensures)
 
 pub try-frame-spec : {M : Type 1} → statement M
 try-frame-spec =
@@ -22,16 +42,16 @@ try-frame-spec =
     (λ c κs. search needs)
     (λ c. search needs)
     (λ c. search needs)
-    (λ c. search needs)
+    returns
     (λ c κs. search needs)
-    (λ c. search needs)
+    returns-2
     add-from
     sub-if2
+    returns-3
     (λ c. search needs)
     (λ c. search needs)
-    (λ c. search needs)
-    (λ c. search needs)
-    (λ c. search needs)
+    returns-4
+    returns-5
     (λ c. search needs)
     (λ c. search needs)
     (λ c. search needs)
@@ -50,4 +70,4 @@ try-frame-spec =
     (λ c. search needs)
     (λ c. search needs)
     (λ c. search needs)
-    (λ c. search needs))
+    returns-6)
