@@ -1,5 +1,6 @@
 // The checker: the typed rules and the symbolic rules over a table. `check` is the whole call; `nodes` checks and executes nodes, `operators` has the symbolic
-// rules, `path` a path's own numbers, `steps` the way of a value up, `forks` the way back to a fork. Below it stand `types`, `log`, `notes` and `frames`, over one `workspace`.
+// rules, `path` a path's own numbers, `steps` the way of a value up, `forks` the way back to a fork. Below it stand `types`, `log`, `notes` and `frames`,
+// over one `workspace`.
 ghost use mathlib.Core.Option.{none};
 ghost use mathlib.Core.Path.{_≡_};
 ghost use Prim.Native.Nat.{_*_, _≤_};

@@ -13,18 +13,17 @@ use trial::name_end;
 use trial::say;
 use trial::say_checked;
 use trial::say_refusal;
-use trial::tables;
 use trial::text_end;
 
 // Reads a text, checks it if it could be read, and prints what came of it. The line is left open.
 fn try_text(text: &[u8]) {
     let mut table = [0u32; 4 * Script::NODES];
     let mut entries = [0u32; Script::ENTRIES];
-    match tables::read(text, &mut table, &mut entries) {
+    match calls::read(text, &mut table, &mut entries) {
         Reading::Read(script) => {
             let nodes = script.nodes;
             let count = script.entries;
-            say_checked(tables::check(&table, nodes, &entries, count));
+            say_checked(calls::check(&table, nodes, &entries, count));
         }
         Reading::Refused(r) => {
             say_refusal(r);

@@ -3,7 +3,7 @@ ghost use mathlib.Core.Path.{_≡_};
 ghost use Prim.Native.Nat.{_+_, _*_, _≤_, _<_};
 ghost use lib.ListN.{length};
 ghost use Rattle.rules.specs.Running.{runTable};
-ghost use Rattle.trial.specs.Tables.{tableAs};
+ghost use Rattle.calls.specs.Tables.{tableAs};
 ghost use Rattle.runs.specs.Outcome.{cellsAfter};
 use script::Ran;
 use script::Reading;
@@ -12,7 +12,6 @@ use trial::say_decimal;
 use trial::say_either;
 use trial::say_number;
 use trial::say_refusal;
-use trial::tables;
 
 // A byte as a number of 64 bits.
 fn wide(b: u8) -> u64
@@ -92,7 +91,7 @@ fn try_script(
 )
     ensures { λ _. ⌜ now (cells .exit) ≡ runTable (tableAs (now (table .entry)) nodes (now (entries .entry)) «entry_count») (now (values .entry)) (now (cells .entry)) used .cells ⌝ }
 {
-    match tables::run(table, nodes, entries, entry_count, values, cells, used) {
+    match calls::run(table, nodes, entries, entry_count, values, cells, used) {
         Ran::Gave(v, now) => {
             say(b"value");
             say_number(v.kind() as u64);
@@ -117,7 +116,7 @@ pub fn try_text(text: &[u8], values: &[u8], before: &[u8], cells: &mut [u8], use
 {
     let mut table = [0u32; 512];
     let mut entries = [0u32; 16];
-    match tables::read(text, &mut table, &mut entries) {
+    match calls::read(text, &mut table, &mut entries) {
         Reading::Read(script) => {
             let nodes = script.nodes;
             let count = script.entries;

@@ -22,7 +22,6 @@ use trial::say;
 use trial::say_checked;
 use trial::say_number;
 use trial::say_refusal;
-use trial::tables;
 
 // A byte as a number of 32 bits.
 fn wide(b: u8) -> u32
@@ -46,9 +45,9 @@ fn widen(bytes: &[u8], words: &mut [u32])
 // Checks and writes a table, and prints what came of it. The line is left open.
 fn try_table(table: &[u32], nodes: usize, entries: &[u32], used: usize) {
     let mut out = [0u8; 2288];
-    say_checked(tables::check(table, nodes, entries, used));
+    say_checked(calls::check(table, nodes, entries, used));
     say(b"\t");
-    match tables::write(table, nodes, entries, used, &mut out) {
+    match calls::write(table, nodes, entries, used, &mut out) {
         Writing::Wrote(length) => {
             say(b"wrote");
             say_number(length as u64);

@@ -12,7 +12,6 @@ use trial::say;
 use trial::say_either;
 use trial::say_number;
 use trial::say_refusal;
-use trial::tables;
 
 // What the table and the entries hold before a reading: no place of it is `false`, no entry 0.
 const STALE: u32 = 7;
@@ -58,7 +57,7 @@ fn try_writer(
 {
     fill_bytes(out, BLANK);
     say(b"\t");
-    match tables::write(table, nodes, entries, used, out) {
+    match calls::write(table, nodes, entries, used, out) {
         Writing::Wrote(length) => {
             say(b"wrote");
             say_number(length as u64);
@@ -78,7 +77,7 @@ pub fn try_text(text: &[u8], table: &mut [u32], entries: &mut [u32], out: &mut [
 {
     fill_words(table, STALE);
     fill_words(entries, STALE);
-    match tables::read(text, table, entries) {
+    match calls::read(text, table, entries) {
         Reading::Read(script) => {
             let nodes = script.nodes;
             let used = script.entries;

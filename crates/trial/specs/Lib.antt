@@ -1,4 +1,3 @@
 pub mod Given
 pub mod Numbers
 pub mod Places
-pub mod Tables

@@ -1,11 +1,9 @@
-// What the programs that try the other crates share: the headers, names and texts in their input, and what they print. `given` has lines of bytes, `tables` the
-// calls over a table of records.
+// What the programs that try the other crates share: the headers, names and texts in their input, and what they print. `given` has lines of bytes.
 ghost use mathlib.Core.Path.{_≡_};
 ghost use Rattle.trial.specs.Numbers.{digitOf, numberAt, headerAt};
 ghost use Rattle.trial.specs.Places.{nameEnd, textEnd};
 
 pub mod given;
-pub mod tables;
 
 use libc::STDOUT_FILENO;
 use script::Checked;

@@ -1,4 +1,4 @@
--- `trial::tables::write` meets its contract: a walk of its MIR, by hand. The table is made and filled (`Filled.antt`), `write` is called on it, and its answer is returned (`Answered.antt`).
+-- `calls::write` meets its contract: a walk of its MIR, by hand. The table is made and filled (`Filled.antt`), `write` is called on it, and its answer is returned (`Answered.antt`).
 -- What says the last values at exit is what the call left (`Said.antt`). Assumes nothing.
 use mathlib.Core.Path.{refl}
 use Prim.Native.Nat.{ℕ}
@@ -49,12 +49,12 @@ use Rattle.records.proofs.write as callee
 use Rattle.records.proofs.write.Symbol as callee-def
 use Rattle.records.proofs.write.Symbol.{name as #records·write}
 use Rattle.records.proofs.write.Met as callee-thm
-use Rattle.trial.specs.Tables.{placeCount, tableAs}
-use Rattle.trial.proofs.Filled.{CopyIn, fills}
-use Rattle.trial.proofs.tables.write.Key.{name as #trial·tables·write}
-use Rattle.trial.proofs.tables.write as write
-use Rattle.trial.proofs.tables.write.Statement as stated
-use Rattle.trial.proofs.tables.write.Code as code
+use Rattle.calls.specs.Tables.{placeCount, tableAs}
+use Rattle.calls.proofs.Filled.{CopyIn, fills}
+use Rattle.calls.proofs.write.Key.{name as #calls·write}
+use Rattle.calls.proofs.write as write
+use Rattle.calls.proofs.write.Statement as stated
+use Rattle.calls.proofs.write.Code as code
 
 abbrev spells : (κs : Lfts 3) → Spells (typesAt (write.signature .params) κs)
 spells κs = (slice-vals, (uint-vals w64, (slice-vals, (uint-vals w64, (slice-vals, tt)))))
@@ -107,7 +107,7 @@ pub write-spec : {M : Type 1} → stated.statement M
 unfolding code.routine tablesOf
 write-spec 𝓤 H 𝓜 𝓖 𝓡 =
     entered 𝓤 H (tripleOf 𝓤 H (𝓖 .A) write.signature (write.spec 𝓤 H (𝓖 .A) (𝓜 .mem) (𝓡 .run)))
-    (tables 𝓤 H 𝓜 𝓡 code.env .C) (tables 𝓤 H 𝓜 𝓡 code.env .Λ) #trial·tables·write code.function (code.unfolded 𝓤 H 𝓜 𝓡)
+    (tables 𝓤 H 𝓜 𝓡 code.env .C) (tables 𝓤 H 𝓜 𝓡 code.env .Λ) #calls·write code.function (code.unfolded 𝓤 H 𝓜 𝓡)
     (write-meets 𝓤 H (𝓖 .A) (𝓜 .mem) (𝓡 .run) (givenOf 𝓤 H 𝓜 𝓖) (tablesOf 𝓤 H 𝓜 (tables 𝓤 H 𝓜 𝓡 code.env))
     (cited 𝓤 H (CopyIn 𝓤 H (𝓖 .A) (𝓜 .mem) (𝓡 .run)) 𝓜 𝓡 code.env #copies·copy-in copy-in-def.routine code.calls-copies·copy-in (copy-in-thm.met 𝓤 H 𝓜 𝓖 𝓡))
     (cited 𝓤 H (Callee 𝓤 H (𝓖 .A) (𝓜 .mem) (𝓡 .run)) 𝓜 𝓡 code.env #records·write callee-def.routine code.calls-records·write (callee-thm.met 𝓤 H 𝓜 𝓖 𝓡)))

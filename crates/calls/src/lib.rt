@@ -2,7 +2,7 @@
 // script can use.
 ghost use lib.ListN.{length};
 ghost use Rattle.records.specs.Records.{Checks, Runs, Writes};
-ghost use Rattle.trial.specs.Tables.{tableAs, ReadBack};
+ghost use Rattle.calls.specs.Tables.{tableAs, ReadBack};
 use copies::copy_in;
 use copies::copy_out;
 use script::Checked;

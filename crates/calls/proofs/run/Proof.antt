@@ -1,4 +1,4 @@
--- `trial::tables::run` meets its contract: a walk of its MIR, by hand. The table is made and filled (`Filled.antt`), `run` is called on it, and its answer is returned (`Answered.antt`).
+-- `calls::run` meets its contract: a walk of its MIR, by hand. The table is made and filled (`Filled.antt`), `run` is called on it, and its answer is returned (`Answered.antt`).
 -- What says the last values at exit is what the call left (`Said.antt`). Assumes nothing.
 use mathlib.Core.Path.{refl}
 use Prim.Native.Nat.{ℕ}
@@ -49,12 +49,12 @@ use Rattle.records.proofs.run as callee
 use Rattle.records.proofs.run.Symbol as callee-def
 use Rattle.records.proofs.run.Symbol.{name as #records·run}
 use Rattle.records.proofs.run.Met as callee-thm
-use Rattle.trial.specs.Tables.{placeCount, tableAs}
-use Rattle.trial.proofs.Filled.{CopyIn, fills}
-use Rattle.trial.proofs.tables.run.Key.{name as #trial·tables·run}
-use Rattle.trial.proofs.tables.run as run
-use Rattle.trial.proofs.tables.run.Statement as stated
-use Rattle.trial.proofs.tables.run.Code as code
+use Rattle.calls.specs.Tables.{placeCount, tableAs}
+use Rattle.calls.proofs.Filled.{CopyIn, fills}
+use Rattle.calls.proofs.run.Key.{name as #calls·run}
+use Rattle.calls.proofs.run as run
+use Rattle.calls.proofs.run.Statement as stated
+use Rattle.calls.proofs.run.Code as code
 
 abbrev spells : (κs : Lfts 4) → Spells (typesAt (run.signature .params) κs)
 spells κs = (slice-vals, (uint-vals w64, (slice-vals, (uint-vals w64, (slice-vals, (slice-vals, (uint-vals w32, tt)))))))
@@ -109,7 +109,7 @@ pub run-spec : {M : Type 1} → stated.statement M
 unfolding code.routine tablesOf
 run-spec 𝓤 H 𝓜 𝓖 𝓡 =
     entered 𝓤 H (tripleOf 𝓤 H (𝓖 .A) run.signature (run.spec 𝓤 H (𝓖 .A) (𝓜 .mem) (𝓡 .run)))
-    (tables 𝓤 H 𝓜 𝓡 code.env .C) (tables 𝓤 H 𝓜 𝓡 code.env .Λ) #trial·tables·run code.function (code.unfolded 𝓤 H 𝓜 𝓡)
+    (tables 𝓤 H 𝓜 𝓡 code.env .C) (tables 𝓤 H 𝓜 𝓡 code.env .Λ) #calls·run code.function (code.unfolded 𝓤 H 𝓜 𝓡)
     (run-meets 𝓤 H (𝓖 .A) (𝓜 .mem) (𝓡 .run) (givenOf 𝓤 H 𝓜 𝓖) (tablesOf 𝓤 H 𝓜 (tables 𝓤 H 𝓜 𝓡 code.env))
     (cited 𝓤 H (CopyIn 𝓤 H (𝓖 .A) (𝓜 .mem) (𝓡 .run)) 𝓜 𝓡 code.env #copies·copy-in copy-in-def.routine code.calls-copies·copy-in (copy-in-thm.met 𝓤 H 𝓜 𝓖 𝓡))
     (cited 𝓤 H (Callee 𝓤 H (𝓖 .A) (𝓜 .mem) (𝓡 .run)) 𝓜 𝓡 code.env #records·run callee-def.routine code.calls-records·run (callee-thm.met 𝓤 H 𝓜 𝓖 𝓡)))

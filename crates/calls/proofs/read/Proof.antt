@@ -1,4 +1,4 @@
--- `trial::tables::read` meets its contract: a walk of its MIR, by hand. The table is made and lent to `read` (`Filled.antt`), taken back as that left it, and lent to `copy_out`, which
+-- `calls::read` meets its contract: a walk of its MIR, by hand. The table is made and lent to `read` (`Filled.antt`), taken back as that left it, and lent to `copy_out`, which
 -- fills `flat`. The text, the flat table and the entries are given up for good: what says the last values at exit is what the two calls left (`Said.antt`). Assumes nothing.
 use mathlib.Core.Path.{_≡_, refl, ap, _∙_, subst}
 use Prim.Native.Nat.{ℕ, _/_, min}
@@ -55,12 +55,12 @@ use Rattle.records.proofs.read as callee
 use Rattle.records.proofs.read.Symbol as callee-def
 use Rattle.records.proofs.read.Symbol.{name as #records·read}
 use Rattle.records.proofs.read.Met as callee-thm
-use Rattle.trial.specs.Tables.{placeCount, ReadBack}
-use Rattle.trial.proofs.Filled.{begins}
-use Rattle.trial.proofs.tables.read.Key.{name as #trial·tables·read}
-use Rattle.trial.proofs.tables.read as read
-use Rattle.trial.proofs.tables.read.Statement as stated
-use Rattle.trial.proofs.tables.read.Code as code
+use Rattle.calls.specs.Tables.{placeCount, ReadBack}
+use Rattle.calls.proofs.Filled.{begins}
+use Rattle.calls.proofs.read.Key.{name as #calls·read}
+use Rattle.calls.proofs.read as read
+use Rattle.calls.proofs.read.Statement as stated
+use Rattle.calls.proofs.read.Code as code
 
 abbrev spells : (κs : Lfts 3) → Spells (typesAt (read.signature .params) κs)
 spells κs = (slice-vals, (slice-vals, (slice-vals, tt)))
@@ -147,7 +147,7 @@ pub read-spec : {M : Type 1} → stated.statement M
 unfolding code.routine tablesOf
 read-spec 𝓤 H 𝓜 𝓖 𝓡 =
     entered 𝓤 H (tripleOf 𝓤 H (𝓖 .A) read.signature (read.spec 𝓤 H (𝓖 .A) (𝓜 .mem) (𝓡 .run)))
-    (tables 𝓤 H 𝓜 𝓡 code.env .C) (tables 𝓤 H 𝓜 𝓡 code.env .Λ) #trial·tables·read code.function (code.unfolded 𝓤 H 𝓜 𝓡)
+    (tables 𝓤 H 𝓜 𝓡 code.env .C) (tables 𝓤 H 𝓜 𝓡 code.env .Λ) #calls·read code.function (code.unfolded 𝓤 H 𝓜 𝓡)
     (read-meets 𝓤 H (𝓖 .A) (𝓜 .mem) (𝓡 .run) (givenOf 𝓤 H 𝓜 𝓖) (tablesOf 𝓤 H 𝓜 (tables 𝓤 H 𝓜 𝓡 code.env))
     (cited 𝓤 H (Callee 𝓤 H (𝓖 .A) (𝓜 .mem) (𝓡 .run)) 𝓜 𝓡 code.env #records·read callee-def.routine code.calls-records·read (callee-thm.met 𝓤 H 𝓜 𝓖 𝓡))
     (cited 𝓤 H (CopyOut 𝓤 H (𝓖 .A) (𝓜 .mem) (𝓡 .run)) 𝓜 𝓡 code.env #copies·copy-out copy-out-def.routine code.calls-copies·copy-out (copy-out-thm.met 𝓤 H 𝓜 𝓖 𝓡)))

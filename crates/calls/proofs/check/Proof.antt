@@ -1,4 +1,4 @@
--- `trial::tables::check` meets its contract: a walk of its MIR, by hand. The table is made and filled (`Filled.antt`), `check` is called on it, and its answer is returned (`Answered.antt`).
+-- `calls::check` meets its contract: a walk of its MIR, by hand. The table is made and filled (`Filled.antt`), `check` is called on it, and its answer is returned (`Answered.antt`).
 -- What says the last values at exit is what the call left (`Said.antt`). Assumes nothing.
 use mathlib.Core.Path.{refl}
 use Prim.Native.Nat.{ℕ}
@@ -48,12 +48,12 @@ use Rattle.records.proofs.check as callee
 use Rattle.records.proofs.check.Symbol as callee-def
 use Rattle.records.proofs.check.Symbol.{name as #records·check}
 use Rattle.records.proofs.check.Met as callee-thm
-use Rattle.trial.specs.Tables.{placeCount, tableAs}
-use Rattle.trial.proofs.Filled.{CopyIn, fills}
-use Rattle.trial.proofs.tables.check.Key.{name as #trial·tables·check}
-use Rattle.trial.proofs.tables.check as check
-use Rattle.trial.proofs.tables.check.Statement as stated
-use Rattle.trial.proofs.tables.check.Code as code
+use Rattle.calls.specs.Tables.{placeCount, tableAs}
+use Rattle.calls.proofs.Filled.{CopyIn, fills}
+use Rattle.calls.proofs.check.Key.{name as #calls·check}
+use Rattle.calls.proofs.check as check
+use Rattle.calls.proofs.check.Statement as stated
+use Rattle.calls.proofs.check.Code as code
 
 abbrev spells : (κs : Lfts 2) → Spells (typesAt (check.signature .params) κs)
 spells κs = (slice-vals, (uint-vals w64, (slice-vals, (uint-vals w64, tt))))
@@ -105,7 +105,7 @@ pub check-spec : {M : Type 1} → stated.statement M
 unfolding code.routine tablesOf
 check-spec 𝓤 H 𝓜 𝓖 𝓡 =
     entered 𝓤 H (tripleOf 𝓤 H (𝓖 .A) check.signature (check.spec 𝓤 H (𝓖 .A) (𝓜 .mem) (𝓡 .run)))
-    (tables 𝓤 H 𝓜 𝓡 code.env .C) (tables 𝓤 H 𝓜 𝓡 code.env .Λ) #trial·tables·check code.function (code.unfolded 𝓤 H 𝓜 𝓡)
+    (tables 𝓤 H 𝓜 𝓡 code.env .C) (tables 𝓤 H 𝓜 𝓡 code.env .Λ) #calls·check code.function (code.unfolded 𝓤 H 𝓜 𝓡)
     (check-meets 𝓤 H (𝓖 .A) (𝓜 .mem) (𝓡 .run) (givenOf 𝓤 H 𝓜 𝓖) (tablesOf 𝓤 H 𝓜 (tables 𝓤 H 𝓜 𝓡 code.env))
     (cited 𝓤 H (CopyIn 𝓤 H (𝓖 .A) (𝓜 .mem) (𝓡 .run)) 𝓜 𝓡 code.env #copies·copy-in copy-in-def.routine code.calls-copies·copy-in (copy-in-thm.met 𝓤 H 𝓜 𝓖 𝓡))
     (cited 𝓤 H (Callee 𝓤 H (𝓖 .A) (𝓜 .mem) (𝓡 .run)) 𝓜 𝓡 code.env #records·check callee-def.routine code.calls-records·check (callee-thm.met 𝓤 H 𝓜 𝓖 𝓡)))
