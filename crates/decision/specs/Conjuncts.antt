@@ -18,8 +18,8 @@ use Rattle.rows.specs.Code.{isLink, conjunctAt, conjunctOf}
 use Rattle.rows.specs.Decision.{branchesOf}
 use Rattle.rows.specs.declared.Decision.{Decision}
 use Rattle.rows.specs.declared.Decision.the-variants.{OnlyTrue, OnlyFalse}
-use Rattle.decision.specs.Atoms.{atom-one}
-use Rattle.decision.specs.Words.{atom-op}
+use Rattle.known.specs.Atoms.{atom-one}
+use Rattle.known.specs.Words.{atom-op}
 
 -- ---- the way down
 

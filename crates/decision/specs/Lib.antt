@@ -1,9 +1,6 @@
-pub mod Atoms
-pub mod Code
 pub mod Conjuncts
 pub mod Deciding
-pub mod Known
-pub mod Listed
-pub mod Patterns
+pub mod Keeping
 pub mod Promise
-pub mod Words
+pub mod Recalling
+pub mod Whole

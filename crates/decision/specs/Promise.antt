@@ -13,7 +13,7 @@ use Rattle.rows.specs.Code.{knownSize, Sound, decided, LeftBy}
 use Rattle.rows.specs.Decision.{decisionOf}
 use Rattle.rows.specs.declared.Decision.{Decision}
 use Rattle.rows.specs.declared.Decision.the-variants.{TooMany, Both, OnlyTrue, OnlyFalse}
-use Rattle.decision.specs.Known.{Remembers}
+use Rattle.known.specs.Known.{Remembers}
 
 -- the numbers and rows that it takes
 pub record Decidable (ws : List ℕ) (at c g : ℕ) : Type 0 where

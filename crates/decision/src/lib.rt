@@ -11,13 +11,13 @@ ghost use Rattle.rows.specs.Code.{conditionWord, Searchable, Searched, kept, Ke
 ghost use Rattle.decision.specs.Promise.{Decidable, Decides};
 
 mod conjuncts;
-mod known;
 
 use crate::conjuncts::conjunct;
-use crate::known::compare;
-use crate::known::keep;
-use crate::known::list_guard;
-use crate::known::number_known;
+use known::compare;
+use known::forget;
+use known::keep;
+use known::list_guard;
+use known::number_known;
 use rows::ATOMS;
 use rows::CONDITION;
 use rows::Decision;
@@ -42,9 +42,6 @@ const BLOCKS: usize = 16;
 
 // No number of an atom.
 const NONE: u8 = 10;
-
-// How many numbers are kept of what is known of a condition.
-pub const KNOWN: usize = 44;
 
 // One branch is taken, and the other is impossible.
 fn only_one(decision: Decision) -> bool
@@ -108,14 +105,6 @@ fn search(
         block += 1;
     }
     branches_of(yes, no)
-}
-
-// Nothing is known of the condition any more.
-pub fn forget(space: &mut [u32], at: usize)
-    requires { ⌜ at < length (now space) ⌝ }
-    ensures { λ _. ⌜ now (space .exit) ≡ set (now (space .entry)) at 0 ⌝ }
-{
-    space[at] = 0;
 }
 
 // After a decision of the guard alone: if one branch is impossible, nothing is known any more.

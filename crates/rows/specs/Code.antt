@@ -319,6 +319,7 @@ pub record GuardListed (ws : List ℕ) (g : ℕ) (os : List ℕ) (count : ℕ) (
   pub same : length out ≡ length os
   pub many : count ≡ length (guardRows ws g)
   pub rows : take count out ≡ guardRows ws g
+  pub rest : (k : ℕ) → count ≤ k → getD out k 0 ≡ getD os k 0
 
 -- the words of the rows and of the guard, where the condition has a truth in this block
 unfoldable pub guardedWords : List ℕ → List ℕ → ℕ → List ℕ → ℕ → List ℕ → ℕ → List ℕ

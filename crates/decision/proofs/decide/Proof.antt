@@ -3,7 +3,7 @@ use mathlib.Core.Path.{_≡_, sym, _∙_}
 use borrow.Author.Needs.{needs}
 use native.Mathlib.Omega.{arith}
 use Rattle.rows.specs.Code.{recalled, recalls}
-use Rattle.decision.specs.Code.Whole.{decided-unknown, decided-known, decided-other, unknown, not-recalled, numbers-known, recalls-is, guard-long, guard-rows}
+use Rattle.decision.specs.Whole.{decided-unknown, decided-known, decided-other, unknown, not-recalled, numbers-known, recalls-is, guard-long, guard-rows}
 use Rattle.decision.specs.Promise.Laws.{anew-promised, known-promised}
 use Rattle.decision.proofs.decide.Statement.{statement}
 use Rattle.decision.proofs.decide.Tie as tie

@@ -6,7 +6,7 @@ use Prim.Native.Nat.{_-_}
 use native.Mathlib.Omega.{arith}
 use lib.ListN.{length-set}
 use Rattle.rows.specs.Code.{Rows, changesOf}
-use Rattle.decision.specs.Code.Searching.{rows-listed, order-long, Looking, looking, Prepared, looking-on, looking-both, looking-end}
+use Rattle.known.specs.Searching.{rows-listed, order-long, Looking, looking, Prepared, looking-on, looking-both, looking-end}
 use Rattle.decision.proofs.search.Statement.{statement}
 use Rattle.decision.proofs.search.Tie as tie
 

@@ -420,7 +420,7 @@ guard-room ws g l h =
 pub guard-listed : (ws : List ℕ) (g : ℕ) (os : List ℕ) {ms : List ℕ} {count : ℕ} {out : List ℕ} → ms ≡ marked ws (g + 1) (set (replicate rowLimit 0) g 1)
     → Lists ms (g + 1) 1 os count out → GuardListed ws g os count out
 unfolding guardRows guardMarks
-guard-listed ws g os e k = record { same = k .same; many = rw e at (k .many); rows = rw e at (k .rows) }
+guard-listed ws g os e k = record { same = k .same; many = rw e at (k .many); rows = rw e at (k .rows); rest = k .rest }
 
 pub guarded-none : (ws os : List ℕ) (count : ℕ) (ns : List ℕ) (block : ℕ) (vs : List ℕ) (g c : ℕ) → c ≡ 0
     → (vs ≡ guardedWords ws os count ns block vs c) × (0 ≡ guardedWord vs g c)

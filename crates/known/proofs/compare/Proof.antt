@@ -1,0 +1,105 @@
+-- `known::compare` meets its contract. The loop's invariant: `yes` and `no` are what the blocks before this one have. Assumes nothing.
+use mathlib.Core.Path.{sym}
+use borrow.Author.Needs.{needs}
+use Prim.Native.Nat.{_+_, _-_}
+use native.Mathlib.Omega.{arith}
+use lib.ListN.{getD}
+use Rattle.rows.specs.Code.{changesOf}
+use Rattle.known.specs.Searching.{rows-listed, order-long, Comparing, comparing, compare-rows, comparing-on, comparing-both, comparing-end}
+use Rattle.known.specs.Known.{blocks-most}
+use Rattle.known.proofs.compare.Statement.{statement}
+use Rattle.known.proofs.compare.Tie as tie
+
+abbrev Inv-loop : tie.InvT-loop
+Inv-loop space at order count numbers guard words₀ later more blocks yes₀ no₀ block₀ words yes' no' block =
+    Comparing space at numbers guard blocks (changesOf space order numbers count) words yes' no' block
+
+abbrev μ-loop : tie.MeasureT-loop
+μ-loop space at order count numbers guard words₀ later more blocks yes₀ no₀ block₀ words yes' no' block =
+    blocks - block
+
+begin-requires : tie.Need-begin-requires Inv-loop μ-loop
+begin-requires c κs = let p = c .before .before .before .before .before .pre in (compare-rows (c .before .before .before .before .before .pre), ((p .numbers, omega arith), (omega (arith, p .high), omega (arith, p .high))))
+
+add-blocks-of : tie.Need-add-blocks-of Inv-loop μ-loop
+add-blocks-of c = search needs
+
+mul-blocks-of : tie.Need-mul-blocks-of Inv-loop μ-loop
+mul-blocks-of c = search needs
+
+shared-slice-read-blocks-of : tie.Need-shared-slice-read-blocks-of Inv-loop μ-loop
+shared-slice-read-blocks-of c = omega (arith, c .before .before .before .before .before .before .before .before .before .pre .lent)
+
+blocks-of-requires : tie.Need-blocks-of-requires Inv-loop μ-loop
+blocks-of-requires c κs = search needs
+
+loop-holds : tie.Need-loop-holds Inv-loop μ-loop
+loop-holds c = comparing (c .before .before .before .before .before .before .before .before .before .before .pre) (c .blocks-of .result) _ (c .before .before .before .before .begin .ensures .0)
+
+known-word-requires : tie.Need-known-word-requires Inv-loop μ-loop
+known-word-requires c κs = let e = c .before .before .blocks-of .ensures in let m = blocks-most (getD (c .before .before .before .before .before .before .before .before .before .before .before .before .args .space .now) (c .before .before .before .before .before .before .before .before .before .before .before .before .args .at + 1) 0) in (c .before .before .before .before .before .before .before .before .before .before .before .before .pre .lent, omega (arith, c .loop-test .taken))
+
+slice-aggregate-guarded-word : tie.Need-slice-aggregate-guarded-word Inv-loop μ-loop
+slice-aggregate-guarded-word c = sym (c .before .before .before .before .before .before .before .before .begin .ensures .1 .same)
+
+slice-aggregate-guarded-word-2 : tie.Need-slice-aggregate-guarded-word-2 Inv-loop μ-loop
+slice-aggregate-guarded-word-2 c = sym (c .before .before .before .before .loop .inv .whole)
+
+guarded-word-requires : tie.Need-guarded-word-requires Inv-loop μ-loop
+guarded-word-requires c κs =
+    let a = c .before .before .before .before .before .before .before .before .before .before .before .before .before .before .before .args in
+    let p = c .before .before .before .before .before .before .before .before .before .before .before .before .before .before .before .pre in
+    let l = c .before .before .before .before .before .before .before .before .before .begin .ensures .1 in
+    let s = changesOf (a .space .now) (a .order .now) (a .numbers .now) (a .count) in
+    let f = order-long s 1 (a .guard + 1) (c .before .before .before .before .before .before .before .before .before .begin .result) (c .before .before .before .before .before .before .before .before .before .begin .last .1 .1 .1 .1 .1 .1 .0) (omega (arith, p .high)) (l .many) (l .same) in
+    (rows-listed (a .space .now) s 1 (a .guard + 1) (c .before .before .before .before .before .before .before .before .before .begin .last .1 .1 .1 .1 .1 .1 .0) (c .before .before .before .before .before .before .before .before .before .begin .result) (omega (arith, p .behind, p .lent)) (omega (arith, p .high)) f (l .many) (l .rows), ((p .numbers, omega (arith, c .before .before .before .before .loop .inv .whole)), p .high))
+
+both-found-requires : tie.Need-both-found-requires Inv-loop μ-loop
+both-found-requires c κs = search needs
+
+returns : tie.Need-returns Inv-loop μ-loop
+returns c =
+    let k = comparing-on (c .before .before .before .before .before .before .before .before .before .before .before .before .before .before .before .before .before .before .before .pre) (c .before .before .before .before .before .before .before .before .before .blocks-of .result) (c .before .before .before .before .before .before .before .before .loop .inv) (c .before .before .before .before .before .before .before .before .before .before .before .before .before .begin .last .1 .1 .1 .1 .1 .1 .0) (c .before .before .before .before .before .before .before .before .before .before .before .before .before .begin .result) (c .before .before .before .before .before .before .before .before .before .before .before .before .before .begin .ensures .1 .many) (c .before .before .before .before .before .before .before .before .before .before .before .before .before .begin .ensures .1 .rows) (c .before .before .before .before .before .before .known-word .result) (c .before .before .before .guarded-word .result) _ (c .before .before .before .before .before .before .before .loop-test .taken) (c .before .before .before .before .before .before .known-word .ensures) (c .before .before .before .guarded-word .ensures .0) (c .before .before .before .guarded-word .ensures .1) in
+    comparing-both (c .before .before .before .before .before .before .before .before .before .before .before .before .before .before .before .before .before .before .before .pre) (c .before .before .before .before .before .before .before .before .before .blocks-of .result) k (c .before .both-found .result) (c .before .before .before .before .before .before .before .before .before .blocks-of .ensures) (c .before .both-found .ensures) (c .if1 .taken)
+
+add-block : tie.Need-add-block Inv-loop μ-loop
+add-block c = search needs
+
+loop-less : tie.Need-loop-less Inv-loop μ-loop
+loop-less c = search needs
+
+loop-again : tie.Need-loop-again Inv-loop μ-loop
+loop-again c = comparing-on (c .before .before .before .before .before .before .before .before .before .before .before .before .before .before .before .before .before .before .before .pre) (c .before .before .before .before .before .before .before .before .before .blocks-of .result) (c .before .before .before .before .before .before .before .before .loop .inv) (c .before .before .before .before .before .before .before .before .before .before .before .before .before .begin .last .1 .1 .1 .1 .1 .1 .0) (c .before .before .before .before .before .before .before .before .before .before .before .before .before .begin .result) (c .before .before .before .before .before .before .before .before .before .before .before .before .before .begin .ensures .1 .many) (c .before .before .before .before .before .before .before .before .before .before .before .before .before .begin .ensures .1 .rows) (c .before .before .before .before .before .before .known-word .result) (c .before .before .before .guarded-word .result) _ (c .before .before .before .before .before .before .before .loop-test .taken) (c .before .before .before .before .before .before .known-word .ensures) (c .before .before .before .guarded-word .ensures .0) (c .before .before .before .guarded-word .ensures .1)
+
+branches-of-requires : tie.Need-branches-of-requires Inv-loop μ-loop
+branches-of-requires c κs = search needs
+
+returns-2 : tie.Need-returns-2 Inv-loop μ-loop
+returns-2 c = comparing-end (c .before .before .before .before .before .before .before .before .before .before .before .before .before .pre) (c .before .before .before .blocks-of .result) (c .before .before .loop .inv) (c .branches-of .result) (c .before .before .before .blocks-of .ensures) (c .before .loop-test .left) (c .branches-of .ensures)
+
+pub compare-spec : {M : Type 1} → statement M
+compare-spec =
+    tie.close
+    (tie.spec
+    Inv-loop
+    μ-loop
+    (λ c. search needs)
+    (λ c. search needs)
+    (λ c. search needs)
+    begin-requires
+    add-blocks-of
+    mul-blocks-of
+    shared-slice-read-blocks-of
+    blocks-of-requires
+    loop-holds
+    known-word-requires
+    slice-aggregate-guarded-word
+    slice-aggregate-guarded-word-2
+    guarded-word-requires
+    both-found-requires
+    returns
+    add-block
+    loop-less
+    loop-again
+    branches-of-requires
+    returns-2)

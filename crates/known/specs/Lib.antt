@@ -1,0 +1,8 @@
+pub mod Atoms
+pub mod Known
+pub mod Listed
+pub mod Ordered
+pub mod Patterns
+pub mod Searching
+pub mod Steady
+pub mod Words
