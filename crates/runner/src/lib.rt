@@ -1,5 +1,5 @@
-// The runner: evaluation of a table on lent cells. `run` is the whole call; `steps` runs a node, `operators` has the rules for values. `cells`, below it, has
-// the 5-byte form and the tests 35 and 34.
+// The runner: evaluation of a table on lent cells. `run` is the whole call; `steps` runs a node. Below it stand `operators`, the rules for values, and
+// `cells`, the 5-byte form and the tests 35 and 34.
 ghost use mathlib.Core.Option.{none};
 ghost use mathlib.Core.Path.{_≡_};
 ghost use lib.ListN.{take};
@@ -8,22 +8,21 @@ ghost use Rattle.script.specs.Table.{tableTest};
 ghost use Rattle.script.specs.Tree.{root};
 ghost use Rattle.rules.specs.Evaluation.{eval};
 ghost use Rattle.rules.specs.Running.{valuesOf};
+ghost use Rattle.operators.specs.Steps.{Does};
 ghost use Rattle.runner.specs.Answered.{Answered};
-ghost use Rattle.runner.specs.Code.Steps.{Does};
 ghost use Rattle.runner.specs.Code.Whole.{Runnable};
 
-mod operators;
 mod steps;
 
 use cells::tests::right_cells;
 use cells::tests::right_values;
+use operators::Step;
+use operators::steps::whole;
 use script::Ran;
 use script::Refusal;
 use script::Script;
 use script::table::Tested;
-use steps::Step;
 use steps::run_node;
-use steps::whole;
 use tests::test_table;
 
 // Bytes of the environment: a script has at most as many variables as entries and nodes together.

@@ -4,83 +4,22 @@ ghost use Rattle.script.specs.Code.Forms.{formOf, nodeIn, treeIn};
 ghost use Rattle.rules.specs.Evaluation.{eval};
 ghost use Rattle.rules.specs.Running.{valuesOf};
 ghost use Rattle.rules.specs.Running.Laws.{InRange};
-ghost use Rattle.runner.specs.Code.Steps.{wholeOf, Variables, nextOn, boundOn, Bound, restOn, Ready, Halfway, Runs};
-use crate::operators::leaf;
-use crate::operators::one;
-use crate::operators::two;
+ghost use Rattle.operators.specs.Steps.{wholeOf, Variables, boundOn, Bound, restOn, Ready, Halfway, Runs};
 use cells::store;
+use operators::Next;
+use operators::Parts;
+use operators::Step;
+use operators::leaf;
+use operators::one;
+use operators::steps::apart;
+use operators::steps::next_operand;
+use operators::steps::whole;
+use operators::two;
 use script::Value;
-use script::table::IF;
 use script::table::LEAVES;
 use script::table::LET;
 use script::table::has_one;
 use script::table::node_at;
-
-// What a node comes to: a value and the used count, or the node of the error state and the used count.
-pub enum Step {
-    Gave(Value, u32),
-    Failed(u32, u32),
-}
-
-// A step with its value's number beside the others. This is how a step is handed up: a value inside it would be written in two pieces and read as one, and
-// a processor waits where these meet.
-pub enum Parts {
-    Word(u32, u32),
-    Truth(bool, u32),
-    Location(u32, u32),
-    Failed(u32, u32),
-}
-
-// A step taken apart.
-fn apart(step: Step) -> Parts
-    ensures { λ r. ⌜ wholeOf r ≡ step ⌝ }
-{
-    match step {
-        Step::Gave(v, used) => match v {
-            Value::Word(w) => Parts::Word(w, used),
-            Value::Truth(b) => Parts::Truth(b, used),
-            Value::Location(l) => Parts::Location(l, used),
-        },
-        Step::Failed(at, used) => Parts::Failed(at, used),
-    }
-}
-
-// The step that has these parts.
-pub fn whole(parts: Parts) -> Step
-    ensures { λ r. ⌜ r ≡ wholeOf parts ⌝ }
-{
-    match parts {
-        Parts::Word(w, used) => Step::Gave(Value::Word(w), used),
-        Parts::Truth(b, used) => Step::Gave(Value::Truth(b), used),
-        Parts::Location(l, used) => Step::Gave(Value::Location(l), used),
-        Parts::Failed(at, used) => Step::Failed(at, used),
-    }
-}
-
-// The operand of a node that comes after its first, or a condition that is no truth.
-pub enum Next {
-    Operand(u32),
-    Wrong,
-}
-
-// The operand of a node that comes after the first, which gave v: of an `if` the branch that is taken.
-fn next_operand(kind: u32, b: u32, c: u32, v: Value) -> Next
-    ensures { λ r. ⌜ r ≡ nextOn (formOf kind) v b c ⌝ }
-{
-    if kind == IF {
-        return match v {
-            Value::Word(_) => Next::Wrong,
-            Value::Truth(t) => {
-                if t {
-                    return Next::Operand(b);
-                }
-                Next::Operand(c)
-            }
-            Value::Location(_) => Next::Wrong,
-        };
-    }
-    Next::Operand(b)
-}
 
 // The environment of that operand: a `let` adds v. Answers how many variables it has.
 fn bind(environment: &mut [u8], depth: usize, kind: u32, v: Value) -> usize

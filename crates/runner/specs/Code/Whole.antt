@@ -22,11 +22,11 @@ use Rattle.rules.specs.Evaluation.{Outcome, gave, failed, eval}
 use Rattle.rules.specs.Running.{Run, valuesOf, allValid, usedLimit, lentLimit, rightCells, rightValues, finished, runTest, runTable}
 use Rattle.rules.specs.Running.Laws.{Bytes, bytes-values, length-values, values-in-range}
 use Rattle.rules.specs.Running.Room.{cells-fit, values-fit}
+use Rattle.operators.specs.Steps.{Holds, Does, Ready, Runs}
+use Rattle.operators.specs.Steps.Values.{holds-values}
+use Rattle.operators.specs.declared.Step.{Step}
+use Rattle.operators.specs.declared.Step.the-variants.{Gave, Failed}
 use Rattle.runner.specs.Answered.{Answered}
-use Rattle.runner.specs.Code.Steps.{Holds, Does, Ready, Runs}
-use Rattle.runner.specs.Code.Steps.Values.{holds-values}
-use Rattle.runner.specs.declared.steps.Step.{Step}
-use Rattle.runner.specs.declared.steps.Step.the-variants.{Gave, Failed}
 
 -- a table, values and cells that a run can take
 pub record Runnable (table : List ℕ) (nodes entries : ℕ) (values cells : List ℕ) (used : ℕ) : Type 0 where

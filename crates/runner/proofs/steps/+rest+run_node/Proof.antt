@@ -8,22 +8,22 @@ use mathlib.Core.Path.{sym, _∙_}
 use Prim.Native.Nat.{ℕ, _+_, _*_, _<_}
 use native.Mathlib.Omega.{arith}
 use Rattle.script.specs.Code.Forms.{has-one, has-more, some-operand}
-use Rattle.runner.specs.Code.Steps.Turns.{leaf-runs, first-earlier, ready-first, first-failed, first-ranged, one-ready, one-runs, half-ready, rest-runs, wrong-runs, bind-ready, next-earlier, next-ready, next-failed, two-ranged, two-ready, two-runs}
+use Rattle.script.proofs.table.has_one.Reads as has-one-reads
+use Rattle.script.proofs.table.node_at.Reads as node-at-reads
+use Rattle.operators.proofs.leaf.Reads as leaf-reads
+use Rattle.operators.proofs.one.Reads as one-reads
+use Rattle.operators.proofs.two.Reads as two-reads
+use Rattle.operators.proofs.steps.apart.Reads as apart-reads
+use Rattle.operators.proofs.steps.next_operand.Reads as next-operand-reads
+use Rattle.operators.proofs.steps.whole.Reads as whole-reads
+use Rattle.runner.specs.Code.Turns.{leaf-runs, first-earlier, ready-first, first-failed, first-ranged, one-ready, one-runs, half-ready, rest-runs, wrong-runs, bind-ready, next-earlier, next-ready, next-failed, two-ranged, two-ready, two-runs}
 use Rattle.runner.proofs.steps.rest.Reads as rest
 use Rattle.runner.proofs.steps.rest.Kinds as rest-kinds
 use Rattle.runner.proofs.steps.+rest+run_node.Lts-rest as rest-lts
 use Rattle.runner.proofs.steps.run_node.Reads as run-node
 use Rattle.runner.proofs.steps.run_node.Kinds as run-node-kinds
 use Rattle.runner.proofs.steps.+rest+run_node.Lts-run_node as run-node-lts
-use Rattle.script.proofs.table.has_one.Reads as has-one-reads
-use Rattle.runner.proofs.operators.leaf.Reads as leaf-reads
-use Rattle.runner.proofs.operators.one.Reads as one-reads
-use Rattle.runner.proofs.operators.two.Reads as two-reads
-use Rattle.runner.proofs.steps.apart.Reads as apart-reads
 use Rattle.runner.proofs.steps.bind.Reads as bind-reads
-use Rattle.runner.proofs.steps.next_operand.Reads as next-operand-reads
-use Rattle.runner.proofs.steps.whole.Reads as whole-reads
-use Rattle.script.proofs.table.node_at.Reads as node-at-reads
 use Rattle.runner.proofs.steps.+rest+run_node.{statement}
 use Rattle.runner.proofs.steps.+rest+run_node.Tie.{close}
 

@@ -2,8 +2,8 @@
 use borrow.Author.Needs.{needs}
 use Rattle.script.specs.Code.Forms.{formOf}
 use Rattle.script.specs.Rows.{rows, rowOf}
-use Rattle.runner.specs.Code.Steps.{boundOn}
-use Rattle.runner.specs.Code.Steps.Operators.{bound-next, bound-same, bound-other}
+use Rattle.operators.specs.Steps.{boundOn}
+use Rattle.operators.specs.Steps.Operators.{bound-next, bound-same, bound-other}
 use Rattle.runner.proofs.steps.bind.Statement.{statement}
 use Rattle.runner.proofs.steps.bind.Tie as tie
 

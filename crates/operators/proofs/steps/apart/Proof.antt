@@ -1,0 +1,19 @@
+-- `operators::steps::apart` meets its contract. Assumes nothing.
+use borrow.Author.Needs.{needs}
+use mathlib.Core.Path.{refl}
+use Rattle.operators.proofs.steps.apart.Statement.{statement}
+use Rattle.operators.proofs.steps.apart.Tie as tie
+
+pub apart-spec : {M : Type 1} → statement M
+apart-spec =
+    tie.close
+    (tie.spec
+    (λ c. search needs)
+    (λ c. search needs)
+    (λ c. search needs)
+    (λ c. search needs)
+    (λ c. search needs)
+    (λ c. rw (c .before .before .before .before .step .given .1, c .before .v .given .1) refl)
+    (λ c. rw (c .before .before .before .before .step .given .1, c .before .v2 .given .1) refl)
+    (λ c. rw (c .before .before .before .before .step .given .1, c .before .v3 .given .1) refl)
+    (λ c. rw (c .before .step2 .given .1) refl))
