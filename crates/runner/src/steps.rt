@@ -1,5 +1,4 @@
 // Evaluation by the table: each node runs its operands, whose numbers are smaller, and then its rule.
-ghost use mathlib.Core.Path.{_≡_};
 ghost use Rattle.script.specs.Code.Forms.{formOf, nodeIn, treeIn};
 ghost use Rattle.rules.specs.Evaluation.{eval};
 ghost use Rattle.rules.specs.Running.{valuesOf};
