@@ -7,8 +7,6 @@ ghost use Prim.Native.Nat.{_+_, _*_, _<_};
 ghost use lib.ListN.{length};
 
 pub mod atoms;
-mod sums;
-pub mod words;
 
 use script::Script;
 

@@ -17,9 +17,9 @@ use Rattle.terms.specs.Atoms.Laws.{references-length}
 use Rattle.terms.specs.Atoms.Made.{made-references}
 use Rattle.terms.specs.Terms.{countIn, Space, pushed, Distinct, Added, Made, MadeWord}
 use Rattle.terms.specs.Terms.Laws.{pushed-length, pushed-added, made-number, made-sum, made-constant, made-negation, made-conjunction, made-equality}
-use Rattle.terms.specs.Words.{Words, equalRow, equalLeft}
-use Rattle.terms.specs.Words.Laws.{equal-length, words-asked}
-use Rattle.terms.specs.Words.Made.{made-equal}
+use Rattle.words.specs.Words.{Words, equalRow, equalLeft}
+use Rattle.words.specs.Words.Laws.{equal-length, words-asked}
+use Rattle.words.specs.Words.Made.{made-equal}
 use Rattle.workspace.specs.Paths.Conditions.{ruled-refl}
 use Rattle.workspace.specs.Rules.{leafExec, oneExec, twoExec, Ruled, Leaf, One, Two, Operable}
 use Rattle.workspace.specs.State.{Means, wordRow, truthRow, madeSymbol, otherSymbol, PathIn, Room, Yields, ending, stopping}
