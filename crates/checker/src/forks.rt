@@ -1,10 +1,9 @@
 // Going back to a fork of a path: its numbers are set again, the variables are read back from the frames, and the false branch is next.
 ghost use Rattle.checker.specs.Code.Going.{Restorable, Restores, Resumable, Resumes};
-use crate::path::assume;
 use frames::forks::restore_one;
 use frames::forks::rewind;
+use frames::forks::without_guard;
 use script::table::node_at;
-use terms::EXCLUSION;
 use workspace::BASE;
 use workspace::DEPTH;
 use workspace::FRAME;
@@ -30,6 +29,6 @@ pub fn resume(table: &[u32], space: &mut [u32], frames: &mut [u32]) -> u32
     rewind(space, frames);
     restore(space, frames);
     let at = 4 * (frames[FRAME] as usize);
-    assume(space, EXCLUSION, frames[at + 3]);
+    without_guard(space, frames[at + 3]);
     node_at(table, frames[at] as usize).c
 }

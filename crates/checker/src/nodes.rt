@@ -22,6 +22,7 @@ use crate::steps::Move;
 use crate::steps::climb;
 use crate::steps::leaf_up;
 use frames::descend;
+use frames::forks::none_left;
 use log::consistent;
 use notes::note;
 use notes::recall;
@@ -40,7 +41,6 @@ use types::one_type;
 use types::right_type;
 use types::two_type;
 use workspace::DEPTH;
-use workspace::FORKED;
 use workspace::FRAMES;
 use workspace::Known;
 use workspace::SPACE;
@@ -72,7 +72,7 @@ fn path_end(
     if !right_type(t, first, wanted) {
         return Walked::Wrong(Refusal::PathTypesDiffer(n));
     }
-    if frames[FORKED] == 0 {
+    if none_left(frames) {
         return Walked::Last(t);
     }
     Walked::More(t, resume(table, space, frames))

@@ -1,18 +1,17 @@
-// A path's own numbers: fresh symbols, the condition, the decision at an `if`, the start. A reference's place is twice its symbol, and one more if `ref` made
+// A path's own numbers: fresh symbols, the decision at an `if`, the start. A reference's place is twice its symbol, and one more if `ref` made
 // it on this path.
-ghost use mathlib.Core.Path.{_≡_};
 ghost use Prim.Native.Nat.{suc, _*_, _<_, _≤_};
 ghost use lib.ListN.{length};
-ghost use Rattle.terms.specs.Terms.{Space, symbolLimit};
-ghost use Rattle.workspace.specs.Paths.{Fresh, assumed, Blank, Starting};
+ghost use Rattle.terms.specs.Terms.{symbolLimit};
+ghost use Rattle.workspace.specs.Paths.{Fresh, Blank, Starting};
 ghost use Rattle.workspace.specs.Rules.{Decidable, Chooses, Started};
-ghost use Rattle.workspace.specs.State.{spaceSize, typesOn, Room};
+ghost use Rattle.workspace.specs.State.{typesOn, Room};
 use decision::decide;
+use frames::forks::with_guard;
+use frames::forks::without_guard;
 use rows::Decision;
 use script::Refusal;
-use terms::CONJUNCTION;
 use terms::CONSTANT;
-use terms::EXCLUSION;
 use terms::SYMBOL;
 use terms::TRUTH;
 use terms::atoms::symbols_atom;
@@ -38,17 +37,6 @@ pub fn fresh(space: &mut [u32], t: u32) -> u32
     }
 }
 
-// The condition becomes a row of it and the guard: their conjunction, or the condition without the guard.
-pub fn assume(space: &mut [u32], op: u32, guard: u32)
-    requires { ⌜ Space (now space) 1 ⌝ }
-    requires { ⌜ spaceSize ≤ length (now space) ⌝ }
-    ensures { λ r. ⌜ now (space .exit) ≡ assumed (now (space .entry)) op guard ⌝ }
-{
-    let condition = space[CONDITION];
-    let row = push(space, op, condition, guard);
-    space[CONDITION] = row;
-}
-
 // The decision at an `if` whose condition has type t and place p.
 pub fn choose(space: &mut [u32], t: u32, p: u32, n: u32) -> Branch
     requires { ⌜ Decidable (now space) t p ⌝ }
@@ -62,11 +50,11 @@ pub fn choose(space: &mut [u32], t: u32, p: u32, n: u32) -> Branch
         Decision::TooMany => Branch::Neither(Refusal::TooManyAtoms(n)),
         Decision::Both => Branch::Both,
         Decision::OnlyTrue => {
-            assume(space, CONJUNCTION, p);
+            with_guard(space, p);
             Branch::First
         }
         Decision::OnlyFalse => {
-            assume(space, EXCLUSION, p);
+            without_guard(space, p);
             Branch::Second
         }
     }

@@ -11,9 +11,9 @@ ghost use Rattle.checker.specs.Code.Going.{boundTo, unbound, movedBy, Br
 use crate::operators::leaf;
 use crate::operators::one;
 use crate::operators::two;
-use crate::path::assume;
 use crate::path::choose;
 use frames::forks::fork;
+use frames::forks::with_guard;
 use frames::leave;
 use frames::wait;
 use known::forget;
@@ -22,7 +22,6 @@ use script::table::IF;
 use script::table::LET;
 use script::table::has_one;
 use script::table::node_at;
-use terms::CONJUNCTION;
 use workspace::Branch;
 use workspace::DEPTH;
 use workspace::FOR_BODY;
@@ -67,7 +66,7 @@ fn branch(space: &mut [u32], frames: &mut [u32], b: u32, c: u32, t: u32, p: u32,
         Branch::Both => {
             fork(space, frames);
             forget(space, KNOWN);
-            assume(space, CONJUNCTION, p);
+            with_guard(space, p);
             Move::Operand(b)
         }
     }

@@ -1,10 +1,17 @@
-// The forks of a path: what is kept where both branches of an `if` can be taken, and what is set again there. A fork has the frame of the `if` and the
-// path's own numbers, seven below 256 in two.
+// The forks of a path: what is kept where both branches of an `if` can be taken, what is set again there, and the condition on each branch. A fork has the
+// frame of the `if` and the path's own numbers, seven below 256 in two.
+ghost use mathlib.Core.Path.{_≡_};
 ghost use Prim.Native.Nat.{_+_, _*_, _-_, _≤_, _<_};
+ghost use lib.Dec.{eqb};
 ghost use lib.ListN.{length};
+ghost use Rattle.terms.specs.Terms.{Space};
 ghost use Rattle.workspace.specs.Forks.{forkedIn, framesSize, Forkable, Forks, Rewound, RestoredOne};
+ghost use Rattle.workspace.specs.Paths.{assumed};
 ghost use Rattle.workspace.specs.State.{spaceSize};
+use terms::CONJUNCTION;
 use terms::COUNT;
+use terms::EXCLUSION;
+use terms::push;
 use workspace::CONDITION;
 use workspace::DEPTH;
 use workspace::FOR_BODY;
@@ -69,4 +76,41 @@ pub fn restore_one(space: &mut [u32], frames: &[u32], f: usize, d: usize) -> usi
         return d - 1;
     }
     d
+}
+
+// Whether no fork is left.
+pub fn none_left(frames: &[u32]) -> bool
+    requires { ⌜ framesSize ≤ length (now frames) ⌝ }
+    ensures { λ r. ⌜ r ≡ eqb (forkedIn (now (frames .entry))) 0 ⌝ }
+{
+    frames[FORKED] == 0
+}
+
+// The condition becomes a row of it and the guard.
+fn assume(space: &mut [u32], op: u32, guard: u32)
+    requires { ⌜ Space (now space) 1 ⌝ }
+    requires { ⌜ spaceSize ≤ length (now space) ⌝ }
+    ensures { λ r. ⌜ now (space .exit) ≡ assumed (now (space .entry)) op guard ⌝ }
+{
+    let condition = space[CONDITION];
+    let row = push(space, op, condition, guard);
+    space[CONDITION] = row;
+}
+
+// The condition where the guard holds: their conjunction.
+pub fn with_guard(space: &mut [u32], guard: u32)
+    requires { ⌜ Space (now space) 1 ⌝ }
+    requires { ⌜ spaceSize ≤ length (now space) ⌝ }
+    ensures { λ r. ⌜ now (space .exit) ≡ assumed (now (space .entry)) 5 guard ⌝ }
+{
+    assume(space, CONJUNCTION, guard);
+}
+
+// The condition where it does not: the condition without the guard.
+pub fn without_guard(space: &mut [u32], guard: u32)
+    requires { ⌜ Space (now space) 1 ⌝ }
+    requires { ⌜ spaceSize ≤ length (now space) ⌝ }
+    ensures { λ r. ⌜ now (space .exit) ≡ assumed (now (space .entry)) 7 guard ⌝ }
+{
+    assume(space, EXCLUSION, guard);
 }

@@ -23,23 +23,23 @@ mul-at c =
     let i = rewound-restorable (c .before .before .before .before .before .before .before .before .before .before .before .before .before .before .before .before .pre) (c .before .before .before .before .before .before .before .before .before .before .rewind .ensures) in
     omega (arith, i .inside, i .framed)
 
-add-assume : tie.Need-add-assume
-add-assume c =
+add-without-guard : tie.Need-add-without-guard
+add-without-guard c =
     let i = rewound-restorable (c .before .before .before .before .before .before .before .before .before .before .before .before .before .before .before .before .before .pre) (c .before .before .before .before .before .before .before .before .before .before .before .rewind .ensures) in
     omega (arith, i .inside, i .framed)
 
-mul-assume : tie.Need-mul-assume
-mul-assume c =
+mul-without-guard : tie.Need-mul-without-guard
+mul-without-guard c =
     let i = rewound-restorable (c .before .before .before .before .before .before .before .before .before .before .before .before .before .before .before .before .before .pre) (c .before .before .before .before .before .before .before .before .before .before .before .rewind .ensures) in
     omega (arith, i .inside, i .framed)
 
-slice-read-assume : tie.Need-slice-read-assume
-slice-read-assume c =
+slice-read-without-guard : tie.Need-slice-read-without-guard
+slice-read-without-guard c =
     let i = rewound-restorable (c .before .before .before .before .before .before .before .before .before .before .before .before .before .before .before .before .before .before .pre) (c .before .before .before .before .before .before .before .before .before .before .before .before .rewind .ensures) in
     omega (arith, i .inside, i .framed)
 
-assume-requires : tie.Need-assume-requires
-assume-requires c κs = (guard-space (c .before .before .before .before .before .before .before .before .before .before .before .before .before .before .before .before .before .before .pre) (c .before .before .before .before .before .before .before .before .before .before .before .before .rewind .ensures) (c .before .before .before .before .before .restore .ensures), guard-lent (c .before .before .before .before .before .before .before .before .before .before .before .before .before .before .before .before .before .before .pre) (c .before .before .before .before .before .before .before .before .before .before .before .before .rewind .ensures) (c .before .before .before .before .before .restore .ensures))
+without-guard-requires : tie.Need-without-guard-requires
+without-guard-requires c κs = (guard-space (c .before .before .before .before .before .before .before .before .before .before .before .before .before .before .before .before .before .before .pre) (c .before .before .before .before .before .before .before .before .before .before .before .before .rewind .ensures) (c .before .before .before .before .before .restore .ensures), guard-lent (c .before .before .before .before .before .before .before .before .before .before .before .before .before .before .before .before .before .before .pre) (c .before .before .before .before .before .before .before .before .before .before .before .before .rewind .ensures) (c .before .before .before .before .before .restore .ensures))
 
 mul-node-at : tie.Need-mul-node-at
 mul-node-at c =
@@ -58,7 +58,7 @@ node-at-requires : tie.Need-node-at-requires
 node-at-requires c κs = branch-node (c .before .before .before .before .before .before .before .before .before .before .before .before .before .before .before .before .before .before .before .before .before .before .pre) (c .before .before .before .before .before .before .before .before .before .before .before .before .before .before .before .before .rewind .ensures) (c .before .before .before .before .before .before .before .before .before .restore .ensures)
 
 returns : tie.Need-returns
-returns c = rw (c .node-at .ensures) (resumed (c .before .before .before .before .before .before .before .before .before .before .before .before .before .before .before .before .before .before .before .before .before .before .before .pre) (c .before .before .before .before .before .before .before .before .before .before .before .before .before .before .before .before .before .rewind .ensures) (c .before .before .before .before .before .before .before .before .before .before .restore .ensures) (c .before .before .before .before .assume .ensures))
+returns c = rw (c .node-at .ensures) (resumed (c .before .before .before .before .before .before .before .before .before .before .before .before .before .before .before .before .before .before .before .before .before .before .before .pre) (c .before .before .before .before .before .before .before .before .before .before .before .before .before .before .before .before .before .rewind .ensures) (c .before .before .before .before .before .before .before .before .before .before .restore .ensures) (c .before .before .before .before .without-guard .ensures))
 
 pub resume-spec : {M : Type 1} → statement M
 resume-spec =
@@ -69,10 +69,10 @@ resume-spec =
     (λ c. search needs)
     cast-at
     mul-at
-    add-assume
-    mul-assume
-    slice-read-assume
-    assume-requires
+    add-without-guard
+    mul-without-guard
+    slice-read-without-guard
+    without-guard-requires
     mul-node-at
     slice-read-node-at
     cast-node-at

@@ -1,5 +1,7 @@
 -- `checker::nodes::path_end` meets its contract: the log, the type, and the path after it. Assumes nothing.
 use borrow.Author.Needs.{needs}
+use borrow.Author.Tests.{eqb-true, eqb-false}
+use mathlib.Core.Path.{sym, _∙_}
 use Rattle.checker.specs.Code.Going.Ends.{path-inconsistent, path-other, path-last, path-more, path-resumable}
 use Rattle.checker.proofs.nodes.path_end.Statement.{statement}
 use Rattle.checker.proofs.nodes.path_end.Tie as tie
@@ -11,13 +13,16 @@ returns-2 : tie.Need-returns-2
 returns-2 c = path-other (c .before .before .before .before .before .before .before .before .pre) (c .before .before .before .consistent .ensures) (c .before .before .if1 .left) (c .before .right-type .ensures) (c .if2 .taken)
 
 returns-3 : tie.Need-returns-3
-returns-3 c = path-last (c .before .before .before .before .before .before .before .before .before .before .pre) (c .before .before .before .before .before .consistent .ensures) (c .before .before .before .before .if1 .left) (c .before .before .before .right-type .ensures) (c .before .before .if2 .left) (c .if3 .taken)
+returns-3 c = path-last (c .before .before .before .before .before .before .before .before .before .before .before .pre) (c .before .before .before .before .before .before .consistent .ensures) (c .before .before .before .before .before .if1 .left) (c .before .before .before .before .right-type .ensures) (c .before .before .before .if2 .left) (eqb-true _ 0 (sym (c .before .none-left .ensures) ∙ c .if3 .taken))
+
+none-left-requires : tie.Need-none-left-requires
+none-left-requires c κs = c .before .before .before .before .before .before .before .before .before .pre .returnable .returning .stands .framed
 
 resume-requires : tie.Need-resume-requires
-resume-requires c κs = path-resumable (c .before .before .before .before .before .before .before .before .before .before .before .before .pre) (c .before .before .if3 .left)
+resume-requires c κs = path-resumable (c .before .before .before .before .before .before .before .before .before .before .before .before .before .pre) (eqb-false _ 0 (sym (c .before .before .before .none-left .ensures) ∙ c .before .before .if3 .left))
 
 returns-4 : tie.Need-returns-4
-returns-4 c = path-more (c .before .before .before .before .before .before .before .before .before .before .before .before .before .before .before .before .before .pre) (c .before .before .before .before .before .before .before .before .before .before .before .before .consistent .ensures) (c .before .before .before .before .before .before .before .before .before .before .before .if1 .left) (c .before .before .before .before .before .before .before .before .before .before .right-type .ensures) (c .before .before .before .before .before .before .before .before .before .if2 .left) (c .before .before .before .before .resume .ensures)
+returns-4 c = path-more (c .before .before .before .before .before .before .before .before .before .before .before .before .before .before .before .before .before .before .pre) (c .before .before .before .before .before .before .before .before .before .before .before .before .before .consistent .ensures) (c .before .before .before .before .before .before .before .before .before .before .before .before .if1 .left) (c .before .before .before .before .before .before .before .before .before .before .before .right-type .ensures) (c .before .before .before .before .before .before .before .before .before .before .if2 .left) (c .before .before .before .before .resume .ensures)
 
 pub path-end-spec : {M : Type 1} → statement M
 path-end-spec =
@@ -29,6 +34,7 @@ path-end-spec =
     (λ c κs. search needs)
     (λ c. search needs)
     returns-2
+    none-left-requires
     (λ c. search needs)
     (λ c. search needs)
     returns-3

@@ -10,11 +10,11 @@ returns c = let a = c .before .before .args in chooses-no-truth (a .n) (a .t) (a
 decide-requires : tie.Need-decide-requires
 decide-requires c κs = decide-needs (c .before .before .before .before .args .space .now) (c .before .before .before .before .args .t) (c .before .before .before .before .args .p) (c .before .before .if1 .left) (c .before .before .before .before .pre)
 
-assume-requires : tie.Need-assume-requires
-assume-requires c κs = let d = c .before .before .before .before .before .decide .ensures in let r = c .before .before .before .before .before .before .before .before .before .before .pre .room in (decided-space r d, decided-lent r d)
+with-guard-requires : tie.Need-with-guard-requires
+with-guard-requires c κs = let d = c .before .before .before .before .before .decide .ensures in let r = c .before .before .before .before .before .before .before .before .before .before .pre .room in (decided-space r d, decided-lent r d)
 
-assume-requires-2 : tie.Need-assume-requires-2
-assume-requires-2 c κs = let d = c .before .before .before .before .before .decide .ensures in let r = c .before .before .before .before .before .before .before .before .before .before .pre .room in (decided-space r d, decided-lent r d)
+without-guard-requires : tie.Need-without-guard-requires
+without-guard-requires c κs = let d = c .before .before .before .before .before .decide .ensures in let r = c .before .before .before .before .before .before .before .before .before .before .pre .room in (decided-space r d, decided-lent r d)
 
 returns-2 : tie.Need-returns-2
 returns-2 c = chooses-many (c .before .before .before .before .before .before .before .before .before .pre .room) (c .before .before .before .before .decide .ensures) (c .before .before .before .before .before .before .before .before .before .args .n) (c .before .before .before .before .before .before .before .before .before .args .t) (c .before .before .before .before .before .before .before .if1 .left) (c .enum-told .given .1)
@@ -23,10 +23,10 @@ returns-3 : tie.Need-returns-3
 returns-3 c = chooses-both (c .before .before .before .before .before .before .before .before .before .pre .room) (c .before .before .before .before .decide .ensures) (c .before .before .before .before .before .before .before .before .before .args .n) (c .before .before .before .before .before .before .before .before .before .args .t) (c .before .before .before .before .before .before .before .if1 .left) (c .enum-told2 .given .1)
 
 returns-4 : tie.Need-returns-4
-returns-4 c = chooses-as (c .before .before .assume .ensures) (chooses-true (c .before .before .before .before .before .before .before .before .before .before .before .before .before .pre .room) (c .before .before .before .before .before .before .before .before .decide .ensures) (c .before .before .before .before .before .before .before .before .before .before .before .before .before .args .n) (c .before .before .before .before .before .before .before .before .before .before .before .before .before .args .t) (c .before .before .before .before .before .before .before .before .before .before .before .if1 .left) (c .before .before .before .before .enum-told3 .given .1))
+returns-4 c = chooses-as (c .before .before .with-guard .ensures) (chooses-true (c .before .before .before .before .before .before .before .before .before .before .before .before .before .pre .room) (c .before .before .before .before .before .before .before .before .decide .ensures) (c .before .before .before .before .before .before .before .before .before .before .before .before .before .args .n) (c .before .before .before .before .before .before .before .before .before .before .before .before .before .args .t) (c .before .before .before .before .before .before .before .before .before .before .before .if1 .left) (c .before .before .before .before .enum-told3 .given .1))
 
 returns-5 : tie.Need-returns-5
-returns-5 c = chooses-as (c .before .before .assume2 .ensures) (chooses-false (c .before .before .before .before .before .before .before .before .before .before .before .before .before .pre .room) (c .before .before .before .before .before .before .before .before .decide .ensures) (c .before .before .before .before .before .before .before .before .before .before .before .before .before .args .n) (c .before .before .before .before .before .before .before .before .before .before .before .before .before .args .t) (c .before .before .before .before .before .before .before .before .before .before .before .if1 .left) (c .before .before .before .before .enum-told4 .given .1))
+returns-5 c = chooses-as (c .before .before .without-guard .ensures) (chooses-false (c .before .before .before .before .before .before .before .before .before .before .before .before .before .pre .room) (c .before .before .before .before .before .before .before .before .decide .ensures) (c .before .before .before .before .before .before .before .before .before .before .before .before .before .args .n) (c .before .before .before .before .before .before .before .before .before .before .before .before .before .args .t) (c .before .before .before .before .before .before .before .before .before .before .before .if1 .left) (c .before .before .before .before .enum-told4 .given .1))
 
 pub choose-spec : {M : Type 1} → statement M
 choose-spec =
@@ -38,9 +38,9 @@ choose-spec =
     (λ c. search needs)
     (λ c. search needs)
     (λ c. search needs)
-    assume-requires
+    with-guard-requires
     (λ c. search needs)
-    assume-requires-2
+    without-guard-requires
     (λ c. search needs)
     returns-2
     (λ c. search needs)

@@ -17,8 +17,8 @@ forget-requires c κs =
     let l = both-lent (p .0) (c .before .before .before .before .before .before .enum-told3 .given .1) (c .before .before .before .before .before .before .before .before .before .before .choose .ensures) in
     omega (arith, l)
 
-assume-requires : tie.Need-assume-requires
-assume-requires c κs =
+with-guard-requires : tie.Need-with-guard-requires
+with-guard-requires c κs =
     let p = c .before .before .before .before .before .before .before .before .before .before .before .before .before .before .before .before .before .before .before .before .before .before .pre in
     rw (c .before .before .before .forget .ensures) (stored-space (p .0) (c .before .before .before .before .before .before .before .before .before .before .enum-told3 .given .1) (c .before .before .before .before .before .before .before .before .before .before .before .before .before .before .choose .ensures) 0, stored-lent (p .0) (c .before .before .before .before .before .before .before .before .before .before .enum-told3 .given .1) (c .before .before .before .before .before .before .before .before .before .before .before .before .before .before .choose .ensures) 0)
 
@@ -32,10 +32,10 @@ returns-3 : tie.Need-returns-3
 returns-3 c = branched-none (c .before .before .before .before .before .before .before .before .before .wait .ensures) (c .before .before .before .before .before .choose .ensures) (c .before .why .given .1)
 
 same-length-7 : tie.Need-same-length-7
-same-length-7 c = c .before .before .assume .kept .0 ∙ c .before .before .before .before .before .before .forget .kept .0 ∙ c .before .before .before .before .before .before .before .before .before .before .before .before .before .before .before .before .before .choose .kept .0
+same-length-7 c = c .before .before .with-guard .kept .0 ∙ c .before .before .before .before .before .before .forget .kept .0 ∙ c .before .before .before .before .before .before .before .before .before .before .before .before .before .before .before .before .before .choose .kept .0
 
 returns-4 : tie.Need-returns-4
-returns-4 c = branched-both (c .before .before .before .before .before .before .before .before .before .before .before .before .before .before .before .before .before .before .before .before .before .wait .ensures) (c .before .before .before .before .before .before .before .before .before .before .before .before .before .before .before .before .before .choose .ensures) (c .before .before .before .before .before .before .before .before .before .before .before .before .before .enum-told3 .given .1) (c .before .before .before .before .before .before .before .before .before .before .fork .ensures) (rw (c .before .before .before .before .before .before .forget .ensures) at (c .before .before .assume .ensures))
+returns-4 c = branched-both (c .before .before .before .before .before .before .before .before .before .before .before .before .before .before .before .before .before .before .before .before .before .wait .ensures) (c .before .before .before .before .before .before .before .before .before .before .before .before .before .before .before .before .before .choose .ensures) (c .before .before .before .before .before .before .before .before .before .before .before .before .before .enum-told3 .given .1) (c .before .before .before .before .before .before .before .before .before .before .fork .ensures) (rw (c .before .before .before .before .before .before .forget .ensures) at (c .before .before .with-guard .ensures))
 
 pub branch-spec : {M : Type 1} → statement M
 branch-spec =
@@ -49,7 +49,7 @@ branch-spec =
     (λ c. search needs)
     fork-requires
     forget-requires
-    assume-requires
+    with-guard-requires
     (λ c. search needs)
     (λ c. search needs)
     returns

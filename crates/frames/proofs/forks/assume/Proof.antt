@@ -1,8 +1,8 @@
--- `checker::path::assume` meets its contract. Assumes nothing.
+-- `frames::forks::assume` meets its contract: a row more, which is the condition. Assumes nothing.
 use borrow.Author.Needs.{needs}
 use mathlib.Core.Path.{refl}
-use Rattle.checker.proofs.path.assume.Statement.{statement}
-use Rattle.checker.proofs.path.assume.Tie as tie
+use Rattle.frames.proofs.forks.assume.Statement.{statement}
+use Rattle.frames.proofs.forks.assume.Tie as tie
 
 returns : tie.Need-returns
 returns c = let p = c .before .before .push in rw (p .ensures .1, p .ensures .0) refl
