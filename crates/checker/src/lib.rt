@@ -1,5 +1,5 @@
-// The checker: the typed rules and the symbolic rules over a table. `check` is the whole call; `nodes` checks and executes nodes, `operators` has the symbolic
-// rules, `path` a path's own numbers, `steps` the way of a value up, `forks` the way back to a fork. Below it stand `types`, `log`, `notes` and `frames`,
+// The checker: the typed rules and the symbolic rules over a table. `check` is the whole call; `nodes` checks and executes nodes, `path` has a path's own
+// numbers, `steps` the way of a value up, `forks` the way back to a fork. Below it stand the rules, `types` and `symbolic`, and `log`, `notes` and `frames`,
 // over one `workspace`.
 ghost use mathlib.Core.Option.{none};
 ghost use mathlib.Core.Path.{_≡_};
@@ -12,7 +12,6 @@ ghost use Rattle.checker.specs.Code.Whole.{Placed};
 
 mod forks;
 mod nodes;
-mod operators;
 mod path;
 mod steps;
 

@@ -1,41 +1,23 @@
-// A path's own numbers: fresh symbols, the decision at an `if`, the start. A reference's place is twice its symbol, and one more if `ref` made
-// it on this path.
+// A path's own numbers: the decision at an `if`, the start.
 ghost use Prim.Native.Nat.{suc, _*_, _<_, _≤_};
 ghost use lib.ListN.{length};
 ghost use Rattle.terms.specs.Terms.{symbolLimit};
-ghost use Rattle.workspace.specs.Paths.{Fresh, Blank, Starting};
+ghost use Rattle.workspace.specs.Paths.{Blank, Starting};
 ghost use Rattle.workspace.specs.Rules.{Decidable, Chooses, Started};
-ghost use Rattle.workspace.specs.State.{typesOn, Room};
+ghost use Rattle.workspace.specs.State.{typesOn};
 use decision::decide;
 use frames::forks::with_guard;
 use frames::forks::without_guard;
 use rows::Decision;
 use script::Refusal;
+use symbolic::fresh;
 use terms::CONSTANT;
-use terms::SYMBOL;
-use terms::TRUTH;
-use terms::atoms::symbols_atom;
 use terms::push;
 use workspace::BASE;
 use workspace::Branch;
 use workspace::CONDITION;
 use workspace::DEPTH;
 use workspace::KNOWN;
-use workspace::NEXT;
-
-// A fresh symbol of type t: its place.
-pub fn fresh(space: &mut [u32], t: u32) -> u32
-    requires { ⌜ Room (now space) 1 ⌝ }
-    ensures { λ r. ⌜ Fresh t (now (space .entry)) r (now (space .exit)) ⌝ }
-{
-    let s = space[NEXT];
-    space[NEXT] = s + 1;
-    match t {
-        0 => push(space, SYMBOL, s, 0),
-        1 => symbols_atom(space, TRUTH, s, s),
-        _ => 2 * s,
-    }
-}
 
 // The decision at an `if` whose condition has type t and place p.
 pub fn choose(space: &mut [u32], t: u32, p: u32, n: u32) -> Branch

@@ -19,7 +19,7 @@ use trial::text_end;
 fn try_text(text: &[u8]) {
     let mut table = [0u32; 4 * Script::NODES];
     let mut entries = [0u32; Script::ENTRIES];
-    match calls::read(text, &mut table, &mut entries) {
+    match call_texts::read(text, &mut table, &mut entries) {
         Reading::Read(script) => {
             let nodes = script.nodes;
             let count = script.entries;

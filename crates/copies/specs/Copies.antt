@@ -1,13 +1,18 @@
--- What the copying functions leave: a table of records in flat form, and a flat table in records. Assumes nothing.
+-- The table of a call over records, and what the copying functions leave: a table of records in flat form, and a flat table in records. Assumes nothing.
 use mathlib.Core.List.{List, _++_}
 use mathlib.Core.Path.{_≡_}
 use Prim.Native.Nat.{ℕ, _*_, _/_, min}
 use lib.ListN.{length, take, drop}
 use Rattle.script.specs.Flat.{flat, nodesIn}
-use Rattle.script.specs.Table.{unused}
+use Rattle.script.specs.Table.{Table, unused}
 use Rattle.script.specs.declared.Node.{Node}
 use Rattle.text.specs.Reading.{filled}
+pub mod Alike
 pub mod Laws
+
+-- a slice of records is the list of nodes of the definitions; with it go the lent entries, and how many of both are used
+abbrev pub tableOf : List Node → ℕ → List ℕ → ℕ → Table
+tableOf ns nodes es entries = record { lentNodes = ns; nodeCount = nodes; lentEntries = es; entryCount = entries }
 
 -- the numbers xs with the first n nodes in front
 abbrev pub copied : List Node → ℕ → List ℕ → List ℕ

@@ -1,2 +1,2 @@
--- What the contracts of the copying functions say, and the laws of the calls.
+-- The laws of the calls.
 pub mod Whole

@@ -1,24 +1,16 @@
-// The calls over a lent table of records: checking, running, writing and reading. Each copies the table to flat form, or from it, and ends in the call over
-// a table in flat form, which makes every refusal.
+// Checking and running over a lent table of records. Each copies the table to flat form and ends in the call over a table in flat form, which makes every
+// refusal.
 ghost use mathlib.Core.Path.{_≡_};
 ghost use Prim.Native.Nat.{_*_, _≤_};
 ghost use lib.ListN.{length, take};
 ghost use Rattle.script.specs.Flat.{tableIn};
-ghost use Rattle.script.specs.Limits.{nodeLimit};
-ghost use Rattle.copies.specs.Copies.{places};
-ghost use Rattle.records.specs.Records.{tableOf, Checks, Runs, Writes, Reads};
-use copies::copy_in;
+ghost use Rattle.copies.specs.Copies.{tableOf};
+ghost use Rattle.records.specs.Records.{Checks, Runs};
 use copies::copy_out;
-use copies::lesser;
 use script::Checked;
 use script::Node;
 use script::Ran;
-use script::Reading;
 use script::Script;
-use script::Writing;
-
-// Numbers of the largest script in flat form.
-const FLAT: usize = 4 * Script::NODES;
 
 // Checks a flat table of which the first `lent` nodes are lent.
 fn check_flat(
@@ -59,35 +51,11 @@ fn run_flat(
     )
 }
 
-// Writes a flat table of which the first `lent` nodes are lent.
-fn write_flat(
-    flat: &[u32],
-    lent: usize,
-    nodes: usize,
-    entries: &[u32],
-    entry_count: usize,
-    out: &mut [u8],
-) -> Writing
-    requires { ⌜ 4 * lent ≤ length (now flat) ⌝ }
-    ensures { λ r. ⌜ Writes (tableIn (take (4 * lent) (now (flat .entry))) nodes (now (entries .entry)) «entry_count») (now (out .entry)) r (now (out .exit)) ⌝ }
-{
-    writer::write(&flat[..4 * lent], nodes, entries, entry_count, out)
-}
-
-// Reads a text for `lent` places into a flat table, which has the nodes that a script can have.
-fn read_flat(text: &[u8], lent: usize, flat: &mut [u32], entries: &mut [u32]) -> Reading
-    requires { ⌜ length (now flat) ≡ 4 * nodeLimit ⌝ }
-    ensures { λ r. ⌜ Reads (now (text .entry)) lent (length (now (entries .entry))) r (places lent (now (flat .exit))) (now (entries .exit)) ⌝ }
-{
-    let n = lesser(lent, Script::NODES);
-    reader::read(text, &mut flat[..4 * n], entries)
-}
-
 // Checks a table: accepted with its type, or why not. Nothing lent changes.
 pub fn check(table: &[Node], nodes: usize, entries: &[u32], entry_count: usize) -> Checked
     ensures { λ r. ⌜ Checks (tableOf (now (table .entry)) nodes (now (entries .entry)) «entry_count») r ⌝ }
 {
-    let mut flat = [0u32; FLAT];
+    let mut flat = [0u32; 4 * Script::NODES];
     let lent = copy_out(table, &mut flat);
     check_flat(&flat, lent, nodes, entries, entry_count)
 }
@@ -105,7 +73,7 @@ pub fn run(
 ) -> Ran
     ensures { λ r. ⌜ Runs (tableOf (now (table .entry)) nodes (now (entries .entry)) «entry_count») (now (values .entry)) (now (cells .entry)) used r (now (cells .exit)) ⌝ }
 {
-    let mut flat = [0u32; FLAT];
+    let mut flat = [0u32; 4 * Script::NODES];
     let lent = copy_out(table, &mut flat);
     run_flat(
         &flat,
@@ -117,29 +85,4 @@ pub fn run(
         cells,
         used,
     )
-}
-
-// Writes the text of a table into lent bytes. A refusal changes nothing lent.
-pub fn write(
-    table: &[Node],
-    nodes: usize,
-    entries: &[u32],
-    entry_count: usize,
-    out: &mut [u8],
-) -> Writing
-    ensures { λ r. ⌜ Writes (tableOf (now (table .entry)) nodes (now (entries .entry)) «entry_count») (now (out .entry)) r (now (out .exit)) ⌝ }
-{
-    let mut flat = [0u32; FLAT];
-    let lent = copy_out(table, &mut flat);
-    write_flat(&flat, lent, nodes, entries, entry_count, out)
-}
-
-// Reads a text into a lent table and a lent list of entries. Places that the script does not use, and all of them after a refusal, hold `false` and 0.
-pub fn read(text: &[u8], table: &mut [Node], entries: &mut [u32]) -> Reading
-    ensures { λ r. ⌜ Reads (now (text .entry)) (length (now (table .entry))) (length (now (entries .entry))) r (now (table .exit)) (now (entries .exit)) ⌝ }
-{
-    let mut flat = [0u32; FLAT];
-    let answer = read_flat(text, table.len(), &mut flat, entries);
-    copy_in(table, &flat);
-    answer
 }

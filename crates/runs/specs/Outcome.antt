@@ -7,7 +7,7 @@ use Rattle.script.specs.declared.Reading.the-variants.{Read, Refused}
 use Rattle.rules.specs.Running.{runTable}
 use Rattle.text.specs.Reading.{reading}
 use Rattle.copies.specs.Copies.{copied}
-use Rattle.calls.specs.Tables.{placeCount, tableAs}
+use Rattle.call_texts.specs.Tables.{placeCount, tableAs}
 
 -- what a run of the table that was read leaves; as they were, if none was
 abbrev pub cellsBy : Reading → List ℕ → List ℕ → List ℕ → List ℕ → ℕ → List ℕ

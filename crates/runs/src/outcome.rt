@@ -3,7 +3,7 @@ ghost use mathlib.Core.Path.{_≡_};
 ghost use Prim.Native.Nat.{_+_, _*_, _≤_, _<_};
 ghost use lib.ListN.{length};
 ghost use Rattle.rules.specs.Running.{runTable};
-ghost use Rattle.calls.specs.Tables.{tableAs};
+ghost use Rattle.call_texts.specs.Tables.{tableAs};
 ghost use Rattle.runs.specs.Outcome.{cellsAfter};
 use script::Ran;
 use script::Reading;
@@ -116,7 +116,7 @@ pub fn try_text(text: &[u8], values: &[u8], before: &[u8], cells: &mut [u8], use
 {
     let mut table = [0u32; 512];
     let mut entries = [0u32; 16];
-    match calls::read(text, &mut table, &mut entries) {
+    match call_texts::read(text, &mut table, &mut entries) {
         Reading::Read(script) => {
             let nodes = script.nodes;
             let count = script.entries;

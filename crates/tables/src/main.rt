@@ -47,7 +47,7 @@ fn try_table(table: &[u32], nodes: usize, entries: &[u32], used: usize) {
     let mut out = [0u8; 2288];
     say_checked(calls::check(table, nodes, entries, used));
     say(b"\t");
-    match calls::write(table, nodes, entries, used, &mut out) {
+    match call_texts::write(table, nodes, entries, used, &mut out) {
         Writing::Wrote(length) => {
             say(b"wrote");
             say_number(length as u64);

@@ -11,7 +11,7 @@ use Rattle.trial.specs.declared.Header.{Header}
 use Rattle.trial.specs.declared.Header.the-variants as header
 use Rattle.trial.specs.Numbers.{headerAt}
 use Rattle.trial.specs.Places.{nameEnd}
-use Rattle.calls.specs.Tables.{placeCount}
+use Rattle.call_texts.specs.Tables.{placeCount}
 use Rattle.texts.specs.Rounds.{outputBy, tableAfter, entriesAfter}
 pub mod Laws
 

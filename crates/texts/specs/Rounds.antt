@@ -12,8 +12,8 @@ use Rattle.script.specs.Table.{Table}
 use Rattle.text.specs.Reading.{reading}
 use Rattle.text.specs.Writing.{Outcome, writing}
 use Rattle.copies.specs.Copies.{copied}
-use Rattle.records.specs.Records.{Writes}
-use Rattle.calls.specs.Tables.{placeCount, tableAs, ReadBack}
+use Rattle.record_texts.specs.Texts.{Writes}
+use Rattle.call_texts.specs.Tables.{placeCount, tableAs, ReadBack}
 
 -- the output after a writing onto full stops
 abbrev pub wroteBy : List ℕ → ℕ → List ℕ → ℕ → List ℕ → List ℕ

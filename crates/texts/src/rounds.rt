@@ -57,7 +57,7 @@ fn try_writer(
 {
     fill_bytes(out, BLANK);
     say(b"\t");
-    match calls::write(table, nodes, entries, used, out) {
+    match call_texts::write(table, nodes, entries, used, out) {
         Writing::Wrote(length) => {
             say(b"wrote");
             say_number(length as u64);
@@ -77,7 +77,7 @@ pub fn try_text(text: &[u8], table: &mut [u32], entries: &mut [u32], out: &mut [
 {
     fill_words(table, STALE);
     fill_words(entries, STALE);
-    match calls::read(text, table, entries) {
+    match call_texts::read(text, table, entries) {
         Reading::Read(script) => {
             let nodes = script.nodes;
             let used = script.entries;

@@ -11,6 +11,7 @@ use lib.ListN.{length, getD, set}
 use Rattle.rules.specs.Paths.{Path, taken, start}
 use Rattle.rules.specs.Symbolic.{symbol, symbols}
 use Rattle.terms.specs.Terms.{countIn, pushed, Distinct}
+use Rattle.workspace.specs.Numbers.{freshPlace, freshLeft}
 use Rattle.workspace.specs.Rules.{Ruled}
 use Rattle.workspace.specs.State.{nextIn, conditionIn, writesIn, knownAt, spaceSize, typesOn, Means, Variables, PathIn}
 
@@ -22,6 +23,8 @@ pub record Fresh (t : ℕ) (ws : List ℕ) (q : ℕ) (left : List ℕ) : Type 0 
   pub condition : conditionIn left ≡ conditionIn ws
   pub writes : writesIn left ≡ writesIn ws
   pub most : countIn left ≤ countIn ws + 1
+  pub place-is : q ≡ freshPlace t ws
+  pub left-is : left ≡ freshLeft t ws
 
 -- the condition joined by a guard, with this operator
 abbrev pub assumed : List ℕ → ℕ → ℕ → List ℕ

@@ -27,6 +27,7 @@ use Rattle.rules.specs.SymbolicRules.{unaryExec, binaryExec, decide, typedResul
 use Rattle.rules.specs.TypedRules.{andThen, unaryType, binaryType, ifType}
 use Rattle.terms.specs.Terms.{countIn, symbolLimit, Distinct}
 use Rattle.workspace.specs.Notes.{Bare}
+use Rattle.workspace.specs.Numbers.{gives, leafGives, oneGives, twoGives, afterGives}
 use Rattle.workspace.specs.State.{variablesEnd, spaceSize, writesIn, depthIn, typesOn, Means, PathIn, State, Valued, Room, Went, Yields, Unnoted}
 use Rattle.workspace.specs.declared.Step.{Step}
 use Rattle.workspace.specs.declared.Branch.{Branch}
@@ -204,18 +205,22 @@ pub record Ruled (ws left : List ℕ) : Type 0 where
 pub record Leaf (f : Form) (n a depth : ℕ) (ws : List ℕ) (r : Step) (left : List ℕ) : Type 0 where
   pub ruled : Ruled ws left
   pub yields : (env : List Symbolic) (p : Path) → State ws depth env p → Yields left r (leafExec f n a env p)
+  pub exactly : gives r left ≡ leafGives f n a depth ws
 
 pub record One (f : Form) (n t q : ℕ) (ws : List ℕ) (r : Step) (left : List ℕ) : Type 0 where
   pub ruled : Ruled ws left
   pub yields : (v : Symbolic) (p : Path) → Means ws t q v → PathIn ws p → Yields left r (oneExec f n v p)
+  pub exactly : gives r left ≡ oneGives f n t q ws
 
 pub record Two (f : Form) (n t q u s : ℕ) (ws : List ℕ) (r : Step) (left : List ℕ) : Type 0 where
   pub ruled : Ruled ws left
   pub yields : (v w : Symbolic) (p : Path) → Means ws t q v → Means ws u s w → PathIn ws p → Yields left r (twoExec f n v w p)
+  pub exactly : gives r left ≡ twoGives f n t q u s ws
 
 pub record After (n t : ℕ) (ws : List ℕ) (r : Step) (left : List ℕ) : Type 0 where
   pub ruled : Ruled ws left
   pub yields : (p : Path) → PathIn ws p → Yields left r (typedResult n p (Accepted t))
+  pub exactly : gives r left ≡ afterGives n t ws
 
 -- the condition with the guard, and without it
 abbrev pub withGuard : Formula → Path → Path

@@ -48,8 +48,8 @@ use Rattle.records.proofs.check as callee
 use Rattle.records.proofs.check.Symbol as callee-def
 use Rattle.records.proofs.check.Symbol.{name as #records·check}
 use Rattle.records.proofs.check.Met as callee-thm
-use Rattle.calls.specs.Tables.{placeCount, tableAs}
-use Rattle.calls.proofs.Filled.{CopyIn, fills}
+use Rattle.call_texts.specs.Tables.{placeCount, tableAs}
+use Rattle.call_texts.proofs.Filled.{CopyIn, fills}
 use Rattle.calls.proofs.check.Key.{name as #calls·check}
 use Rattle.calls.proofs.check as check
 use Rattle.calls.proofs.check.Statement as stated

@@ -49,8 +49,8 @@ use Rattle.records.proofs.run as callee
 use Rattle.records.proofs.run.Symbol as callee-def
 use Rattle.records.proofs.run.Symbol.{name as #records·run}
 use Rattle.records.proofs.run.Met as callee-thm
-use Rattle.calls.specs.Tables.{placeCount, tableAs}
-use Rattle.calls.proofs.Filled.{CopyIn, fills}
+use Rattle.call_texts.specs.Tables.{placeCount, tableAs}
+use Rattle.call_texts.proofs.Filled.{CopyIn, fills}
 use Rattle.calls.proofs.run.Key.{name as #calls·run}
 use Rattle.calls.proofs.run as run
 use Rattle.calls.proofs.run.Statement as stated

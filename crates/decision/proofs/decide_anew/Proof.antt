@@ -45,18 +45,35 @@ search-requires c κs =
     )
 
 -- the guard alone
-alone : (c : tie.After-search) → c .search .result ≡ decidedAnew (c .before .before .before .before .before .before .before .before .before .before .before .before .before .before .before .args .space .now) (c .before .before .before .before .before .before .before .before .before .before .before .before .before .before .before .args .condition) (c .before .before .before .before .before .before .before .before .before .before .before .before .before .before .before .args .guard)
+alone : (c : tie.After-search)
+    → c .search .result ≡ decidedAnew
+    (c .before .before .before .before .before .before .before .before .before .before .before .before .before .before .before .args .space .now)
+    (c .before .before .before .before .before .before .before .before .before .before .before .before .before .before .before .args .condition)
+    (c .before .before .before .before .before .before .before .before .before .before .before .before .before .before .before .args .guard)
 alone c =
-    let a = c .before .before .before .before .before .before .before .before .before .before .before .before .before .before .before .args in
-    decided-alone (a .space .now) (a .condition) (a .guard) (parts (c .before .before .before .before .before .before .before .before .before .before)) (c .before .before .blocks-of .result) (c .search .result) (c .before .before .before .before .before .before .before .if1 .left) (c .before .before .before .before .before .if2 .taken) (c .before .before .blocks-of .ensures) (c .search .ensures .is)
+    let at-blocks-of = c .before .before in
+    let at-if2 = at-blocks-of .before .before .before in
+    let at-if1 = at-if2 .before .before in
+    let after-mark-all = at-if1 .before .before .before in
+    let at-start = after-mark-all .before .before .before .before .before in
+    let a = at-start .args in
+    decided-alone (a .space .now) (a .condition) (a .guard) (parts after-mark-all) (at-blocks-of .blocks-of .result) (c .search .result) (at-if1 .if1 .left)
+    (at-if2 .if2 .taken) (at-blocks-of .blocks-of .ensures) (c .search .ensures .is)
 
 forget-after-requires : tie.Need-forget-after-requires
 forget-after-requires c κs = omega (arith, c .before .before .before .before .before .before .before .before .before .before .before .before .before .before .before .before .before .pre .lent)
 
 returns-2 : tie.Need-returns-2
 returns-2 c =
-    let a = c .before .before .before .before .before .before .before .before .before .before .before .before .before .before .before .before .before .before .before .before .args in
-    (alone (c .before .before .before .before .before), left-alone (aside-alone (a .space .now) (a .condition) (a .guard) (parts (c .before .before .before .before .before .before .before .before .before .before .before .before .before .before .before)) (c .before .before .before .before .before .before .before .before .before .before .if2 .taken)) (c .before .before .forget-after .ensures))
+    let at-forget-after = c .before .before in
+    let after-search = at-forget-after .before .before .before in
+    let at-if2 = after-search .before .before .before .before .before in
+    let after-mark-all = at-if2 .before .before .before .before .before in
+    let at-start = after-mark-all .before .before .before .before .before in
+    let a = at-start .args in (
+      alone after-search,
+      left-alone (aside-alone (a .space .now) (a .condition) (a .guard) (parts after-mark-all) (at-if2 .if2 .taken)) (at-forget-after .forget-after .ensures),
+    )
 
 conjunct-requires : tie.Need-conjunct-requires
 conjunct-requires c κs = let p = c .before .before .before .before .before .before .before .before .before .before .before .pre in (omega (arith, p .behind, p .lent), p .low)
@@ -67,8 +84,21 @@ forget-requires c κs = omega (arith, c .before .before .before .before .before 
 -- a conjunct of the condition
 returns-3 : tie.Need-returns-3
 returns-3 c =
-    let a = c .before .before .before .before .before .before .before .before .before .before .before .before .before .before .before .before .before .args in
-    (decided-with (a .space .now) (a .condition) (a .guard) (parts (c .before .before .before .before .before .before .before .before .before .before .before .before)) (c .before .before .before .before .before .conjunct .result) (c .before .before .before .before .before .before .before .before .before .if1 .left) (c .before .before .before .before .before .before .before .if2 .left) (c .before .before .before .before .before .conjunct .ensures) (c .before .before .before .before .if3 .taken), left-none refl (aside-with (a .space .now) (a .condition) (a .guard) (parts (c .before .before .before .before .before .before .before .before .before .before .before .before)) (c .before .before .before .before .before .conjunct .result) (c .before .before .before .before .before .before .before .if2 .left) (c .before .before .before .before .before .conjunct .ensures) (c .before .before .before .before .if3 .taken)) (c .before .before .forget .ensures))
+    let at-forget = c .before .before in
+    let at-if3 = at-forget .before .before in
+    let at-conjunct = at-if3 .before in
+    let at-if2 = at-conjunct .before .before in
+    let at-if1 = at-if2 .before .before in
+    let after-mark-all = at-if1 .before .before .before in
+    let at-start = after-mark-all .before .before .before .before .before in
+    let a = at-start .args in (
+      decided-with (a .space .now) (a .condition) (a .guard) (parts after-mark-all) (at-conjunct .conjunct .result) (at-if1 .if1 .left) (at-if2 .if2 .left)
+          (at-conjunct .conjunct .ensures) (at-if3 .if3 .taken),
+      left-none refl
+          (aside-with (a .space .now) (a .condition) (a .guard) (parts after-mark-all) (at-conjunct .conjunct .result) (at-if2 .if2 .left)
+          (at-conjunct .conjunct .ensures) (at-if3 .if3 .taken))
+          (at-forget .forget .ensures),
+    )
 
 forget-requires-2 : tie.Need-forget-requires-2
 forget-requires-2 c κs = omega (arith, c .before .before .before .before .before .before .before .before .before .before .before .before .before .before .before .pre .lent)
@@ -76,30 +106,86 @@ forget-requires-2 c κs = omega (arith, c .before .before .before .before .befor
 -- the negation of one
 returns-4 : tie.Need-returns-4
 returns-4 c =
-    let a = c .before .before .before .before .before .before .before .before .before .before .before .before .before .before .before .before .before .before .args in
-    (decided-without (a .space .now) (a .condition) (a .guard) (parts (c .before .before .before .before .before .before .before .before .before .before .before .before .before)) (c .before .before .before .before .before .before .conjunct .result) (c .before .before .before .before .before .before .before .before .before .before .if1 .left) (c .before .before .before .before .before .before .before .before .if2 .left) (c .before .before .before .before .before .before .conjunct .ensures) (c .before .before .before .before .if4 .taken), left-none refl (aside-without (a .space .now) (a .condition) (a .guard) (parts (c .before .before .before .before .before .before .before .before .before .before .before .before .before)) (c .before .before .before .before .before .before .conjunct .result) (c .before .before .before .before .before .before .before .before .if2 .left) (c .before .before .before .before .before .before .conjunct .ensures) (c .before .before .before .before .if4 .taken)) (c .before .before .forget2 .ensures))
+    let at-forget2 = c .before .before in
+    let at-if4 = at-forget2 .before .before in
+    let at-conjunct = at-if4 .before .before in
+    let at-if2 = at-conjunct .before .before in
+    let at-if1 = at-if2 .before .before in
+    let after-mark-all = at-if1 .before .before .before in
+    let at-start = after-mark-all .before .before .before .before .before in
+    let a = at-start .args in (
+      decided-without (a .space .now) (a .condition) (a .guard) (parts after-mark-all) (at-conjunct .conjunct .result) (at-if1 .if1 .left) (at-if2 .if2 .left)
+          (at-conjunct .conjunct .ensures) (at-if4 .if4 .taken),
+      left-none refl
+          (aside-without (a .space .now) (a .condition) (a .guard) (parts after-mark-all) (at-conjunct .conjunct .result) (at-if2 .if2 .left)
+          (at-conjunct .conjunct .ensures) (at-if4 .if4 .taken))
+          (at-forget2 .forget2 .ensures),
+    )
 
 search-requires-2 : tie.Need-search-requires-2
 search-requires-2 c κs =
-    let p = c .before .before .before .before .before .before .before .before .before .before .before .before .before .before .before .before .before .before .pre in
-    (record { low = p .low; high = p .high; room = rw (c .before .before .before .before .before .before .before .before .before .before .before .before .before .before .before .before .above .ensures) at (room (c .before .before .before .before .before .before .before .before .before .before .before .before .before)); few = rw (c .before .before .before .blocks-of2 .ensures) (blocks-most _) }, omega arith)
+    let at-blocks-of2 = c .before .before .before in
+    let after-mark-all = at-blocks-of2 .before .before .before .before .before .before .before .before .before .before in
+    let at-above = after-mark-all .before .before .before in
+    let at-start = at-above .before .before in
+    let p = at-start .pre in (
+      record
+          { low = p .low; high = p .high; room = rw (at-above .above .ensures) at (room after-mark-all); few = rw (at-blocks-of2 .blocks-of2 .ensures) (blocks-most _) },
+      omega arith,
+    )
 
 -- the two together
-together : (c : tie.After-search2) → c .search2 .result ≡ decidedAnew (c .before .before .before .before .before .before .before .before .before .before .before .before .before .before .before .before .before .before .before .args .space .now) (c .before .before .before .before .before .before .before .before .before .before .before .before .before .before .before .before .before .before .before .args .condition) (c .before .before .before .before .before .before .before .before .before .before .before .before .before .before .before .before .before .before .before .args .guard)
+together : (c : tie.After-search2)
+    → c .search2 .result ≡ decidedAnew
+    (c .before .before .before .before .before .before .before .before .before .before .before .before .before .before .before .before .before .before .before .args .space .now)
+    (c .before .before .before .before .before .before .before .before .before .before .before .before .before .before .before .before .before .before .before .args .condition)
+    (c .before .before .before .before .before .before .before .before .before .before .before .before .before .before .before .before .before .before .before .args .guard)
 together c =
-    let a = c .before .before .before .before .before .before .before .before .before .before .before .before .before .before .before .before .before .before .before .args in
-    decided-both (a .space .now) (a .condition) (a .guard) (parts (c .before .before .before .before .before .before .before .before .before .before .before .before .before .before)) (c .before .before .before .before .before .before .before .conjunct .result) (c .before .before .before .before .blocks-of2 .result) (c .search2 .result) (c .before .before .before .before .before .before .before .before .before .before .before .if1 .left) (c .before .before .before .before .before .before .before .before .before .if2 .left) (c .before .before .before .before .before .before .before .conjunct .ensures) (c .before .before .before .before .before .before .if3 .left) (c .before .before .before .before .before .if4 .left) (c .before .before .before .before .blocks-of2 .ensures) (c .search2 .ensures .is)
+    let at-blocks-of2 = c .before .before .before .before in
+    let at-if4 = at-blocks-of2 .before in
+    let at-if3 = at-if4 .before in
+    let at-conjunct = at-if3 .before in
+    let at-if2 = at-conjunct .before .before in
+    let at-if1 = at-if2 .before .before in
+    let after-mark-all = at-if1 .before .before .before in
+    let at-start = after-mark-all .before .before .before .before .before in
+    let a = at-start .args in
+    decided-both (a .space .now) (a .condition) (a .guard) (parts after-mark-all) (at-conjunct .conjunct .result) (at-blocks-of2 .blocks-of2 .result)
+    (c .search2 .result) (at-if1 .if1 .left) (at-if2 .if2 .left) (at-conjunct .conjunct .ensures) (at-if3 .if3 .left) (at-if4 .if4 .left)
+    (at-blocks-of2 .blocks-of2 .ensures) (c .search2 .ensures .is)
 
 keep-after-requires : tie.Need-keep-after-requires
 keep-after-requires c κs =
-    let a = c .before .before .before .before .before .before .before .before .before .before .before .before .before .before .before .before .before .before .before .before .before .before .before .args in
-    let p = c .before .before .before .before .before .before .before .before .before .before .before .before .before .before .before .before .before .before .before .before .before .before .before .pre in
-    (keepable (a .space .now) (a .condition) (a .guard) (parts (c .before .before .before .before .before .before .before .before .before .before .before .before .before .before .before .before .before .before)) (a .at) (p .behind) (p .lent) (p .low) (p .high) (c .before .before .before .before .before .before .before .before .before .before .before .before .before .before .before .if1 .left), (rw (c .before .before .before .before .before .before .before .before .blocks-of2 .ensures) (blocks-most _), omega (arith, c .before .before .before .before .search2 .ensures .same)))
+    let at-search2 = c .before .before .before .before in
+    let at-blocks-of2 = at-search2 .before .before .before .before in
+    let at-if1 = at-blocks-of2 .before .before .before .before .before .before .before in
+    let after-mark-all = at-if1 .before .before .before in
+    let at-start = after-mark-all .before .before .before .before .before in
+    let a = at-start .args in
+    let p = at-start .pre in (
+      keepable (a .space .now) (a .condition) (a .guard) (parts after-mark-all) (a .at) (p .behind) (p .lent) (p .low) (p .high) (at-if1 .if1 .left),
+      (rw (at-blocks-of2 .blocks-of2 .ensures) (blocks-most _), omega (arith, at-search2 .search2 .ensures .same)),
+    )
 
 returns-5 : tie.Need-returns-5
 returns-5 c =
-    let a = c .before .before .before .before .before .before .before .before .before .before .before .before .before .before .before .before .before .before .before .before .before .before .before .before .before .before .args in
-    (together (c .before .before .before .before .before .before .before), left-after (a .space .now) (a .condition) (a .guard) (parts (c .before .before .before .before .before .before .before .before .before .before .before .before .before .before .before .before .before .before .before .before .before)) (aside-not (a .space .now) (a .condition) (a .guard) (parts (c .before .before .before .before .before .before .before .before .before .before .before .before .before .before .before .before .before .before .before .before .before)) (c .before .before .before .before .before .before .before .before .before .before .before .before .before .before .conjunct .result) (c .before .before .before .before .before .before .before .before .before .before .before .before .before .before .before .before .if2 .left) (c .before .before .before .before .before .before .before .before .before .before .before .before .before .before .conjunct .ensures) (c .before .before .before .before .before .before .before .before .before .before .before .before .before .if3 .left) (c .before .before .before .before .before .before .before .before .before .before .before .before .if4 .left)) (c .before .before .before .before .before .before .before .before .before .before .before .before .before .before .before .before .before .before .if1 .left) (c .before .before .before .before .before .before .before .before .before .before .before .blocks-of2 .ensures) (c .before .before .before .before .before .before .before .search2 .ensures) (c .before .before .keep-after .ensures))
+    let at-keep-after = c .before .before in
+    let after-search2 = at-keep-after .before .before .before .before .before in
+    let at-blocks-of2 = after-search2 .before .before .before .before in
+    let at-if4 = at-blocks-of2 .before in
+    let at-if3 = at-if4 .before in
+    let at-conjunct = at-if3 .before in
+    let at-if2 = at-conjunct .before .before in
+    let at-if1 = at-if2 .before .before in
+    let after-mark-all = at-if1 .before .before .before in
+    let at-start = after-mark-all .before .before .before .before .before in
+    let a = at-start .args in (
+      together after-search2,
+      left-after (a .space .now) (a .condition) (a .guard) (parts after-mark-all)
+          (aside-not (a .space .now) (a .condition) (a .guard) (parts after-mark-all) (at-conjunct .conjunct .result) (at-if2 .if2 .left)
+          (at-conjunct .conjunct .ensures) (at-if3 .if3 .left) (at-if4 .if4 .left))
+          (at-if1 .if1 .left) (at-blocks-of2 .blocks-of2 .ensures) (after-search2 .search2 .ensures) (at-keep-after .keep-after .ensures),
+    )
 
 pub decide-anew-spec : {M : Type 1} → statement M
 decide-anew-spec =

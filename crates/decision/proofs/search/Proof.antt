@@ -29,7 +29,13 @@ rows c =
     (order-long (a .marks .now) (a .least) (c .before .before .above .result) (c .list-rows .result) (c .list-rows .last .1 .1 .1 .0) (omega (arith, r .few)) (l .many) (l .same)) (l .many) (l .rows)
 
 -- what is listed
-prepared : (c : tie.After-number-atoms Inv-loop μ-loop) → Prepared (c .before .before .before .before .before .before .before .before .before .before .args .space .now) (c .before .before .before .before .before .before .before .before .before .before .args .condition) (c .before .before .before .before .before .before .before .before .before .before .args .guard) (c .before .before .before .before .before .before .before .before .before .before .args .marks .now) (c .before .before .before .before .before .before .before .before .before .before .args .least) (c .before .before .before .before .before .before .above .result) (c .before .before .before .before .list-rows .last .1 .1 .1 .0) (c .before .before .before .before .list-rows .result) (c .number-atoms .last .1 .1 .1 .0)
+prepared : (c : tie.After-number-atoms Inv-loop μ-loop)
+    → Prepared (c .before .before .before .before .before .before .before .before .before .before .args .space .now)
+    (c .before .before .before .before .before .before .before .before .before .before .args .condition)
+    (c .before .before .before .before .before .before .before .before .before .before .args .guard)
+    (c .before .before .before .before .before .before .before .before .before .before .args .marks .now)
+    (c .before .before .before .before .before .before .before .before .before .before .args .least) (c .before .before .before .before .before .before .above .result)
+    (c .before .before .before .before .list-rows .last .1 .1 .1 .0) (c .before .before .before .before .list-rows .result) (c .number-atoms .last .1 .1 .1 .0)
 prepared c = record { up = c .before .before .before .before .before .before .above .ensures; many = c .before .before .before .before .list-rows .ensures .many; rows = c .before .before .before .before .list-rows .ensures .rows; numbers = c .number-atoms .ensures }
 
 above-requires : tie.Need-above-requires Inv-loop μ-loop
@@ -61,7 +67,11 @@ begin-requires c κs =
     (rows (c .before .before .before .before .before .before .before .before .before), ((omega (arith, c .before .before .before .before .before .number-atoms .kept .1 .1 .1 .0), omega arith), (omega (arith, r .few), omega (arith, r .few))))
 
 loop-holds : tie.Need-loop-holds Inv-loop μ-loop
-loop-holds c = looking (prepared (c .before .before .before .before .before .before .before .before)) (c .before .before .before .before .before .before .before .before .before .before .before .before .before .before .before .before .before .before .pre .0) (c .before .before .before .before .before .before .before .before .before .before .before .before .before .before .before .before .before .before .args .truths .now) _ (c .before .before .begin .ensures .0)
+loop-holds c =
+    let at-begin = c .before .before in
+    let after-number-atoms = at-begin .before .before .before .before .before .before in
+    let at-start = after-number-atoms .before .before .before .before .before .before .before .before .before .before in
+    looking (prepared after-number-atoms) (at-start .pre .0) (at-start .args .truths .now) _ (at-begin .begin .ensures .0)
 
 slice-aggregate-evaluate : tie.Need-slice-aggregate-evaluate Inv-loop μ-loop
 slice-aggregate-evaluate c = sym (c .before .before .before .before .before .begin .ensures .1 .same)
@@ -74,19 +84,34 @@ slice-aggregate-evaluate-3 c = sym (c .before .before .before .before .loop .inv
 
 evaluate-requires : tie.Need-evaluate-requires Inv-loop μ-loop
 evaluate-requires c κs =
-    let a = c .before .before .before .before .before .before .before .before .before .before .before .before .before .before .before .before .before .before .before .before .before .before .before .args in
-    let e = c .before .before .before .before .before .before .before .before .before .before .before .before .before .before .before .before .before .before .before .above .ensures in
-    let r = c .before .before .before .before .before .before .before .before .before .before .before .before .before .before .before .before .before .before .before .before .before .before .before .pre .0 .room in
-    let l = c .before .before .before .before .before .before .before .begin .ensures .1 in
-    let s = changesOf (a .space .now) (c .before .before .before .before .before .before .before .before .before .before .before .before .before .before .before .before .before .list-rows .last .1 .1 .1 .0) (c .before .before .before .before .before .before .before .before .before .before .before .before .before .number-atoms .last .1 .1 .1 .0) (c .before .before .before .before .before .before .before .before .before .before .before .before .before .before .before .before .before .list-rows .result) in
-    let f = order-long s 1 (c .before .before .before .before .before .before .before .before .before .before .before .before .before .before .before .before .before .before .before .above .result) (c .before .before .before .before .before .before .before .begin .result) (c .before .before .before .before .before .before .before .begin .last .1 .1 .1 .1 .1 .1 .0) (omega (arith, r .few)) (l .many) (l .same) in
-    (rows-listed (a .space .now) s 1 (c .before .before .before .before .before .before .before .before .before .before .before .before .before .before .before .before .before .before .before .above .result) (c .before .before .before .before .before .before .before .begin .last .1 .1 .1 .1 .1 .1 .0) (c .before .before .before .before .before .before .before .begin .result) (r .lent) (omega (arith, r .few)) f (l .many) (l .rows), (omega (arith, c .before .before .before .before .before .before .before .before .before .before .before .before .before .number-atoms .kept .1 .1 .1 .0), omega (arith, c .before .before .before .before .loop .inv .whole)))
+    let at-loop = c .before .before .before .before in
+    let at-begin = at-loop .before .before .before in
+    let at-number-atoms = at-begin .before .before .before .before .before .before in
+    let at-list-rows = at-number-atoms .before .before .before .before in
+    let at-above = at-list-rows .before .before in
+    let at-start = at-above .before .before .before .before in
+    let a = at-start .args in
+    let e = at-above .above .ensures in
+    let r = at-start .pre .0 .room in
+    let l = at-begin .begin .ensures .1 in
+    let s = changesOf (a .space .now) (at-list-rows .list-rows .last .1 .1 .1 .0) (at-number-atoms .number-atoms .last .1 .1 .1 .0)
+    (at-list-rows .list-rows .result) in
+    let f = order-long s 1 (at-above .above .result) (at-begin .begin .result) (at-begin .begin .last .1 .1 .1 .1 .1 .1 .0) (omega (arith, r .few))
+    (l .many) (l .same) in (
+      rows-listed (a .space .now) s 1 (at-above .above .result) (at-begin .begin .last .1 .1 .1 .1 .1 .1 .0) (at-begin .begin .result) (r .lent)
+          (omega (arith, r .few)) f (l .many) (l .rows),
+      (omega (arith, at-number-atoms .number-atoms .kept .1 .1 .1 .0), omega (arith, at-loop .loop .inv .whole)),
+    )
 
 slice-aggregate-condition-word : tie.Need-slice-aggregate-condition-word Inv-loop μ-loop
 slice-aggregate-condition-word c = search needs
 
 condition-word-requires : tie.Need-condition-word-requires Inv-loop μ-loop
-condition-word-requires c κs = omega (arith, c .before .before .evaluate .kept .1 .1 .1 .1 .1 .0, c .before .before .before .before .before .before .before .loop .inv .whole, c .before .before .before .before .before .before .before .before .before .before .before .before .before .before .before .before .before .before .before .before .before .before .before .before .before .before .pre .0 .low)
+condition-word-requires c κs =
+    let at-evaluate = c .before .before in
+    let at-loop = at-evaluate .before .before .before .before .before in
+    let at-start = at-loop .before .before .before .before .before .before .before .before .before .before .before .before .before .before .before .before .before .before .before in
+    omega (arith, at-evaluate .evaluate .kept .1 .1 .1 .1 .1 .0, at-loop .loop .inv .whole, at-start .pre .0 .low)
 
 mul-g : tie.Need-mul-g Inv-loop μ-loop
 mul-g c = omega (arith, c .before .before .before .before .before .before .before .before .before .before .before .before .before .before .before .before .before .before .before .before .before .before .before .before .before .before .before .pre .0 .high)
@@ -95,31 +120,65 @@ array-read-g : tie.Need-array-read-g Inv-loop μ-loop
 array-read-g c = c .before .before .before .before .before .before .before .before .before .before .before .before .before .before .before .before .before .before .before .before .before .before .before .before .before .before .before .pre .0 .high
 
 cast-truths : tie.Need-cast-truths Inv-loop μ-loop
-cast-truths c = omega (arith, c .before .before .before .before .before .before .before .loop-test .taken, c .before .before .before .before .before .before .before .before .before .before .before .before .before .before .before .before .before .before .before .before .before .before .before .before .before .before .before .pre .0 .few)
+cast-truths c =
+    let at-loop-test = c .before .before .before .before .before .before .before in
+    let at-start = at-loop-test .before .before .before .before .before .before .before .before .before .before .before .before .before .before .before .before .before .before .before .before in
+    omega (arith, at-loop-test .loop-test .taken, at-start .pre .0 .few)
 
 mul-truths : tie.Need-mul-truths Inv-loop μ-loop
-mul-truths c = omega (arith, c .before .before .before .before .before .before .before .loop-test .taken, c .before .before .before .before .before .before .before .before .before .before .before .before .before .before .before .before .before .before .before .before .before .before .before .before .before .before .before .pre .0 .few)
+mul-truths c =
+    let at-loop-test = c .before .before .before .before .before .before .before in
+    let at-start = at-loop-test .before .before .before .before .before .before .before .before .before .before .before .before .before .before .before .before .before .before .before .before in
+    omega (arith, at-loop-test .loop-test .taken, at-start .pre .0 .few)
 
 slice-write-truths : tie.Need-slice-write-truths Inv-loop μ-loop
-slice-write-truths c = omega (arith, c .before .before .before .before .before .before .before .before .loop .inv .same, c .before .before .before .before .before .before .before .before .before .before .before .before .before .before .before .before .before .before .before .before .before .before .before .before .before .before .before .pre .1, c .before .before .before .before .before .before .before .before .before .before .before .before .before .before .before .before .before .before .before .before .before .before .before .before .before .before .before .pre .0 .few)
+slice-write-truths c =
+    let at-loop = c .before .before .before .before .before .before .before .before in
+    let at-start = at-loop .before .before .before .before .before .before .before .before .before .before .before .before .before .before .before .before .before .before .before in
+    omega (arith, at-loop .loop .inv .same, at-start .pre .1, at-start .pre .0 .few)
 
 same-length : tie.Need-same-length Inv-loop μ-loop
-same-length c = length-set (c .before .before .before .before .before .before .before .before .before .before .loop .truths) (c .before .before .before .before .before .before .before .before .before .before .loop .block) (c .before .before .condition-word .result) ∙ c .before .before .before .before .before .before .before .before .before .before .loop .inv .same
+same-length c =
+    let at-condition-word = c .before .before in
+    let at-loop = at-condition-word .before .before .before .before .before .before .before .before in
+    length-set (at-loop .loop .truths) (at-loop .loop .block) (at-condition-word .condition-word .result) ∙ at-loop .loop .inv .same
 
 returns : tie.Need-returns Inv-loop μ-loop
 returns c =
-    let k = looking-on (prepared (c .before .before .before .before .before .before .before .before .before .before .before .before .before .before .before .before .before .before .before)) (c .before .before .before .before .before .before .before .before .before .before .before .before .before .before .before .before .before .before .before .before .before .before .before .before .before .before .before .before .before .pre .0) (c .before .before .before .before .before .before .before .before .before .before .before .before .before .begin .last .1 .1 .1 .1 .1 .1 .0) (c .before .before .before .before .before .before .before .before .before .before .before .before .before .begin .result) (c .before .before .before .before .before .before .before .before .before .before .before .before .before .begin .ensures .1 .many) (c .before .before .before .before .before .before .before .before .before .before .before .before .before .begin .ensures .1 .rows) (c .before .before .before .before .before .before .before .before .before .before .loop .inv) (c .before .before .before .before .before .before .before .before .before .before .before .before .before .before .before .before .before .before .before .before .before .before .before .before .before .before .before .before .before .pre .1) (c .before .before .before .before .before .before .before .before .before .loop-test .taken) (c .before .before .before .before .before .evaluate .ensures) (c .before .before .condition-word .ensures) refl in
-    looking-both k (c .before .both-found .result) (c .before .both-found .ensures) (c .if1 .taken)
+    let at-both-found = c .before in
+    let at-condition-word = at-both-found .before in
+    let at-evaluate = at-condition-word .before .before .before in
+    let at-loop-test = at-evaluate .before .before .before .before in
+    let at-loop = at-loop-test .before in
+    let at-begin = at-loop .before .before .before in
+    let after-number-atoms = at-begin .before .before .before .before .before .before in
+    let at-start = after-number-atoms .before .before .before .before .before .before .before .before .before .before in
+    let k = looking-on (prepared after-number-atoms) (at-start .pre .0) (at-begin .begin .last .1 .1 .1 .1 .1 .1 .0) (at-begin .begin .result)
+    (at-begin .begin .ensures .1 .many) (at-begin .begin .ensures .1 .rows) (at-loop .loop .inv) (at-start .pre .1) (at-loop-test .loop-test .taken)
+    (at-evaluate .evaluate .ensures) (at-condition-word .condition-word .ensures) refl in
+    looking-both k (at-both-found .both-found .result) (at-both-found .both-found .ensures) (c .if1 .taken)
 
 add-block : tie.Need-add-block Inv-loop μ-loop
-add-block c = omega (arith, c .before .before .before .before .before .before .before .before .before .loop-test .taken, c .before .before .before .before .before .before .before .before .before .before .before .before .before .before .before .before .before .before .before .before .before .before .before .before .before .before .before .before .before .pre .0 .few)
+add-block c =
+    let at-loop-test = c .before .before .before .before .before .before .before .before .before in
+    let at-start = at-loop-test .before .before .before .before .before .before .before .before .before .before .before .before .before .before .before .before .before .before .before .before in
+    omega (arith, at-loop-test .loop-test .taken, at-start .pre .0 .few)
 
 loop-less : tie.Need-loop-less Inv-loop μ-loop
 loop-less c = search needs
 
 loop-again : tie.Need-loop-again Inv-loop μ-loop
 loop-again c =
-    looking-on (prepared (c .before .before .before .before .before .before .before .before .before .before .before .before .before .before .before .before .before .before .before)) (c .before .before .before .before .before .before .before .before .before .before .before .before .before .before .before .before .before .before .before .before .before .before .before .before .before .before .before .before .before .pre .0) (c .before .before .before .before .before .before .before .before .before .before .before .before .before .begin .last .1 .1 .1 .1 .1 .1 .0) (c .before .before .before .before .before .before .before .before .before .before .before .before .before .begin .result) (c .before .before .before .before .before .before .before .before .before .before .before .before .before .begin .ensures .1 .many) (c .before .before .before .before .before .before .before .before .before .before .before .before .before .begin .ensures .1 .rows) (c .before .before .before .before .before .before .before .before .before .before .loop .inv) (c .before .before .before .before .before .before .before .before .before .before .before .before .before .before .before .before .before .before .before .before .before .before .before .before .before .before .before .before .before .pre .1) (c .before .before .before .before .before .before .before .before .before .loop-test .taken) (c .before .before .before .before .before .evaluate .ensures) (c .before .before .condition-word .ensures) refl
+    let at-condition-word = c .before .before in
+    let at-evaluate = at-condition-word .before .before .before in
+    let at-loop-test = at-evaluate .before .before .before .before in
+    let at-loop = at-loop-test .before in
+    let at-begin = at-loop .before .before .before in
+    let after-number-atoms = at-begin .before .before .before .before .before .before in
+    let at-start = after-number-atoms .before .before .before .before .before .before .before .before .before .before in
+    looking-on (prepared after-number-atoms) (at-start .pre .0) (at-begin .begin .last .1 .1 .1 .1 .1 .1 .0) (at-begin .begin .result)
+    (at-begin .begin .ensures .1 .many) (at-begin .begin .ensures .1 .rows) (at-loop .loop .inv) (at-start .pre .1) (at-loop-test .loop-test .taken)
+    (at-evaluate .evaluate .ensures) (at-condition-word .condition-word .ensures) refl
 
 same-length-2 : tie.Need-same-length-2 Inv-loop μ-loop
 same-length-2 c = c .before .before .loop .inv .same

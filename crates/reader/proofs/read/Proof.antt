@@ -16,7 +16,12 @@ same-length : tie.Need-same-length
 same-length c = c .before .before .before .before .before .before .clear-nodes .ensures .table-length ∙ c .before .before .before .before .before .before .before .before .before .before .before .before .before .before .before .read-text .ensures .framed .table-length
 
 same-length-2 : tie.Need-same-length-2
-same-length-2 c = let h = rw (c .before .before .before .before .before .before .before .before .before .script .given .1) at (c .before .before .before .before .before .before .before .before .before .before .before .before .before .before .before .read-text .ensures) in ap length (c .before .before .clear-entries .ensures) ∙ length-filled _ _ (h .entries-room) ∙ h .framed .entries-length
+same-length-2 c =
+    let at-clear-entries = c .before .before in
+    let at-script = at-clear-entries .before .before .before .before .before .before .before in
+    let at-read-text = at-script .before .before .before .before .before .before in
+    let h = rw (at-script .script .given .1) at (at-read-text .read-text .ensures) in
+    ap length (at-clear-entries .clear-entries .ensures) ∙ length-filled _ _ (h .entries-room) ∙ h .framed .entries-length
 
 returns : tie.Need-returns
 returns c =
@@ -28,7 +33,13 @@ same-length-3 : tie.Need-same-length-3
 same-length-3 c = c .before .before .before .before .before .before .clear-nodes2 .ensures .table-length ∙ c .before .before .before .before .before .before .before .before .before .before .before .before .before .before .before .read-text .ensures .framed .table-length
 
 same-length-4 : tie.Need-same-length-4
-same-length-4 c = let h = rw (c .before .before .before .before .before .before .before .before .before .r .given .1) at (c .before .before .before .before .before .before .before .before .before .before .before .before .before .before .before .read-text .ensures) in ap length (c .before .before .clear-entries2 .ensures) ∙ length-filled (c .before .before .before .before .before .before .before .before .before .before .before .before .before .before .before .read-text .last .1 .1 .0) 0 (h .entries-room) ∙ h .framed .entries-length
+same-length-4 c =
+    let at-clear-entries2 = c .before .before in
+    let at-r = at-clear-entries2 .before .before .before .before .before .before .before in
+    let at-read-text = at-r .before .before .before .before .before .before in
+    let h = rw (at-r .r .given .1) at (at-read-text .read-text .ensures) in
+    ap length (at-clear-entries2 .clear-entries2 .ensures) ∙ length-filled (at-read-text .read-text .last .1 .1 .0) 0 (h .entries-room) ∙
+    h .framed .entries-length
 
 returns-2 : tie.Need-returns-2
 returns-2 c =

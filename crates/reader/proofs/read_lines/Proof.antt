@@ -31,20 +31,37 @@ same-length-2 : tie.Need-same-length-2 Inv-loop μ-loop
 same-length-2 c = let w = c .before .before .before .before .before .before .before .before .before .before .before .loop .inv in let t = c .before .before .before .before .before .before .before .take-line .ensures in t .framed .entries-length ∙ w .framed .entries-length
 
 returns : tie.Need-returns Inv-loop μ-loop
-returns c = walk-refused (c .before .before .before .before .before .before .before .before .before .before .before .loop .inv) (c .before .before .before .before .before .before .before .before .before .before .loop-test .taken) (rw (c .before .r .given .1) at (c .before .before .before .before .before .before .before .take-line .ensures))
+returns c =
+    let at-r = c .before in
+    let at-take-line = at-r .before .before .before .before .before .before in
+    let at-loop-test = at-take-line .before .before .before in
+    let at-loop = at-loop-test .before in
+    walk-refused (at-loop .loop .inv) (at-loop-test .loop-test .taken) (rw (at-r .r .given .1) at (at-take-line .take-line .ensures))
 
 add-i : tie.Need-add-i Inv-loop μ-loop
-add-i c = let w = c .before .before .before .before .before .before .before .before .before .before .before .loop .inv in let l = w .lines-most in let m = w .within in omega (arith, c .before .before .before .before .before .before .before .before .before .before .before .before .before .before .before .before .pre .0)
+add-i c =
+    let at-loop = c .before .before .before .before .before .before .before .before .before .before .before in
+    let at-start = at-loop .before .before .before .before .before in
+    let w = at-loop .loop .inv in let l = w .lines-most in let m = w .within in omega (arith, at-start .pre .0)
 
 loop-less : tie.Need-loop-less Inv-loop μ-loop
 loop-less c =
-    let t = walk-on (c .before .before .before .before .before .before .before .before .before .before .before .loop .inv) (c .before .before .before .before .before .before .before .before .before .before .loop-test .taken) (rw (c .before .more .given .1) at (c .before .before .before .before .before .before .before .take-line .ensures)) in
+    let at-more = c .before in
+    let at-take-line = at-more .before .before .before .before .before .before in
+    let at-loop-test = at-take-line .before .before .before in
+    let at-loop = at-loop-test .before in
+    let t = walk-on (at-loop .loop .inv) (at-loop-test .loop-test .taken) (rw (at-more .more .given .1) at (at-take-line .take-line .ensures)) in
     let l = t .0 .within in
     omega (arith, t .1)
 
 loop-again : tie.Need-loop-again Inv-loop μ-loop
 loop-again c =
-    rw (add-one (c .before .before .before .before .before .before .before .before .before .before .before .loop .i)) (walk-on (c .before .before .before .before .before .before .before .before .before .before .before .loop .inv) (c .before .before .before .before .before .before .before .before .before .before .loop-test .taken) (rw (c .before .more .given .1) at (c .before .before .before .before .before .before .before .take-line .ensures)) .0)
+    let at-more = c .before in
+    let at-take-line = at-more .before .before .before .before .before .before in
+    let at-loop-test = at-take-line .before .before .before in
+    let at-loop = at-loop-test .before in
+    rw (add-one (at-loop .loop .i))
+    (walk-on (at-loop .loop .inv) (at-loop-test .loop-test .taken) (rw (at-more .more .given .1) at (at-take-line .take-line .ensures)) .0)
 
 at-end-requires : tie.Need-at-end-requires Inv-loop μ-loop
 at-end-requires c κs =

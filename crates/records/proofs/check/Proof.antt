@@ -48,7 +48,7 @@ use Rattle.copies.proofs.copy_out.Symbol.{name as #copies·copy-out}
 use Rattle.copies.proofs.copy_out.Met as copy-out-thm
 use Rattle.records.specs.Code.Whole.{check-copied}
 use Rattle.records.specs.Records.{Checks}
-use Rattle.records.proofs.Copied.{CopyOut, copies}
+use Rattle.record_texts.proofs.Copied.{CopyOut, copies}
 use Rattle.records.proofs.check_flat as check-flat
 use Rattle.records.proofs.check_flat.Symbol as check-flat-def
 use Rattle.records.proofs.check_flat.Symbol.{name as #records·check-flat}

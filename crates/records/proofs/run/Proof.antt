@@ -49,7 +49,7 @@ use Rattle.copies.proofs.copy_out.Symbol.{name as #copies·copy-out}
 use Rattle.copies.proofs.copy_out.Met as copy-out-thm
 use Rattle.records.specs.Code.Whole.{run-copied}
 use Rattle.records.specs.Records.{Runs}
-use Rattle.records.proofs.Copied.{CopyOut, copies}
+use Rattle.record_texts.proofs.Copied.{CopyOut, copies}
 use Rattle.records.proofs.run_flat as run-flat
 use Rattle.records.proofs.run_flat.Symbol as run-flat-def
 use Rattle.records.proofs.run_flat.Symbol.{name as #records·run-flat}

@@ -13,11 +13,22 @@ returns : tie.Need-returns
 returns c = no-values _ _ _ _ _ _ (c .before .before .before .before .bytes-line .ensures) (c .enum-told .given .1)
 
 returns-2 : tie.Need-returns-2
-returns-2 c = no-cells _ _ _ _ _ _ (c .before .before .before .before .before .before .before .before .before .before .before .bytes-line .ensures) (c .before .before .before .before .before .before .before .count .given .1) (c .before .before .before .before .bytes-line2 .ensures) (c .enum-told2 .given .1)
+returns-2 c =
+    let at-bytes-line2 = c .before .before .before .before in
+    let at-count = at-bytes-line2 .before .before .before in
+    let at-bytes-line = at-count .before .before .before .before in
+    no-cells _ _ _ _ _ _ (at-bytes-line .bytes-line .ensures) (at-count .count .given .1) (at-bytes-line2 .bytes-line2 .ensures) (c .enum-told2 .given .1)
 
 returns-3 : tie.Need-returns-3
 returns-3 c =
-    no-text _ _ _ _ _ _ (c .before .before .before .before .before .before .before .before .before .before .before .before .before .before .before .before .before .before .bytes-line .ensures) (c .before .before .before .before .before .before .before .before .before .before .before .before .before .before .count .given .1) (c .before .before .before .before .before .before .before .before .before .before .before .bytes-line2 .ensures) (c .before .before .before .before .before .before .before .from .given .1) (c .before .before .before .before .bytes-line3 .ensures) (c .before .text-end .ensures) (c .if1 .taken)
+    let at-text-end = c .before in
+    let at-bytes-line3 = at-text-end .before .before .before in
+    let at-from = at-bytes-line3 .before .before .before in
+    let at-bytes-line2 = at-from .before .before .before .before in
+    let at-count = at-bytes-line2 .before .before .before in
+    let at-bytes-line = at-count .before .before .before .before in
+    no-text _ _ _ _ _ _ (at-bytes-line .bytes-line .ensures) (at-count .count .given .1) (at-bytes-line2 .bytes-line2 .ensures) (at-from .from .given .1)
+    (at-bytes-line3 .bytes-line3 .ensures) (at-text-end .text-end .ensures) (c .if1 .taken)
 
 sub-try-text : tie.Need-sub-try-text
 sub-try-text c = text-after _ _ (c .before .text-end .ensures)
@@ -26,17 +37,35 @@ part-try-text-start : tie.Need-part-try-text-start
 part-try-text-start c = let h = text-after _ _ (c .before .text-end .ensures) in omega arith
 
 slice-reshare-prefix-try-text : tie.Need-slice-reshare-prefix-try-text
-slice-reshare-prefix-try-text c = let h = count-most _ _ _ (c .before .before .before .before .before .before .before .before .before .before .before .before .before .before .before .before .before .before .before .bytes-line .ensures) (c .before .before .before .before .before .before .before .before .before .before .before .before .before .before .before .count .given .1) in omega arith
+slice-reshare-prefix-try-text c =
+    let at-count = c .before .before .before .before .before .before .before .before .before .before .before .before .before .before .before in
+    let at-bytes-line = at-count .before .before .before .before in
+    let h = count-most _ _ _ (at-bytes-line .bytes-line .ensures) (at-count .count .given .1) in omega arith
 
 slice-aggregate-try-text : tie.Need-slice-aggregate-try-text
-slice-aggregate-try-text c = let h = count-most _ _ _ (c .before .before .before .before .before .before .before .before .before .before .before .before .before .before .before .before .before .before .before .before .bytes-line .ensures) (c .before .before .before .before .before .before .before .before .before .before .before .before .before .before .before .before .count .given .1) in sym (length-take-le _ _ (omega arith))
+slice-aggregate-try-text c =
+    let at-count = c .before .before .before .before .before .before .before .before .before .before .before .before .before .before .before .before in
+    let at-bytes-line = at-count .before .before .before .before in
+    let h = count-most _ _ _ (at-bytes-line .bytes-line .ensures) (at-count .count .given .1) in sym (length-take-le _ _ (omega arith))
 
 add-result : tie.Need-add-result
-add-result c = omega (arith, c .before .before .before .before .before .before .before .before .before .if1 .left, c .before .before .before .before .before .before .before .before .before .before .before .before .before .before .before .before .before .before .before .before .before .before .before .before .before .before .before .before .before .before .before .before .before .good)
+add-result c =
+    let at-if1 = c .before .before .before .before .before .before .before .before .before in
+    let at-good = at-if1 .before .before .before .before .before .before .before .before .before .before .before .before .before .before .before .before .before .before .before .before .before .before .before .before in
+    omega (arith, at-if1 .if1 .left, at-good .good)
 
 returns-4 : tie.Need-returns-4
 returns-4 c =
-    ran _ _ _ _ _ _ (c .before .before .before .before .before .before .before .before .before .before .before .before .before .before .before .before .before .before .before .before .before .before .before .before .before .before .before .bytes-line .ensures) (c .before .before .before .before .before .before .before .before .before .before .before .before .before .before .before .before .before .before .before .before .before .before .before .count .given .1) (c .before .before .before .before .before .before .before .before .before .before .before .before .before .before .before .before .before .before .before .before .bytes-line2 .ensures) (c .before .before .before .before .before .before .before .before .before .before .before .before .before .before .before .before .from .given .1) (c .before .before .before .before .before .before .before .before .before .before .before .before .before .bytes-line3 .ensures) (c .before .before .before .before .before .before .before .before .before .before .text-end .ensures) (c .before .before .before .before .before .before .before .before .before .if1 .left) (c .before .before .before .before .try-text .ensures)
+    let at-try-text = c .before .before .before .before in
+    let at-if1 = at-try-text .before .before .before .before .before in
+    let at-text-end = at-if1 .before in
+    let at-bytes-line3 = at-text-end .before .before .before in
+    let at-from = at-bytes-line3 .before .before .before in
+    let at-bytes-line2 = at-from .before .before .before .before in
+    let at-count = at-bytes-line2 .before .before .before in
+    let at-bytes-line = at-count .before .before .before .before in
+    ran _ _ _ _ _ _ (at-bytes-line .bytes-line .ensures) (at-count .count .given .1) (at-bytes-line2 .bytes-line2 .ensures) (at-from .from .given .1)
+    (at-bytes-line3 .bytes-line3 .ensures) (at-text-end .text-end .ensures) (at-if1 .if1 .left) (at-try-text .try-text .ensures)
 
 pub try-given-spec : {M : Type 1} → statement M
 try-given-spec =

@@ -21,18 +21,33 @@ loop-holds c =
 
 count-operands-requires : tie.Need-count-operands-requires Inv-loop μ-loop
 count-operands-requires c κs =
-    let a = c .before .before .before .before .before .before .args in
-    let l = c .before .before .before .loop in
+    let at-loop-test = c .before .before in
+    let at-loop = at-loop-test .before in
+    let at-start = at-loop .before .before .before in
+    let a = at-start .args in
+    let l = at-loop .loop in
     let s = l .inv .1 .same in
-    let r = c .before .before .before .before .before .before .pre .1 .room in
-    let f = c .before .before .before .before .before .before .pre .0 .most in
-    (formed-within (a .table .now) (a .nodes) (c .before .before .before .before .before .before .pre .0) (l .j) (c .node-at .result) (l .counts) (c .before .before .loop-test .taken) (omega arith) (c .node-at .ensures), used-small (take (a .nodes) (nodesIn (a .table .now))) (l .j) (length (a .counts .now)) (l .counts) (omega arith) (l .inv .1))
+    let r = at-start .pre .1 .room in
+    let f = at-start .pre .0 .most in (
+      formed-within (a .table .now) (a .nodes) (at-start .pre .0) (l .j) (c .node-at .result) (l .counts) (at-loop-test .loop-test .taken) (omega arith)
+          (c .node-at .ensures),
+      used-small (take (a .nodes) (nodesIn (a .table .now))) (l .j) (length (a .counts .now)) (l .counts) (omega arith) (l .inv .1),
+    )
 
 loop-again : tie.Need-loop-again Inv-loop μ-loop
 loop-again c =
-    let a = c .before .before .before .before .before .before .before .before .before .args in
-    let l = c .before .before .before .before .before .before .loop in
-    (omega arith, uses-turn (a .table .now) (a .nodes) (c .before .before .before .before .before .before .before .before .before .pre .0) (length (a .counts .now)) (l .j) (c .before .before .before .node-at .result) (l .counts) (c .before .before .count-operands .last .0) (c .before .before .before .before .before .loop-test .taken) (c .before .before .before .node-at .ensures) (l .inv .1) (c .before .before .count-operands .ensures))
+    let at-count-operands = c .before .before in
+    let at-node-at = at-count-operands .before in
+    let at-loop-test = at-node-at .before .before in
+    let at-loop = at-loop-test .before in
+    let at-start = at-loop .before .before .before in
+    let a = at-start .args in
+    let l = at-loop .loop in (
+      omega arith,
+      uses-turn (a .table .now) (a .nodes) (at-start .pre .0) (length (a .counts .now)) (l .j) (at-node-at .node-at .result) (l .counts)
+          (at-count-operands .count-operands .last .0) (at-loop-test .loop-test .taken) (at-node-at .node-at .ensures) (l .inv .1)
+          (at-count-operands .count-operands .ensures),
+    )
 
 returns : tie.Need-returns Inv-loop μ-loop
 returns c =

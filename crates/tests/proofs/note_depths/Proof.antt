@@ -42,9 +42,19 @@ spread-requires c κs =
 
 loop-again : tie.Need-loop-again Inv-loop μ-loop
 loop-again c =
-    let a = c .before .before .before .before .before .before .before .before .before .before .before .args in
-    let l = c .before .before .before .before .before .before .before .before .loop in
-    (omega arith, depths-turn (a .table .now) (a .nodes) (c .before .before .before .before .before .before .before .before .before .before .before .pre .0) (length (a .depths .now)) (l .j) (c .before .before .before .before .with-sym .result) (c .before .before .before .before .before .before .node-at .result) (l .depths) (c .before .before .spread .last .0) (c .before .before .before .before .before .before .before .loop-test .taken) (l .inv .0) (c .before .before .before .before .before .before .before .before .before .before .before .pre .1 .room) (c .before .before .before .before .before .before .node-at .ensures) (l .inv .1) (c .before .before .before .before .with-sym .ensures) (c .before .before .spread .ensures))
+    let at-spread = c .before .before in
+    let at-with-sym = at-spread .before .before in
+    let at-node-at = at-with-sym .before .before in
+    let at-loop-test = at-node-at .before in
+    let at-loop = at-loop-test .before in
+    let at-start = at-loop .before .before .before in
+    let a = at-start .args in
+    let l = at-loop .loop in (
+      omega arith,
+      depths-turn (a .table .now) (a .nodes) (at-start .pre .0) (length (a .depths .now)) (l .j) (at-with-sym .with-sym .result) (at-node-at .node-at .result)
+          (l .depths) (at-spread .spread .last .0) (at-loop-test .loop-test .taken) (l .inv .0) (at-start .pre .1 .room) (at-node-at .node-at .ensures)
+          (l .inv .1) (at-with-sym .with-sym .ensures) (at-spread .spread .ensures),
+    )
 
 returns : tie.Need-returns Inv-loop μ-loop
 returns c =

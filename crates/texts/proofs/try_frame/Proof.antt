@@ -24,16 +24,41 @@ returns-3 : tie.Need-returns-3
 returns-3 c = no-text _ _ _ _ (c .before .before .before .before .before .before .header-at .ensures) (c .before .before .before .before .length .given .1) (c .before .before .name-end .ensures) (c .before .if1 .left) (c .if2 .taken)
 
 returns-4 : tie.Need-returns-4
-returns-4 c = no-end _ _ _ _ (c .before .before .before .before .before .before .before .before .header-at .ensures) (c .before .before .before .before .before .before .length .given .1) (c .before .before .before .before .name-end .ensures) (c .before .before .before .if1 .left) (c .before .before .if2 .left) (c .if3 .taken)
+returns-4 c =
+    let at-if2 = c .before .before in
+    let at-if1 = at-if2 .before in
+    let at-name-end = at-if1 .before in
+    let at-length = at-name-end .before .before in
+    let at-header-at = at-length .before .before in
+    no-end _ _ _ _ (at-header-at .header-at .ensures) (at-length .length .given .1) (at-name-end .name-end .ensures) (at-if1 .if1 .left) (at-if2 .if2 .left)
+    (c .if3 .taken)
 
 returns-5 : tie.Need-returns-5
-returns-5 c = no-room _ _ _ _ (c .before .before .before .before .before .before .before .before .before .header-at .ensures) (c .before .before .before .before .before .before .before .length .given .1) (c .before .before .before .before .before .name-end .ensures) (c .before .before .before .before .if1 .left) (c .before .before .before .if2 .left) (c .before .if3 .left) (c .if4 .taken)
+returns-5 c =
+    let at-if3 = c .before in
+    let at-if2 = at-if3 .before .before in
+    let at-if1 = at-if2 .before in
+    let at-name-end = at-if1 .before in
+    let at-length = at-name-end .before .before in
+    let at-header-at = at-length .before .before in
+    no-room _ _ _ _ (at-header-at .header-at .ensures) (at-length .length .given .1) (at-name-end .name-end .ensures) (at-if1 .if1 .left)
+    (at-if2 .if2 .left) (at-if3 .if3 .left) (c .if4 .taken)
 
 slice-aggregate-try-text : tie.Need-slice-aggregate-try-text
 slice-aggregate-try-text c = sym (length-take-le _ _ (search needs))
 
 returns-6 : tie.Need-returns-6
-returns-6 c = framed _ _ _ _ (c .before .before .before .before .before .before .before .before .before .before .before .before .before .before .before .before .before .before .before .before .before .before .before .before .before .before .header-at .ensures) (c .before .before .before .before .before .before .before .before .before .before .before .before .before .before .before .before .before .before .before .before .before .before .before .before .length .given .1) (c .before .before .before .before .before .before .before .before .before .before .before .before .before .before .before .before .before .before .before .before .before .before .name-end .ensures) (c .before .before .before .before .before .before .before .before .before .before .before .before .before .before .before .before .before .before .before .before .before .if1 .left) (c .before .before .before .before .before .before .before .before .before .before .before .before .before .before .before .before .before .before .before .before .if2 .left) (c .before .before .before .before .before .before .before .before .before .before .before .before .before .before .before .before .before .before .if3 .left) (c .before .before .before .before .before .before .before .before .before .before .before .before .before .before .before .before .before .if4 .left) (c .before .before .before .before .before .before .before .before .try-text .ensures)
+returns-6 c =
+    let at-try-text = c .before .before .before .before .before .before .before .before in
+    let at-if4 = at-try-text .before .before .before .before .before .before .before .before .before in
+    let at-if3 = at-if4 .before in
+    let at-if2 = at-if3 .before .before in
+    let at-if1 = at-if2 .before in
+    let at-name-end = at-if1 .before in
+    let at-length = at-name-end .before .before in
+    let at-header-at = at-length .before .before in
+    framed _ _ _ _ (at-header-at .header-at .ensures) (at-length .length .given .1) (at-name-end .name-end .ensures) (at-if1 .if1 .left) (at-if2 .if2 .left)
+    (at-if3 .if3 .left) (at-if4 .if4 .left) (at-try-text .try-text .ensures)
 
 pub try-frame-spec : {M : Type 1} → statement M
 try-frame-spec =

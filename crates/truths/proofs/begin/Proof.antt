@@ -5,7 +5,15 @@ use Rattle.truths.proofs.begin.Statement.{statement}
 use Rattle.truths.proofs.begin.Tie as tie
 
 returns : tie.Need-returns
-returns c = let a = c .before .before .before .before .before .before .before .before .before .before .before .before .before .before .before .before .before .args in (c .before .before .before .before .before .before .before .before .before .before .evaluate .ensures, begun (a .space .now) (a .order .now) (a .numbers .now) (a .count) (a .n) (c .before .before .before .before .before .before .mark-changes .ensures) (c .before .before .list-rows .ensures))
+returns c =
+    let at-list-rows = c .before .before in
+    let at-mark-changes = at-list-rows .before .before .before .before in
+    let at-evaluate = at-mark-changes .before .before .before .before in
+    let at-start = at-evaluate .before .before .before .before .before .before .before in
+    let a = at-start .args in (
+      at-evaluate .evaluate .ensures,
+      begun (a .space .now) (a .order .now) (a .numbers .now) (a .count) (a .n) (at-mark-changes .mark-changes .ensures) (at-list-rows .list-rows .ensures),
+    )
 
 pub begin-spec : {M : Type 1} → statement M
 begin-spec =

@@ -15,6 +15,7 @@ use Rattle.terms.specs.Atoms.{foundOr, atomRowOf, atomLeft}
 use Rattle.terms.specs.Atoms.Made.{made-truth}
 use Rattle.terms.specs.Terms.{countIn, Space, pushed, Distinct, Grown, Added, symbolLimit}
 use Rattle.terms.specs.Terms.Laws.{grown-trans, added-refl, still-distinct, pushed-length, pushed-added, made-symbol}
+use Rattle.workspace.specs.Numbers.{freshPlace, freshLeft}
 use Rattle.workspace.specs.Paths.{Fresh}
 use Rattle.workspace.specs.Rules.{Ruled}
 use Rattle.workspace.specs.State.{nextIn, Means, wordRow, truthRow, otherSymbol, PathIn, Room}
@@ -104,8 +105,9 @@ module _ (ws : List ℕ) (room : Room ws 1) where
           notes = record { each = λ k l m. behind k (omega arith) };
         }
 
-    fresh-by : (t q : ℕ) → (Distinct numbered → Distinct left) → (Distinct numbered → Means left t q (symbol t (nextIn ws))) → Fresh t ws q left
-    fresh-by t q d m =
+    fresh-by : (t q : ℕ) → (Distinct numbered → Distinct left) → (Distinct numbered → Means left t q (symbol t (nextIn ws))) → q ≡ freshPlace t ws
+        → left ≡ freshLeft t ws → Fresh t ws q left
+    fresh-by t q d m eq el =
         record {
           ruled = numbered-ruled;
           means = λ x. m (numbered-distinct x);
@@ -113,32 +115,34 @@ module _ (ws : List ℕ) (room : Room ws 1) where
           condition = behind 725 (omega arith);
           writes = behind 726 (omega arith);
           most = omega (arith, a .most, numbered-count);
+          place-is = eq;
+          left-is = el;
         }
 
   fresh-symbol : nextIn ws < symbolLimit
   fresh-symbol = omega (arith, room .symbols)
 
   pub fresh-word : (t q : ℕ) (left : List ℕ) → t ≡ 0 → q ≡ countIn numbered → left ≡ pushed numbered 1 (nextIn ws) 0 → Fresh t ws q left
-  unfolding symbol
+  unfolding symbol freshPlace freshLeft
   fresh-word t q left e f g =
       rw (e, f, g)
       (fresh-by (pushed-length numbered-space 1 (nextIn ws) 0) (pushed-added numbered-space 1 (nextIn ws) 0) 0 (countIn numbered)
       (λ d. made-symbol numbered-space d (nextIn ws) 0 fresh-symbol .distinct)
-      (λ d. let m = made-symbol numbered-space d (nextIn ws) 0 fresh-symbol in wordRow (m .inside) (m .is)))
+      (λ d. let m = made-symbol numbered-space d (nextIn ws) 0 fresh-symbol in wordRow (m .inside) (m .is)) refl refl)
 
   pub fresh-truth : (t q : ℕ) (left : List ℕ) → t ≡ 1 → q ≡ atomRowOf numbered 8 (nextIn ws) (nextIn ws) → left ≡ atomLeft numbered 8 (nextIn ws) (nextIn ws)
       → Fresh t ws q left
-  unfolding symbol
+  unfolding symbol freshPlace freshLeft
   fresh-truth t q left e f g =
       let s = nextIn ws in
       rw (e, f, g)
       (fresh-by (atom-length numbered-space 8 s s) (atom-added numbered-space 8 s s) 1 (atomRowOf numbered 8 s s)
       (λ d. made-truth numbered-space d s (atomRowOf numbered 8 s s) (atomLeft numbered 8 s s) refl refl .distinct)
-      (λ d. let m = made-truth numbered-space d s (atomRowOf numbered 8 s s) (atomLeft numbered 8 s s) refl refl in truthRow (m .inside) (m .is)))
+      (λ d. let m = made-truth numbered-space d s (atomRowOf numbered 8 s s) (atomLeft numbered 8 s s) refl refl in truthRow (m .inside) (m .is)) refl refl)
 
   fresh-at : (t : ℕ) → Fresh (suc (suc t)) ws (2 * nextIn ws) numbered
-  unfolding symbol
-  fresh-at t = fresh-by refl (added-refl numbered 1) (suc (suc t)) (2 * nextIn ws) (λ d. d) (λ d. otherSymbol refl)
+  unfolding symbol freshPlace freshLeft
+  fresh-at t = fresh-by refl (added-refl numbered 1) (suc (suc t)) (2 * nextIn ws) (λ d. d) (λ d. otherSymbol refl) refl refl
 
   pub fresh-reference : (t : ℕ) → (t ≡ 0 → ⊥) → (t ≡ 1 → ⊥) → Fresh t ws (2 * nextIn ws) numbered
   fresh-reference zero m n = absurd (m refl)

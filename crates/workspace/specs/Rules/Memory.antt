@@ -7,7 +7,7 @@ use Prim.Native.Nat.{ℕ, suc, _+_, _*_, _-_, _≤_, _<_}
 use native.Mathlib.Omega.{arith}
 use lib.ListN.{length, getD, set, length-set}
 use lib.Seq.{getD-set-same, getD-set-other}
-use borrow.Author.Tests.{le-leb, lt-leb}
+use borrow.Author.Tests.{le-leb, lt-leb, lt-ltb, le-ltb}
 use Rattle.script.specs.Rows.{unaryForm, binaryForm, refOp, getOp, setOp}
 use Rattle.script.specs.declared.Refusal.the-variants.{WrongType, TooManyReferences, InconsistentLog}
 use Rattle.rules.specs.Paths.{Path, ends, taken, forget, consistent, lookup}
@@ -17,6 +17,7 @@ use Rattle.terms.specs.Terms.{countIn, Grown}
 use Rattle.terms.specs.Terms.Laws.{grown-trans, still-distinct}
 use Rattle.workspace.specs.Log.{consistentOn, lookupOn, written, FoundAs, found-none, found-some, emptied}
 use Rattle.workspace.specs.Log.Laws.{consistent-is, lookup-is, written-grown, written-before, written-ruled, written-path}
+use Rattle.workspace.specs.Numbers.{consistentIn, gotGives, unaryGives, oneGives, binaryGives, twoGives}
 use Rattle.workspace.specs.Paths.{Fresh}
 use Rattle.workspace.specs.Paths.Conditions.{ruled-refl}
 use Rattle.workspace.specs.Paths.Symbols.{fresh-reference}
@@ -70,27 +71,29 @@ set-yields n q u s {ws} x {p = p} (refers {c = c}) m k h =
 
 module _ (n t q u s : ℕ) {ws : List ℕ} where
   pub set-wrong : t < 2 → Two (binaryForm setOp) n t q u s ws (Stopped (WrongType n)) ws
-  unfolding twoExec
-  set-wrong l = record { ruled = ruled-refl ws; yields = λ v w p m k h. set-refused n w p (no-reference l m) }
+  unfolding twoExec twoGives binaryGives
+  set-wrong l = record { ruled = ruled-refl ws; yields = λ v w p m k h. set-refused n w p (no-reference l m); exactly = rw (lt-ltb t 2 l) refl }
 
   pub set-made : 2 ≤ t → Room ws 1 → {left : List ℕ} → left ≡ written ws t q u s → Two (binaryForm setOp) n t q u s ws (Gave u s) left
-  unfolding twoExec
+  unfolding twoExec twoGives binaryGives
   set-made l x e =
       rw e
       (record {
         ruled = written-ruled ws t q u s (x .lent) (omega (arith, x .writes)) (omega (arith, x .rows));
         yields = λ v w p m k h. set-yields n q u s x (refer l m) m k h;
+        exactly = rw (le-ltb t 2 l) refl;
       })
 
 -- ---- `ref`
 
 module _ (n t q : ℕ) {ws : List ℕ} where
   pub ref-wrong : 30 ≤ t → One (unaryForm refOp) n t q ws (Stopped (TooManyReferences n)) ws
-  unfolding oneExec unaryExec
+  unfolding oneExec unaryExec oneGives unaryGives
   ref-wrong l =
       record {
         ruled = ruled-refl ws;
         yields = λ v p m h. rw (means-type m, lt-leb (suc (suc t)) 31 (omega arith)) stopping;
+        exactly = rw (le-ltb t 30 l) refl;
       }
 
   module _ (x : Room ws 1) (l : t < 30) where
@@ -142,13 +145,14 @@ module _ (n t q : ℕ) {ws : List ℕ} where
         (means-kept (fresh .ruled .went .grown) m)))
 
     pub ref-made : {zs : List ℕ} → zs ≡ left → One (unaryForm refOp) n t q ws (Gave (t + 2) (2 * nextIn ws + 1)) zs
-    unfolding oneExec
+    unfolding oneExec oneGives unaryGives
     ref-made e =
         rw e
         (record {
           ruled = ruled-then (fresh .ruled .depth) (fresh .ruled .notes)
               (written-ruled numbered (t + 2) (2 * nextIn ws + 1) t q ref-lent ref-few ref-rows) ref-went;
           yields = ref-yields;
+          exactly = rw (lt-ltb t 30 l) refl;
         })
 
 -- ---- what is found, and fresh symbols
@@ -204,25 +208,36 @@ get-nothing n q {ws} {left} {i = i} p e h (refers {o = o} {c = c} {s = s}) m d z
 
 module _ (n t q : ℕ) {ws : List ℕ} where
   pub get-wrong : t < 2 → One (unaryForm getOp) n t q ws (Stopped (WrongType n)) ws
-  unfolding oneExec
-  get-wrong l = record { ruled = ruled-refl ws; yields = λ v p m h. get-refused n p (no-reference l m) }
+  unfolding oneExec oneGives unaryGives
+  get-wrong l = record { ruled = ruled-refl ws; yields = λ v p m h. get-refused n p (no-reference l m); exactly = rw (lt-ltb t 2 l) refl }
 
   module _ (l : 2 ≤ t) {b : Bool} (e : b ≡ consistentOn ws (startIn ws) 0 (writesIn ws - startIn ws)) where
     log-is : {p : Path} {c : Bool} → PathIn ws p → b ≡ c → consistent p ≡ c
     log-is h z = sym (consistent-is (h .log)) ∙ sym e ∙ z
 
     pub get-stopped : b ≡ false → One (unaryForm getOp) n t q ws (Stopped (InconsistentLog n)) ws
-    unfolding oneExec
-    get-stopped z = record { ruled = ruled-refl ws; yields = λ v p m h. get-inconsistent n p (log-is h z) (refer l m) }
+    unfolding oneExec oneGives unaryGives
+    get-stopped z =
+        record { ruled = ruled-refl ws; yields = λ v p m h. get-inconsistent n p (log-is h z) (refer l m); exactly = rw (le-ltb t 2 l, sym e ∙ z) refl }
 
     module _ (z : b ≡ true) {f : Found} (d : f ≡ lookupOn ws (startIn ws) q (writesIn ws - startIn ws)) where
       pub get-value : {u i : ℕ} → f ≡ Value u i → One (unaryForm getOp) n t q ws (Gave u i) ws
-      unfolding oneExec
-      get-value y = record { ruled = ruled-refl ws; yields = λ v p m h. get-found n q p (log-is h z) h (refer l m) m (sym d) y }
+      unfolding oneExec oneGives unaryGives gotGives
+      get-value y =
+          record {
+            ruled = ruled-refl ws;
+            yields = λ v p m h. get-found n q p (log-is h z) h (refer l m) m (sym d) y;
+            exactly = rw (le-ltb t 2 l, sym e ∙ z, sym d ∙ y) refl;
+          }
 
       pub get-fresh : f ≡ Nothing → {i : ℕ} {left : List ℕ} → Fresh (t - 2) ws i left → One (unaryForm getOp) n t q ws (Gave (t - 2) i) left
-      unfolding oneExec
-      get-fresh y x = record { ruled = x .ruled; yields = λ v p m h. get-nothing n q p (log-is h z) h (refer l m) m (sym d) y x }
+      unfolding oneExec oneGives unaryGives gotGives
+      get-fresh y x =
+          record {
+            ruled = x .ruled;
+            yields = λ v p m h. get-nothing n q p (log-is h z) h (refer l m) m (sym d) y x;
+            exactly = rw (le-ltb t 2 l, sym e ∙ z, sym d ∙ y, x .place-is, x .left-is) refl;
+          }
 
 -- ---- after a typed block
 
@@ -233,6 +248,7 @@ module _ (n t : ℕ) {ws : List ℕ} {b : Bool} (e : b ≡ consistentOn ws (star
       record {
         ruled = ruled-refl ws;
         yields = λ p h. rw (sym (consistent-is (h .log)) ∙ sym e ∙ z) stopping;
+        exactly = rw (sym e ∙ z) refl;
       }
 
   -- no write counts any more
@@ -281,4 +297,5 @@ module _ (n t : ℕ) {ws : List ℕ} {b : Bool} (e : b ≡ consistentOn ws (star
           ruled = ruled-then (emptied-other 728 λ e. omega arith) (record { each = λ k l h. emptied-other k λ z. omega arith }) (y .ruled)
               (went-trans (omega arith) emptied-went (y .ruled .went));
           yields = λ p h. rw (sym (consistent-is (h .log)) ∙ sym e ∙ z) (fresh-yields t t refl y (emptied-path h));
+          exactly = rw (sym e ∙ z, y .place-is, y .left-is) refl;
         }

@@ -1,11 +1,12 @@
 -- The rules of operators on rows: what each makes, and where it refuses. Assumes nothing.
-use mathlib.Core.Bool.{true, false}
+use mathlib.Core.Bool.{Bool, true, false}
 use mathlib.Core.List.{List}
 use mathlib.Core.Path.{_≡_, refl, sym, ap, _∙_}
-use Prim.Native.Nat.{ℕ, suc, _+_, _*_, _≤_, _<_}
+use Prim.Native.Nat.{ℕ, zero, suc, _+_, _*_, _≤_, _<_}
 use native.Mathlib.Omega.{arith}
 use lib.ListN.{length, getD}
-use borrow.Author.Tests.{eq-eqb, ne-eqb}
+use lib.Dec.{eqb}
+use borrow.Author.Tests.{eqb-true, lt-ltb, le-ltb, eq-eqb, ne-eqb}
 use Rattle.script.specs.Code.Forms.{formOf, form-plain, plain-but, plain-all}
 use Rattle.script.specs.Rows.{varForm, unaryForm, binaryForm, rows, rowOf, notOp, addOp, eqOp, andOp}
 use Rattle.script.specs.declared.Refusal.the-variants.{WrongType, UnknownVariable}
@@ -20,6 +21,7 @@ use Rattle.terms.specs.Terms.Laws.{pushed-length, pushed-added, made-number, ma
 use Rattle.words.specs.Words.{Words, equalRow, equalLeft}
 use Rattle.words.specs.Words.Laws.{equal-length, words-asked}
 use Rattle.words.specs.Words.Made.{made-equal}
+use Rattle.workspace.specs.Numbers.{Outcome, gives, leafGives, unaryGives, oneGives, equalPlace, equalNumbers, bothOf, binaryGives, twoGives}
 use Rattle.workspace.specs.Paths.Conditions.{ruled-refl}
 use Rattle.workspace.specs.Rules.{leafExec, oneExec, twoExec, Ruled, Leaf, One, Two, Operable}
 use Rattle.workspace.specs.State.{Means, wordRow, truthRow, madeSymbol, otherSymbol, PathIn, Room, Yields, ending, stopping}
@@ -60,23 +62,25 @@ pushed-ruled s op a b e = rw e (added-ruled (pushed-length s op a b) (pushed-add
 
 module _ (n a depth : ℕ) {ws left : List ℕ} {r : ℕ} (q : Room ws 1) (er : r ≡ countIn ws) where
   pub leaf-int : (k : ℕ) → k ≡ 0 → left ≡ pushed ws 0 a 0 → Leaf (formOf k) n a depth ws (Gave 0 r) left
-  unfolding leafExec formOf rowOf rows
+  unfolding leafExec leafGives formOf rowOf rows
   leaf-int k z e =
       record {
         ruled = pushed-ruled (room-space q) 0 a 0 e;
         yields = λ env p s. rw (z, er, e) (word-yields (made-number (room-space q) (s .path .distinct) a 0) (s .path));
+        exactly = rw (z, er, e) refl;
       }
 
   pub leaf-true : (k : ℕ) → k ≡ 1 → left ≡ pushed ws 3 1 0 → Leaf (formOf k) n a depth ws (Gave 1 r) left
-  unfolding leafExec formOf rowOf rows
+  unfolding leafExec leafGives formOf rowOf rows
   leaf-true k z e =
       record {
         ruled = pushed-ruled (room-space q) 3 1 0 e;
         yields = λ env p s. rw (z, er, e) (truth-yields (made-constant (room-space q) (s .path .distinct) true 0) (s .path));
+        exactly = rw (z, er, e) refl;
       }
 
   pub leaf-other : (k : ℕ) → (k ≡ 0 → ⊥) → (k ≡ 1 → ⊥) → (k ≡ 3 → ⊥) → left ≡ pushed ws 3 0 0 → Leaf (formOf k) n a depth ws (Gave 1 r) left
-  unfolding leafExec rows
+  unfolding leafExec leafGives rows
   leaf-other k d₀ d₁ d₃ e =
       record {
         ruled = pushed-ruled (room-space q) 3 0 0 e;
@@ -88,23 +92,33 @@ module _ (n a depth : ℕ) {ws left : List ℕ} {r : ℕ} (q : Room ws 1) (er : 
               e,
             )
             (truth-yields (made-constant (room-space q) (s .path .distinct) false 0) (s .path));
+        exactly =
+            rw (
+              form-plain (λ f. leafGives f n a depth ws) k
+                  (plain-but 0 _ _ k d₀ λ i y. plain-but 0 _ _ i (λ z. d₁ (omega arith)) λ j g. plain-but 1 _ _ j (λ z. d₃ (omega arith)) λ l h. plain-all 11 l),
+              er,
+              e,
+            )
+            refl;
       }
 
 module _ (n k depth : ℕ) (ws : List ℕ) where
   pub variable-found : k < depth → Leaf varForm n k depth ws (Gave (getD ws (2 * k) 0) (getD ws (2 * k + 1) 0)) ws
-  unfolding leafExec variable
+  unfolding leafExec leafGives variable
   variable-found l =
       record {
         ruled = ruled-refl ws;
         yields = λ env p s. let a = variables-at k l (s .variables) in rw (a .found) (ending (a .means) (s .path));
+        exactly = rw (lt-ltb k depth l) refl;
       }
 
   pub variable-unknown : depth ≤ k → Leaf varForm n k depth ws (Stopped (UnknownVariable n)) ws
-  unfolding leafExec variable
+  unfolding leafExec leafGives variable
   variable-unknown l =
       record {
         ruled = ruled-refl ws;
         yields = λ env p s. let e = variables-length (s .variables) in rw (none-at env k (omega arith)) stopping;
+        exactly = rw (le-ltb k depth l) refl;
       }
 
 -- ---- one operand
@@ -123,16 +137,17 @@ a-truth n s er e h (truthRow l f) = rw (er, e) (truth-yields (made-negation s (h
 
 module _ (n t q : ℕ) {ws : List ℕ} where
   pub negation-wrong : (t ≡ 1 → ⊥) → One (unaryForm notOp) n t q ws (Stopped (WrongType n)) ws
-  unfolding oneExec
-  negation-wrong d = record { ruled = ruled-refl ws; yields = λ v p m h. not-a-truth n p d m }
+  unfolding oneExec oneGives unaryGives
+  negation-wrong d = record { ruled = ruled-refl ws; yields = λ v p m h. not-a-truth n p d m; exactly = rw (ne-eqb t 1 d) refl }
 
   pub negation-made : t ≡ 1 → Room ws 1 → {left : List ℕ} {r : ℕ} → r ≡ countIn ws → left ≡ pushed ws 4 q 0
       → One (unaryForm notOp) n t q ws (Gave 1 r) left
-  unfolding oneExec
+  unfolding oneExec oneGives unaryGives
   negation-made z s er e =
       record {
         ruled = pushed-ruled (room-space s) 4 q 0 e;
         yields = λ v p m h. a-truth n (room-space s) er e h (rw z at m);
+        exactly = rw (eq-eqb t 1 z, er, e) refl;
       }
 
 -- ---- two operands
@@ -224,45 +239,64 @@ references-added : {ws left : List ℕ} {t q s : ℕ} {v w : Symbolic} → Space
 references-added {ws} x d e (is-place {s = a} {o = o} f) (is-place {s = b} {o = u} g) =
     made-references x d o a u b (referencesRow ws (placeOf o a) (placeOf u b)) _ refl (rw (f, g) at e) .added
 
+-- one of the two is of another type
+not-both : (k n t u : ℕ) (ws : List ℕ) (o : Outcome) → (t ≡ k → u ≡ k → ⊥) → bothOf k n t u ws o ≡ gives (Stopped (WrongType n)) ws
+not-both k n t u ws o d = by (eqb t k) refl (eqb u k) refl
+  where
+    by : (a : Bool) → eqb t k ≡ a → (b : Bool) → eqb u k ≡ b → bothOf k n t u ws o ≡ gives (Stopped (WrongType n)) ws
+    by true e true f = absurd (d (eqb-true t k e) (eqb-true u k f))
+    by true e false f = rw (e, f) refl
+    by false e b f = rw e refl
+
+-- the type is one of a reference
+equal-place : (t q s : ℕ) (ws : List ℕ) → 2 ≤ t → (equalPlace t q s ws ≡ referencesRow ws q s) × (equalNumbers t q s ws ≡ referencesLeft ws q s)
+unfolding equalPlace equalNumbers
+equal-place zero q s ws l = absurd (omega arith)
+equal-place (suc zero) q s ws l = absurd (omega arith)
+equal-place (suc (suc t)) q s ws l = (refl, refl)
+
 word-inside : {ws : List ℕ} {q : ℕ} {v : Symbolic} → Means ws 0 q v → q < countIn ws
 word-inside (wordRow l f) = l
 
 module _ (n t q u s : ℕ) {ws : List ℕ} where
   pub sum-wrong : (t ≡ 0 → u ≡ 0 → ⊥) → Two (binaryForm addOp) n t q u s ws (Stopped (WrongType n)) ws
-  unfolding twoExec
-  sum-wrong d = record { ruled = ruled-refl ws; yields = λ v w p m k h. no-word n p d m k }
+  unfolding twoExec twoGives binaryGives
+  sum-wrong d = record { ruled = ruled-refl ws; yields = λ v w p m k h. no-word n p d m k; exactly = sym (not-both 0 n t u ws _ d) }
 
   pub conjunction-wrong : (t ≡ 1 → u ≡ 1 → ⊥) → Two (binaryForm andOp) n t q u s ws (Stopped (WrongType n)) ws
-  unfolding twoExec
-  conjunction-wrong d = record { ruled = ruled-refl ws; yields = λ v w p m k h. no-truth n p d m k }
+  unfolding twoExec twoGives binaryGives
+  conjunction-wrong d = record { ruled = ruled-refl ws; yields = λ v w p m k h. no-truth n p d m k; exactly = sym (not-both 1 n t u ws _ d) }
 
   pub equality-wrong : (t ≡ u → ⊥) → Two (binaryForm eqOp) n t q u s ws (Stopped (WrongType n)) ws
-  unfolding twoExec
-  equality-wrong d = record { ruled = ruled-refl ws; yields = λ v w p m k h. other-types n p d m k }
+  unfolding twoExec twoGives binaryGives
+  equality-wrong d = record { ruled = ruled-refl ws; yields = λ v w p m k h. other-types n p d m k; exactly = rw (ne-eqb t u d) refl }
 
   module _ {left : List ℕ} {r : ℕ} (x : Room ws 1) where
     pub sum-made : t ≡ 0 → u ≡ 0 → r ≡ countIn ws → left ≡ pushed ws 2 q s → Two (binaryForm addOp) n t q u s ws (Gave 0 r) left
-    unfolding twoExec
+    unfolding twoExec twoGives binaryGives
     sum-made a b er e =
         record {
           ruled = pushed-ruled (room-space x) 2 q s e;
           yields = λ v w p m k h. two-words n (room-space x) er e h (rw a at m) (rw b at k);
+          exactly = rw (eq-eqb t 0 a, eq-eqb u 0 b, er, e) refl;
         }
 
     pub conjunction-made : t ≡ 1 → u ≡ 1 → r ≡ countIn ws → left ≡ pushed ws 5 q s → Two (binaryForm andOp) n t q u s ws (Gave 1 r) left
-    unfolding twoExec
+    unfolding twoExec twoGives binaryGives
     conjunction-made a b er e =
         record {
           ruled = pushed-ruled (room-space x) 5 q s e;
           yields = λ v w p m k h. two-truths n (room-space x) er e h (rw a at m) (rw b at k);
+          exactly = rw (eq-eqb t 1 a, eq-eqb u 1 b, er, e) refl;
         }
 
     pub truths-equal : t ≡ 1 → t ≡ u → r ≡ countIn ws → left ≡ pushed ws 6 q s → Two (binaryForm eqOp) n t q u s ws (Gave 1 r) left
-    unfolding twoExec
+    unfolding twoExec twoGives binaryGives equalPlace equalNumbers
     truths-equal a b er e =
         record {
           ruled = pushed-ruled (room-space x) 6 q s e;
           yields = λ v w p m k h. same-truths n (room-space x) er e h (rw a at m) (rw (sym b ∙ a) at k);
+          exactly = rw (eq-eqb t u b, a, er, e) refl;
         }
 
   pub words-required : Operable ws t q u s → t ≡ 0 → t ≡ u → Words ws q s
@@ -271,29 +305,31 @@ module _ (n t q u s : ℕ) {ws : List ℕ} where
 
   module _ {left : List ℕ} {r : ℕ} (x : Operable ws t q u s) where
     pub words-equal : t ≡ 0 → t ≡ u → r ≡ equalRow ws q s → left ≡ equalLeft ws q s → Two (binaryForm eqOp) n t q u s ws (Gave 1 r) left
-    unfolding twoExec
+    unfolding twoExec twoGives binaryGives equalPlace equalNumbers
     words-equal a b er e =
         record {
           ruled =
               added-ruled (ap length e ∙ equal-length ws q s)
               (words-added (room-space (x .room)) (x .distinct) e (rw a at (x .first .means)) (rw (sym b ∙ a) at (x .second .means)));
           yields = λ v w p m k h. same-words n (room-space (x .room)) er e h (rw a at m) (rw (sym b ∙ a) at k);
+          exactly = rw (eq-eqb t u b, a, er, e) refl;
         }
 
     pub references-equal : 2 ≤ t → t ≡ u → r ≡ referencesRow ws q s → left ≡ referencesLeft ws q s → Two (binaryForm eqOp) n t q u s ws (Gave 1 r) left
-    unfolding twoExec
+    unfolding twoExec twoGives binaryGives
     references-equal a b er e =
         record {
           ruled =
               added-ruled (ap length e ∙ references-length ws q s)
               (references-added (room-space (x .room)) (x .distinct) e (place-of a (x .first .means)) (place-of a (rw (sym b) at (x .second .means))));
           yields = λ v w p m k h. same-references n (room-space (x .room)) er e h (place-of a m) (place-of a (rw (sym b) at k));
+          exactly = let i = equal-place t q s ws a in rw (eq-eqb t u b, i .0, i .1, er, e) refl;
         }
 
 -- ---- all kinds but some
 
 pub one-other : (n t q k : ℕ) {ws : List ℕ} → (k ≡ 6 → ⊥) → (k ≡ 10 → ⊥) → (k ≡ 11 → ⊥) → One (formOf k) n t q ws (Gave t q) ws
-unfolding oneExec rows
+unfolding oneExec oneGives rows
 one-other n t q k {ws} d₆ d₁₀ d₁₁ =
     record {
       ruled = ruled-refl ws;
@@ -302,10 +338,15 @@ one-other n t q k {ws} d₆ d₁₀ d₁₁ =
           (form-plain (λ f. oneExec f n v p) k
           (plain-but 6 _ _ k d₆ λ i e. plain-but 3 _ _ i (λ z. d₁₀ (omega arith)) λ j g. plain-but 0 _ _ j (λ z. d₁₁ (omega arith)) λ l y. plain-all 3 l))
           (ending m h);
+      exactly =
+          rw
+          (form-plain (λ f. oneGives f n t q ws) k
+          (plain-but 6 _ _ k d₆ λ i e. plain-but 3 _ _ i (λ z. d₁₀ (omega arith)) λ j g. plain-but 0 _ _ j (λ z. d₁₁ (omega arith)) λ l y. plain-all 3 l))
+          refl;
     }
 
 pub two-other : (n t q u s k : ℕ) {ws : List ℕ} → (k ≡ 4 → ⊥) → (k ≡ 5 → ⊥) → (k ≡ 7 → ⊥) → (k ≡ 12 → ⊥) → Two (formOf k) n t q u s ws (Gave u s) ws
-unfolding twoExec rows
+unfolding twoExec twoGives rows
 two-other n t q u s k {ws} d₄ d₅ d₇ d₁₂ =
     record {
       ruled = ruled-refl ws;
@@ -315,4 +356,10 @@ two-other n t q u s k {ws} d₄ d₅ d₇ d₁₂ =
           (plain-but 4 _ _ k d₄ λ i e. plain-but 0 _ _ i (λ z. d₅ (omega arith)) λ j g. plain-but 1 _ _ j (λ z. d₇ (omega arith)) λ l y.
           plain-but 4 _ _ l (λ z. d₁₂ (omega arith)) λ o z. plain-all 2 o))
           (ending x h);
+      exactly =
+          rw
+          (form-plain (λ f. twoGives f n t q u s ws) k
+          (plain-but 4 _ _ k d₄ λ i e. plain-but 0 _ _ i (λ z. d₅ (omega arith)) λ j g. plain-but 1 _ _ j (λ z. d₇ (omega arith)) λ l y.
+          plain-but 4 _ _ l (λ z. d₁₂ (omega arith)) λ o z. plain-all 2 o))
+          refl;
     }

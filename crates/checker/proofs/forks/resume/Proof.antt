@@ -35,30 +35,56 @@ mul-without-guard c =
 
 slice-read-without-guard : tie.Need-slice-read-without-guard
 slice-read-without-guard c =
-    let i = rewound-restorable (c .before .before .before .before .before .before .before .before .before .before .before .before .before .before .before .before .before .before .pre) (c .before .before .before .before .before .before .before .before .before .before .before .before .rewind .ensures) in
+    let at-rewind = c .before .before .before .before .before .before .before .before .before .before .before .before in
+    let at-start = at-rewind .before .before .before .before .before .before in
+    let i = rewound-restorable (at-start .pre) (at-rewind .rewind .ensures) in
     omega (arith, i .inside, i .framed)
 
 without-guard-requires : tie.Need-without-guard-requires
-without-guard-requires c κs = (guard-space (c .before .before .before .before .before .before .before .before .before .before .before .before .before .before .before .before .before .before .pre) (c .before .before .before .before .before .before .before .before .before .before .before .before .rewind .ensures) (c .before .before .before .before .before .restore .ensures), guard-lent (c .before .before .before .before .before .before .before .before .before .before .before .before .before .before .before .before .before .before .pre) (c .before .before .before .before .before .before .before .before .before .before .before .before .rewind .ensures) (c .before .before .before .before .before .restore .ensures))
+without-guard-requires c κs =
+    let at-restore = c .before .before .before .before .before in
+    let at-rewind = at-restore .before .before .before .before .before .before .before in
+    let at-start = at-rewind .before .before .before .before .before .before in (
+      guard-space (at-start .pre) (at-rewind .rewind .ensures) (at-restore .restore .ensures),
+      guard-lent (at-start .pre) (at-rewind .rewind .ensures) (at-restore .restore .ensures),
+    )
 
 mul-node-at : tie.Need-mul-node-at
 mul-node-at c =
-    let i = rewound-restorable (c .before .before .before .before .before .before .before .before .before .before .before .before .before .before .before .before .before .before .before .before .before .pre) (c .before .before .before .before .before .before .before .before .before .before .before .before .before .before .before .rewind .ensures) in
+    let at-rewind = c .before .before .before .before .before .before .before .before .before .before .before .before .before .before .before in
+    let at-start = at-rewind .before .before .before .before .before .before in
+    let i = rewound-restorable (at-start .pre) (at-rewind .rewind .ensures) in
     omega (arith, i .inside, i .framed)
 
 slice-read-node-at : tie.Need-slice-read-node-at
 slice-read-node-at c =
-    let i = rewound-restorable (c .before .before .before .before .before .before .before .before .before .before .before .before .before .before .before .before .before .before .before .before .before .before .pre) (c .before .before .before .before .before .before .before .before .before .before .before .before .before .before .before .before .rewind .ensures) in
+    let at-rewind = c .before .before .before .before .before .before .before .before .before .before .before .before .before .before .before .before in
+    let at-start = at-rewind .before .before .before .before .before .before in
+    let i = rewound-restorable (at-start .pre) (at-rewind .rewind .ensures) in
     omega (arith, i .inside, i .framed)
 
 cast-node-at : tie.Need-cast-node-at
-cast-node-at c = record { fits = omega (arith, branch-few (c .before .before .before .before .before .before .before .before .before .before .before .before .before .before .before .before .before .before .before .before .before .before .pre) (c .before .before .before .before .before .before .before .before .before .before .before .before .before .before .before .before .rewind .ensures) (c .before .before .before .before .before .before .before .before .before .restore .ensures)) }
+cast-node-at c =
+    let at-restore = c .before .before .before .before .before .before .before .before .before in
+    let at-rewind = at-restore .before .before .before .before .before .before .before in
+    let at-start = at-rewind .before .before .before .before .before .before in
+    record { fits = omega (arith, branch-few (at-start .pre) (at-rewind .rewind .ensures) (at-restore .restore .ensures)) }
 
 node-at-requires : tie.Need-node-at-requires
-node-at-requires c κs = branch-node (c .before .before .before .before .before .before .before .before .before .before .before .before .before .before .before .before .before .before .before .before .before .before .pre) (c .before .before .before .before .before .before .before .before .before .before .before .before .before .before .before .before .rewind .ensures) (c .before .before .before .before .before .before .before .before .before .restore .ensures)
+node-at-requires c κs =
+    let at-restore = c .before .before .before .before .before .before .before .before .before in
+    let at-rewind = at-restore .before .before .before .before .before .before .before in
+    let at-start = at-rewind .before .before .before .before .before .before in
+    branch-node (at-start .pre) (at-rewind .rewind .ensures) (at-restore .restore .ensures)
 
 returns : tie.Need-returns
-returns c = rw (c .node-at .ensures) (resumed (c .before .before .before .before .before .before .before .before .before .before .before .before .before .before .before .before .before .before .before .before .before .before .before .pre) (c .before .before .before .before .before .before .before .before .before .before .before .before .before .before .before .before .before .rewind .ensures) (c .before .before .before .before .before .before .before .before .before .before .restore .ensures) (c .before .before .before .before .without-guard .ensures))
+returns c =
+    let at-without-guard = c .before .before .before .before in
+    let at-restore = at-without-guard .before .before .before .before .before .before in
+    let at-rewind = at-restore .before .before .before .before .before .before .before in
+    let at-start = at-rewind .before .before .before .before .before .before in
+    rw (c .node-at .ensures)
+    (resumed (at-start .pre) (at-rewind .rewind .ensures) (at-restore .restore .ensures) (at-without-guard .without-guard .ensures))
 
 pub resume-spec : {M : Type 1} → statement M
 resume-spec =

@@ -53,7 +53,7 @@ use Rattle.checker.proofs.nodes.walk.Kinds as walk-kinds
 use Rattle.checker.proofs.nodes.+arrive+block_type+block_up+check_node+check_several+operand_type+paths+walk.Lts-walk as walk-lts
 use Rattle.checker.proofs.nodes.copied.Reads as copied-reads
 use Rattle.checker.proofs.nodes.path_end.Reads as path-end-reads
-use Rattle.checker.proofs.operators.typed_result.Reads as typed-result-reads
+use Rattle.symbolic.proofs.typed_result.Reads as typed-result-reads
 use Rattle.checker.proofs.path.start.Reads as start-reads
 use Rattle.checker.proofs.steps.climb.Reads as climb-reads
 use Rattle.checker.proofs.steps.leaf_up.Reads as leaf-up-reads
@@ -313,9 +313,15 @@ block-up-typed-result-requires t c κs =
 
 block-up-climb-requires : (t : ℕ) → block-up-lts.Need-climb-requires (block-up-calls t) (block-up-at t) block-up.Post
 block-up-climb-requires t c κs =
-    let s = c .before .before .before .before .before .before .before .before .before .before .before .before .before .before .before .before .before .before .before .before .before .pre in
-    let b = rw (c .before .before .before .before .before .before .before .before .before .before .before .before .before .before .before .before .before .node-at .ensures) at (c .before .before .before .before .before .before .before .before .before .before .before .before .before .before .block-type .ensures) in
-    up-returnable (s .1 .0) (s .1 .1) b (c .before .before .before .before .before .before .before .before .before .before .t .given .1) (c .before .before .before .before .before .before .before .typed-result .ensures) (c .before .before .before .u .given .1)
+    let at-u = c .before .before .before in
+    let at-typed-result = at-u .before .before .before .before in
+    let at-t = at-typed-result .before .before .before in
+    let at-block-type = at-t .before .before .before .before in
+    let at-node-at = at-block-type .before .before .before in
+    let at-start = at-node-at .before .before .before .before in
+    let s = at-start .pre in
+    let b = rw (at-node-at .node-at .ensures) at (at-block-type .block-type .ensures) in
+    up-returnable (s .1 .0) (s .1 .1) b (at-t .t .given .1) (at-typed-result .typed-result .ensures) (at-u .u .given .1)
 
 block-up-returns : (t : ℕ) → block-up-lts.Need-returns (block-up-calls t) (block-up-at t) block-up.Post
 block-up-returns t c =
@@ -331,9 +337,16 @@ block-up-returns-2 t c =
 
 block-up-returns-3 : (t : ℕ) → block-up-lts.Need-returns-3 (block-up-calls t) (block-up-at t) block-up.Post
 block-up-returns-3 t c =
-    let s = c .before .before .before .before .before .before .before .before .before .before .before .before .before .before .before .before .before .before .before .before .before .before .before .before .before .before .pre in
-    let b = rw (c .before .before .before .before .before .before .before .before .before .before .before .before .before .before .before .before .before .before .before .before .before .before .node-at .ensures) at (c .before .before .before .before .before .before .before .before .before .before .before .before .before .before .before .before .before .before .before .block-type .ensures) in
-    up-climbing (s .1 .0) (s .1 .1) b (c .before .before .before .before .before .before .before .before .before .before .before .before .before .before .before .t .given .1) (c .before .before .before .before .before .before .before .before .before .before .before .before .typed-result .ensures) (c .before .before .before .before .before .before .before .before .u .given .1) (c .before .before .before .before .climb .ensures)
+    let at-climb = c .before .before .before .before in
+    let at-u = at-climb .before .before .before .before in
+    let at-typed-result = at-u .before .before .before .before in
+    let at-t = at-typed-result .before .before .before in
+    let at-block-type = at-t .before .before .before .before in
+    let at-node-at = at-block-type .before .before .before in
+    let at-start = at-node-at .before .before .before .before in
+    let s = at-start .pre in
+    let b = rw (at-node-at .node-at .ensures) at (at-block-type .block-type .ensures) in
+    up-climbing (s .1 .0) (s .1 .1) b (at-t .t .given .1) (at-typed-result .typed-result .ensures) (at-u .u .given .1) (at-climb .climb .ensures)
 
 check-node-node-at-requires : (t : ℕ) → check-node-lts.Need-node-at-requires (check-node-calls t) (check-node-at t) check-node.Post
 check-node-node-at-requires t c κs = omega (arith, c .before .before .pre .1 .formed .room)
@@ -450,29 +463,51 @@ check-several-operand-type-requires-3 t c κs =
 
 check-several-returns : (t : ℕ) → check-several-lts.Need-returns (check-several-calls t) (check-several-at t) check-several.Post
 check-several-returns t c =
-    let s = c .before .before .before .before .before .before .before .before .before .before .before .before .before .before .before .before .before .before .before .before .before .before .before .before .before .before .before .before .before .before .pre in
+    let at-why3 = c .before in
+    let at-operand-type3 = at-why3 .before .before .before .before in
+    let at-if1 = at-operand-type3 .before .before in
+    let at-u = at-if1 .before .before .before in
+    let at-operand-type2 = at-u .before .before .before .before in
+    let at-bind-type = at-operand-type2 .before .before .before .before in
+    let at-t = at-bind-type .before .before .before in
+    let at-operand-type = at-t .before .before .before .before in
+    let at-node-at = at-operand-type .before .before in
+    let at-start = at-node-at .before .before .before in
+    let s = at-start .pre in
     let q = s .1 .0 in
     let h = some-of (s .1 .1) in
-    let node = c .before .before .before .before .before .before .before .before .before .before .before .before .before .before .before .before .before .before .before .before .before .before .before .before .before .before .before .node-at .ensures in
-    let d = rw node at (c .before .before .before .before .before .before .before .before .before .before .before .before .before .before .before .before .before .before .before .before .before .before .before .before .before .operand-type .ensures) in
-    let r = rest-checkable q h _ d (c .before .before .before .before .before .before .before .before .before .before .before .before .before .before .before .before .before .before .before .before .before .t .given .1) (s .1 .1) in
-    let b = rw node at (c .before .before .before .before .before .before .before .before .before .before .before .before .before .before .before .before .before .before .bind-type .ensures) in
-    let e = rw node at (c .before .before .before .before .before .before .before .before .before .before .before .before .before .before .operand-type2 .ensures) in
-    let i = rw node at (c .before .before .before .before .before .before .before .if1 .taken) in
-    rest-judged q h _ d (c .before .before .before .before .before .before .before .before .before .before .before .before .before .before .before .before .before .before .before .before .before .t .given .1) (s .1 .1) (third-refused r b _ e i (c .before .before .before .before .before .before .before .before .before .before .u .given .1) (rw node at (c .before .before .before .before .before .operand-type3 .ensures)) (c .before .why3 .given .1))
+    let node = at-node-at .node-at .ensures in
+    let d = rw node at (at-operand-type .operand-type .ensures) in
+    let r = rest-checkable q h _ d (at-t .t .given .1) (s .1 .1) in
+    let b = rw node at (at-bind-type .bind-type .ensures) in
+    let e = rw node at (at-operand-type2 .operand-type2 .ensures) in
+    let i = rw node at (at-if1 .if1 .taken) in
+    rest-judged q h _ d (at-t .t .given .1) (s .1 .1)
+    (third-refused r b _ e i (at-u .u .given .1) (rw node at (at-operand-type3 .operand-type3 .ensures)) (at-why3 .why3 .given .1))
 
 check-several-returns-2 : (t : ℕ) → check-several-lts.Need-returns-2 (check-several-calls t) (check-several-at t) check-several.Post
 check-several-returns-2 t c =
-    let s = c .before .before .before .before .before .before .before .before .before .before .before .before .before .before .before .before .before .before .before .before .before .before .before .before .before .before .before .before .before .before .before .pre in
+    let at-v = c .before .before in
+    let at-operand-type3 = at-v .before .before .before .before in
+    let at-if1 = at-operand-type3 .before .before in
+    let at-u = at-if1 .before .before .before in
+    let at-operand-type2 = at-u .before .before .before .before in
+    let at-bind-type = at-operand-type2 .before .before .before .before in
+    let at-t = at-bind-type .before .before .before in
+    let at-operand-type = at-t .before .before .before .before in
+    let at-node-at = at-operand-type .before .before in
+    let at-start = at-node-at .before .before .before in
+    let s = at-start .pre in
     let q = s .1 .0 in
     let h = some-of (s .1 .1) in
-    let node = c .before .before .before .before .before .before .before .before .before .before .before .before .before .before .before .before .before .before .before .before .before .before .before .before .before .before .before .before .node-at .ensures in
-    let d = rw node at (c .before .before .before .before .before .before .before .before .before .before .before .before .before .before .before .before .before .before .before .before .before .before .before .before .before .before .operand-type .ensures) in
-    let r = rest-checkable q h _ d (c .before .before .before .before .before .before .before .before .before .before .before .before .before .before .before .before .before .before .before .before .before .before .t .given .1) (s .1 .1) in
-    let b = rw node at (c .before .before .before .before .before .before .before .before .before .before .before .before .before .before .before .before .before .before .before .bind-type .ensures) in
-    let e = rw node at (c .before .before .before .before .before .before .before .before .before .before .before .before .before .before .before .operand-type2 .ensures) in
-    let i = rw node at (c .before .before .before .before .before .before .before .before .if1 .taken) in
-    rest-judged q h _ d (c .before .before .before .before .before .before .before .before .before .before .before .before .before .before .before .before .before .before .before .before .before .before .t .given .1) (s .1 .1) (if-judged r b _ e i (c .before .before .before .before .before .before .before .before .before .before .before .u .given .1) (rw node at (c .before .before .before .before .before .before .operand-type3 .ensures)) (c .before .before .v .given .1) (c .if-type .ensures))
+    let node = at-node-at .node-at .ensures in
+    let d = rw node at (at-operand-type .operand-type .ensures) in
+    let r = rest-checkable q h _ d (at-t .t .given .1) (s .1 .1) in
+    let b = rw node at (at-bind-type .bind-type .ensures) in
+    let e = rw node at (at-operand-type2 .operand-type2 .ensures) in
+    let i = rw node at (at-if1 .if1 .taken) in
+    rest-judged q h _ d (at-t .t .given .1) (s .1 .1)
+    (if-judged r b _ e i (at-u .u .given .1) (rw node at (at-operand-type3 .operand-type3 .ensures)) (at-v .v .given .1) (c .if-type .ensures))
 
 check-several-returns-3 : (t : ℕ) → check-several-lts.Need-returns-3 (check-several-calls t) (check-several-at t) check-several.Post
 check-several-returns-3 t c =
@@ -497,15 +532,24 @@ check-several-returns-4 t c =
 
 check-several-returns-5 : (t : ℕ) → check-several-lts.Need-returns-5 (check-several-calls t) (check-several-at t) check-several.Post
 check-several-returns-5 t c =
-    let s = c .before .before .before .before .before .before .before .before .before .before .before .before .before .before .before .before .before .before .before .before .before .before .before .before .pre in
+    let at-if1 = c .before in
+    let at-u = at-if1 .before .before .before in
+    let at-operand-type2 = at-u .before .before .before .before in
+    let at-bind-type = at-operand-type2 .before .before .before .before in
+    let at-t = at-bind-type .before .before .before in
+    let at-operand-type = at-t .before .before .before .before in
+    let at-node-at = at-operand-type .before .before in
+    let at-start = at-node-at .before .before .before in
+    let s = at-start .pre in
     let q = s .1 .0 in
     let h = some-of (s .1 .1) in
-    let node = c .before .before .before .before .before .before .before .before .before .before .before .before .before .before .before .before .before .before .before .before .before .node-at .ensures in
-    let d = rw node at (c .before .before .before .before .before .before .before .before .before .before .before .before .before .before .before .before .before .before .before .operand-type .ensures) in
-    let r = rest-checkable q h _ d (c .before .before .before .before .before .before .before .before .before .before .before .before .before .before .before .t .given .1) (s .1 .1) in
-    let b = rw node at (c .before .before .before .before .before .before .before .before .before .before .before .before .bind-type .ensures) in
-    let e = rw node at (c .before .before .before .before .before .before .before .before .operand-type2 .ensures) in
-    rest-judged q h _ d (c .before .before .before .before .before .before .before .before .before .before .before .before .before .before .before .t .given .1) (s .1 .1) (two-judged r b _ e (rw node at (c .before .if1 .left)) (c .before .before .before .before .u .given .1) (rw node at (c .two-type .ensures)))
+    let node = at-node-at .node-at .ensures in
+    let d = rw node at (at-operand-type .operand-type .ensures) in
+    let r = rest-checkable q h _ d (at-t .t .given .1) (s .1 .1) in
+    let b = rw node at (at-bind-type .bind-type .ensures) in
+    let e = rw node at (at-operand-type2 .operand-type2 .ensures) in
+    rest-judged q h _ d (at-t .t .given .1) (s .1 .1)
+    (two-judged r b _ e (rw node at (at-if1 .if1 .left)) (at-u .u .given .1) (rw node at (c .two-type .ensures)))
 
 operand-type-node-at-requires : (t : ℕ) → operand-type-lts.Need-node-at-requires (operand-type-calls t) (operand-type-at t) operand-type.Post
 operand-type-node-at-requires t c κs = omega (arith, c .before .before .pre .1 .formed .room)
@@ -574,7 +618,13 @@ paths-loop-less : (t : ℕ) → paths-lts.Need-loop-less (paths-calls t) (paths-
 paths-loop-less t c = omega arith
 
 paths-loop-again : (t : ℕ) → paths-lts.Need-loop-again (paths-calls t) (paths-at t) paths.Post paths-Inv-loop paths-μ-loop
-paths-loop-again t c = turn-more (c .before .before .before .before .before .before .before .before .before .loop .inv) (c .before .before .before .before .before .before .before .before .loop-test .taken) (c .before .before .before .before .before .walk .ensures) (c .before .t2 .given .1) (c .before .before .before .before .before .walk .kept .1 .0) (c .before .before .before .before .before .walk .kept .1 .1 .0)
+paths-loop-again t c =
+    let at-t2 = c .before in
+    let at-walk = at-t2 .before .before .before .before in
+    let at-loop-test = at-walk .before .before .before in
+    let at-loop = at-loop-test .before in
+    turn-more (at-loop .loop .inv) (at-loop-test .loop-test .taken) (at-walk .walk .ensures) (at-t2 .t2 .given .1) (at-walk .walk .kept .1 .0)
+    (at-walk .walk .kept .1 .1 .0)
 
 paths-returns-3 : (t : ℕ) → paths-lts.Need-returns-3 (paths-calls t) (paths-at t) paths.Post paths-Inv-loop paths-μ-loop
 paths-returns-3 t c = turn-none (c .before .loop .inv) (c .loop-test .left)
@@ -595,28 +645,68 @@ walk-same-length : (t : ℕ) → walk-lts.Need-same-length (walk-calls t) (walk-
 walk-same-length t c = c .before .before .before .before .before .before .before .arrive .kept .1 .0 ∙ c .before .before .before .before .before .before .before .before .before .before .before .before .before .before .loop .inv .same
 
 walk-same-length-2 : (t : ℕ) → walk-lts.Need-same-length-2 (walk-calls t) (walk-at t) walk.Post walk-Inv-loop walk-μ-loop
-walk-same-length-2 t c = c .before .before .before .before .before .before .before .arrive .kept .1 .1 .0 ∙ c .before .before .before .before .before .before .before .before .before .before .before .before .descend .kept .1 .0 ∙ c .before .before .before .before .before .before .before .before .before .before .before .before .before .before .loop .inv .framed
+walk-same-length-2 t c =
+    let at-arrive = c .before .before .before .before .before .before .before in
+    let at-descend = at-arrive .before .before .before .before .before in
+    let at-loop = at-descend .before .before in
+    at-arrive .arrive .kept .1 .1 .0 ∙ at-descend .descend .kept .1 .0 ∙ at-loop .loop .inv .framed
 
 walk-returns : (t : ℕ) → walk-lts.Need-returns (walk-calls t) (walk-at t) walk.Post walk-Inv-loop walk-μ-loop
-walk-returns t c = walking-stopped (c .before .before .before .before .before .before .before .before .before .before .before .before .before .before .loop .inv) (c .before .before .before .before .before .before .before .before .before .before .before .before .descend .ensures) (c .before .before .before .before .before .before .before .arrive .ensures) (c .before .why .given .1)
+walk-returns t c =
+    let at-why = c .before in
+    let at-arrive = at-why .before .before .before .before .before .before in
+    let at-descend = at-arrive .before .before .before .before .before in
+    let at-loop = at-descend .before .before in
+    walking-stopped (at-loop .loop .inv) (at-descend .descend .ensures) (at-arrive .arrive .ensures) (at-why .why .given .1)
 
 walk-path-end-requires : (t : ℕ) → walk-lts.Need-path-end-requires (walk-calls t) (walk-at t) walk.Post walk-Inv-loop walk-μ-loop
-walk-path-end-requires t c κs = walking-end (c .before .before .before .before .before .before .before .before .before .before .before .before .before .before .before .before .loop .inv) (c .before .before .before .before .before .before .before .before .before .before .before .before .before .before .descend .ensures) (c .before .before .before .before .before .before .before .before .before .arrive .ensures) (c .before .before .before .u .given .1)
+walk-path-end-requires t c κs =
+    let at-u = c .before .before .before in
+    let at-arrive = at-u .before .before .before .before .before .before in
+    let at-descend = at-arrive .before .before .before .before .before in
+    let at-loop = at-descend .before .before in
+    walking-end (at-loop .loop .inv) (at-descend .descend .ensures) (at-arrive .arrive .ensures) (at-u .u .given .1)
 
 walk-same-length-3 : (t : ℕ) → walk-lts.Need-same-length-3 (walk-calls t) (walk-at t) walk.Post walk-Inv-loop walk-μ-loop
-walk-same-length-3 t c = c .before .before .before .before .path-end .kept .1 .0 ∙ c .before .before .before .before .before .before .before .before .before .before .before .before .before .before .arrive .kept .1 .0 ∙ c .before .before .before .before .before .before .before .before .before .before .before .before .before .before .before .before .before .before .before .before .before .loop .inv .same
+walk-same-length-3 t c =
+    let at-path-end = c .before .before .before .before in
+    let at-arrive = at-path-end .before .before .before .before .before .before .before .before .before .before in
+    let at-loop = at-arrive .before .before .before .before .before .before .before in
+    at-path-end .path-end .kept .1 .0 ∙ at-arrive .arrive .kept .1 .0 ∙ at-loop .loop .inv .same
 
 walk-same-length-4 : (t : ℕ) → walk-lts.Need-same-length-4 (walk-calls t) (walk-at t) walk.Post walk-Inv-loop walk-μ-loop
-walk-same-length-4 t c = c .before .before .before .before .path-end .kept .1 .1 .0 ∙ c .before .before .before .before .before .before .before .before .before .before .before .before .before .before .arrive .kept .1 .1 .0 ∙ c .before .before .before .before .before .before .before .before .before .before .before .before .before .before .before .before .before .before .before .descend .kept .1 .0 ∙ c .before .before .before .before .before .before .before .before .before .before .before .before .before .before .before .before .before .before .before .before .before .loop .inv .framed
+walk-same-length-4 t c =
+    let at-path-end = c .before .before .before .before in
+    let at-arrive = at-path-end .before .before .before .before .before .before .before .before .before .before in
+    let at-descend = at-arrive .before .before .before .before .before in
+    let at-loop = at-descend .before .before in
+    at-path-end .path-end .kept .1 .1 .0 ∙ at-arrive .arrive .kept .1 .1 .0 ∙ at-descend .descend .kept .1 .0 ∙ at-loop .loop .inv .framed
 
 walk-returns-2 : (t : ℕ) → walk-lts.Need-returns-2 (walk-calls t) (walk-at t) walk.Post walk-Inv-loop walk-μ-loop
-walk-returns-2 t c = walking-ended (c .before .before .before .before .before .before .before .before .before .before .before .before .before .before .before .before .before .before .before .before .before .loop .inv) (c .before .before .before .before .before .before .before .before .before .before .before .before .before .before .before .before .before .before .before .descend .ensures) (c .before .before .before .before .before .before .before .before .before .before .before .before .before .before .arrive .ensures) (c .before .before .before .before .before .before .before .before .u .given .1) (c .before .before .before .before .path-end .ensures)
+walk-returns-2 t c =
+    let at-path-end = c .before .before .before .before in
+    let at-u = at-path-end .before .before .before .before in
+    let at-arrive = at-u .before .before .before .before .before .before in
+    let at-descend = at-arrive .before .before .before .before .before in
+    let at-loop = at-descend .before .before in
+    walking-ended (at-loop .loop .inv) (at-descend .descend .ensures) (at-arrive .arrive .ensures) (at-u .u .given .1) (at-path-end .path-end .ensures)
 
 walk-loop-less : (t : ℕ) → walk-lts.Need-loop-less (walk-calls t) (walk-at t) walk.Post walk-Inv-loop walk-μ-loop
-walk-loop-less t c = walking-less (c .before .before .before .before .before .before .before .before .before .before .before .before .before .before .loop .inv) (c .before .before .before .before .before .before .before .before .before .before .before .before .descend .ensures) (c .before .before .before .before .before .before .before .arrive .ensures) (c .before .k .given .1)
+walk-loop-less t c =
+    let at-k = c .before in
+    let at-arrive = at-k .before .before .before .before .before .before in
+    let at-descend = at-arrive .before .before .before .before .before in
+    let at-loop = at-descend .before .before in
+    walking-less (at-loop .loop .inv) (at-descend .descend .ensures) (at-arrive .arrive .ensures) (at-k .k .given .1)
 
 walk-loop-again : (t : ℕ) → walk-lts.Need-loop-again (walk-calls t) (walk-at t) walk.Post walk-Inv-loop walk-μ-loop
-walk-loop-again t c = walking-on (c .before .before .before .before .before .before .before .before .before .before .before .before .before .before .loop .inv) (c .before .before .before .before .before .before .before .before .before .before .before .before .descend .ensures) (c .before .before .before .before .before .before .before .arrive .ensures) (c .before .k .given .1) (c .before .before .before .before .before .before .before .arrive .kept .1 .0) (c .before .before .before .before .before .before .before .arrive .kept .1 .1 .0 ∙ c .before .before .before .before .before .before .before .before .before .before .before .before .descend .kept .1 .0)
+walk-loop-again t c =
+    let at-k = c .before in
+    let at-arrive = at-k .before .before .before .before .before .before in
+    let at-descend = at-arrive .before .before .before .before .before in
+    let at-loop = at-descend .before .before in
+    walking-on (at-loop .loop .inv) (at-descend .descend .ensures) (at-arrive .arrive .ensures) (at-k .k .given .1) (at-arrive .arrive .kept .1 .0)
+    (at-arrive .arrive .kept .1 .1 .0 ∙ at-descend .descend .kept .1 .0)
 
 pub +arrive+block-type+block-up+check-node+check-several+operand-type+paths+walk-spec : {M : Type 1} → statement M
 +arrive+block-type+block-up+check-node+check-several+operand-type+paths+walk-spec =

@@ -17,16 +17,40 @@ without-guard-requires : tie.Need-without-guard-requires
 without-guard-requires c κs = let d = c .before .before .before .before .before .decide .ensures in let r = c .before .before .before .before .before .before .before .before .before .before .pre .room in (decided-space r d, decided-lent r d)
 
 returns-2 : tie.Need-returns-2
-returns-2 c = chooses-many (c .before .before .before .before .before .before .before .before .before .pre .room) (c .before .before .before .before .decide .ensures) (c .before .before .before .before .before .before .before .before .before .args .n) (c .before .before .before .before .before .before .before .before .before .args .t) (c .before .before .before .before .before .before .before .if1 .left) (c .enum-told .given .1)
+returns-2 c =
+    let at-decide = c .before .before .before .before in
+    let at-if1 = at-decide .before .before .before in
+    let at-start = at-if1 .before .before in
+    chooses-many (at-start .pre .room) (at-decide .decide .ensures) (at-start .args .n) (at-start .args .t) (at-if1 .if1 .left) (c .enum-told .given .1)
 
 returns-3 : tie.Need-returns-3
-returns-3 c = chooses-both (c .before .before .before .before .before .before .before .before .before .pre .room) (c .before .before .before .before .decide .ensures) (c .before .before .before .before .before .before .before .before .before .args .n) (c .before .before .before .before .before .before .before .before .before .args .t) (c .before .before .before .before .before .before .before .if1 .left) (c .enum-told2 .given .1)
+returns-3 c =
+    let at-decide = c .before .before .before .before in
+    let at-if1 = at-decide .before .before .before in
+    let at-start = at-if1 .before .before in
+    chooses-both (at-start .pre .room) (at-decide .decide .ensures) (at-start .args .n) (at-start .args .t) (at-if1 .if1 .left) (c .enum-told2 .given .1)
 
 returns-4 : tie.Need-returns-4
-returns-4 c = chooses-as (c .before .before .with-guard .ensures) (chooses-true (c .before .before .before .before .before .before .before .before .before .before .before .before .before .pre .room) (c .before .before .before .before .before .before .before .before .decide .ensures) (c .before .before .before .before .before .before .before .before .before .before .before .before .before .args .n) (c .before .before .before .before .before .before .before .before .before .before .before .before .before .args .t) (c .before .before .before .before .before .before .before .before .before .before .before .if1 .left) (c .before .before .before .before .enum-told3 .given .1))
+returns-4 c =
+    let at-with-guard = c .before .before in
+    let at-enum-told3 = at-with-guard .before .before in
+    let at-decide = at-enum-told3 .before .before .before .before in
+    let at-if1 = at-decide .before .before .before in
+    let at-start = at-if1 .before .before in
+    chooses-as (at-with-guard .with-guard .ensures)
+    (chooses-true (at-start .pre .room) (at-decide .decide .ensures) (at-start .args .n) (at-start .args .t) (at-if1 .if1 .left)
+    (at-enum-told3 .enum-told3 .given .1))
 
 returns-5 : tie.Need-returns-5
-returns-5 c = chooses-as (c .before .before .without-guard .ensures) (chooses-false (c .before .before .before .before .before .before .before .before .before .before .before .before .before .pre .room) (c .before .before .before .before .before .before .before .before .decide .ensures) (c .before .before .before .before .before .before .before .before .before .before .before .before .before .args .n) (c .before .before .before .before .before .before .before .before .before .before .before .before .before .args .t) (c .before .before .before .before .before .before .before .before .before .before .before .if1 .left) (c .before .before .before .before .enum-told4 .given .1))
+returns-5 c =
+    let at-without-guard = c .before .before in
+    let at-enum-told4 = at-without-guard .before .before in
+    let at-decide = at-enum-told4 .before .before .before .before in
+    let at-if1 = at-decide .before .before .before in
+    let at-start = at-if1 .before .before in
+    chooses-as (at-without-guard .without-guard .ensures)
+    (chooses-false (at-start .pre .room) (at-decide .decide .ensures) (at-start .args .n) (at-start .args .t) (at-if1 .if1 .left)
+    (at-enum-told4 .enum-told4 .given .1))
 
 pub choose-spec : {M : Type 1} → statement M
 choose-spec =

@@ -19,8 +19,15 @@ forget-requires c κs =
 
 with-guard-requires : tie.Need-with-guard-requires
 with-guard-requires c κs =
-    let p = c .before .before .before .before .before .before .before .before .before .before .before .before .before .before .before .before .before .before .before .before .before .before .pre in
-    rw (c .before .before .before .forget .ensures) (stored-space (p .0) (c .before .before .before .before .before .before .before .before .before .before .enum-told3 .given .1) (c .before .before .before .before .before .before .before .before .before .before .before .before .before .before .choose .ensures) 0, stored-lent (p .0) (c .before .before .before .before .before .before .before .before .before .before .enum-told3 .given .1) (c .before .before .before .before .before .before .before .before .before .before .before .before .before .before .choose .ensures) 0)
+    let at-forget = c .before .before .before in
+    let at-enum-told3 = at-forget .before .before .before .before .before .before .before in
+    let at-choose = at-enum-told3 .before .before .before .before in
+    let at-start = at-choose .before .before .before .before .before .before .before .before in
+    let p = at-start .pre in
+    rw (at-forget .forget .ensures) (
+      stored-space (p .0) (at-enum-told3 .enum-told3 .given .1) (at-choose .choose .ensures) 0,
+      stored-lent (p .0) (at-enum-told3 .enum-told3 .given .1) (at-choose .choose .ensures) 0,
+    )
 
 returns : tie.Need-returns
 returns c = branched-first (c .before .before .before .before .before .before .before .before .wait .ensures) (c .before .before .before .before .choose .ensures) (c .enum-told .given .1)
@@ -35,7 +42,15 @@ same-length-7 : tie.Need-same-length-7
 same-length-7 c = c .before .before .with-guard .kept .0 ∙ c .before .before .before .before .before .before .forget .kept .0 ∙ c .before .before .before .before .before .before .before .before .before .before .before .before .before .before .before .before .before .choose .kept .0
 
 returns-4 : tie.Need-returns-4
-returns-4 c = branched-both (c .before .before .before .before .before .before .before .before .before .before .before .before .before .before .before .before .before .before .before .before .before .wait .ensures) (c .before .before .before .before .before .before .before .before .before .before .before .before .before .before .before .before .before .choose .ensures) (c .before .before .before .before .before .before .before .before .before .before .before .before .before .enum-told3 .given .1) (c .before .before .before .before .before .before .before .before .before .before .fork .ensures) (rw (c .before .before .before .before .before .before .forget .ensures) at (c .before .before .with-guard .ensures))
+returns-4 c =
+    let at-with-guard = c .before .before in
+    let at-forget = at-with-guard .before .before .before .before in
+    let at-fork = at-forget .before .before .before .before in
+    let at-enum-told3 = at-fork .before .before .before in
+    let at-choose = at-enum-told3 .before .before .before .before in
+    let at-wait = at-choose .before .before .before .before in
+    branched-both (at-wait .wait .ensures) (at-choose .choose .ensures) (at-enum-told3 .enum-told3 .given .1) (at-fork .fork .ensures)
+    (rw (at-forget .forget .ensures) at (at-with-guard .with-guard .ensures))
 
 pub branch-spec : {M : Type 1} → statement M
 branch-spec =

@@ -8,13 +8,29 @@ leaf-requires : tie.Need-leaf-requires
 leaf-requires c κs = (leaf-room (c .before .before .before .before .before .before .pre), leaf-lent (c .before .before .before .before .before .before .pre))
 
 climb-requires : tie.Need-climb-requires
-climb-requires c κs = leaf-returnable (c .before .before .before .before .before .before .before .before .before .before .before .before .before .before .pre) (rw (c .before .before .before .before .before .before .before .before .before .before .node-at .ensures) at (c .before .before .before .before .before .before .before .leaf .ensures)) (c .before .before .before .t .given .1)
+climb-requires c κs =
+    let at-t = c .before .before .before in
+    let at-leaf = at-t .before .before .before .before in
+    let at-node-at = at-leaf .before .before .before in
+    let at-start = at-node-at .before .before .before .before in
+    leaf-returnable (at-start .pre) (rw (at-node-at .node-at .ensures) at (at-leaf .leaf .ensures)) (at-t .t .given .1)
 
 returns : tie.Need-returns
-returns c = leaf-stopping (c .before .before .before .before .before .before .before .before .before .before .before .before .pre) (rw (c .before .before .before .before .before .before .before .before .node-at .ensures) at (c .before .before .before .before .before .leaf .ensures)) (c .before .why .given .1)
+returns c =
+    let at-why = c .before in
+    let at-leaf = at-why .before .before .before .before in
+    let at-node-at = at-leaf .before .before .before in
+    let at-start = at-node-at .before .before .before .before in
+    leaf-stopping (at-start .pre) (rw (at-node-at .node-at .ensures) at (at-leaf .leaf .ensures)) (at-why .why .given .1)
 
 returns-2 : tie.Need-returns-2
-returns-2 c = leaf-climbing (c .before .before .before .before .before .before .before .before .before .before .before .before .before .before .before .before .before .before .before .pre) (rw (c .before .before .before .before .before .before .before .before .before .before .before .before .before .before .before .node-at .ensures) at (c .before .before .before .before .before .before .before .before .before .before .before .before .leaf .ensures)) (c .before .before .before .before .before .before .before .before .t .given .1) (c .before .before .before .before .climb .ensures)
+returns-2 c =
+    let at-climb = c .before .before .before .before in
+    let at-t = at-climb .before .before .before .before in
+    let at-leaf = at-t .before .before .before .before in
+    let at-node-at = at-leaf .before .before .before in
+    let at-start = at-node-at .before .before .before .before in
+    leaf-climbing (at-start .pre) (rw (at-node-at .node-at .ensures) at (at-leaf .leaf .ensures)) (at-t .t .given .1) (at-climb .climb .ensures)
 
 pub leaf-up-spec : {M : Type 1} → statement M
 leaf-up-spec =

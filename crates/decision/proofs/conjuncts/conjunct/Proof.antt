@@ -25,13 +25,37 @@ returns : tie.Need-returns Inv-loop μ-loop
 returns c = walking-none (c .before .before .before .before .loop .inv) (c .before .before .before .loop-test .taken) (c .before .before .row-at .result) (c .before .before .row-at .ensures) (c .before .is-link .result) (c .before .is-link .ensures) (c .if1 .taken)
 
 returns-2 : tie.Need-returns-2 Inv-loop μ-loop
-returns-2 c = walking-found (c .before .before .before .before .before .before .loop .inv) (c .before .before .before .before .before .loop-test .taken) (c .before .before .before .before .row-at .result) (c .before .before .before .before .row-at .ensures) (c .before .before .before .is-link .result) (c .before .before .before .is-link .ensures) (c .before .before .if1 .left) (c .if2 .taken)
+returns-2 c =
+    let at-if1 = c .before .before in
+    let at-is-link = at-if1 .before in
+    let at-row-at = at-is-link .before in
+    let at-loop-test = at-row-at .before in
+    let at-loop = at-loop-test .before in
+    walking-found (at-loop .loop .inv) (at-loop-test .loop-test .taken) (at-row-at .row-at .result) (at-row-at .row-at .ensures)
+    (at-is-link .is-link .result) (at-is-link .is-link .ensures) (at-if1 .if1 .left) (c .if2 .taken)
 
 returns-3 : tie.Need-returns-3 Inv-loop μ-loop
-returns-3 c = walking-up (c .before .before .before .before .before .before .before .before .loop .inv) (c .before .before .before .before .before .before .before .loop-test .taken) (c .before .before .before .before .before .before .row-at .result) (c .before .before .before .before .before .before .row-at .ensures) (c .before .before .before .before .before .is-link .result) (c .before .before .before .before .before .is-link .ensures) (c .before .before .before .before .if1 .left) (c .before .before .if2 .left) (c .if3 .taken)
+returns-3 c =
+    let at-if2 = c .before .before in
+    let at-if1 = at-if2 .before .before in
+    let at-is-link = at-if1 .before in
+    let at-row-at = at-is-link .before in
+    let at-loop-test = at-row-at .before in
+    let at-loop = at-loop-test .before in
+    walking-up (at-loop .loop .inv) (at-loop-test .loop-test .taken) (at-row-at .row-at .result) (at-row-at .row-at .ensures) (at-is-link .is-link .result)
+    (at-is-link .is-link .ensures) (at-if1 .if1 .left) (at-if2 .if2 .left) (c .if3 .taken)
 
 loop-again : tie.Need-loop-again Inv-loop μ-loop
-loop-again c = walking-on (c .before .before .before .before .before .before .before .before .before .loop .inv) (c .before .before .before .before .before .before .before .before .loop-test .taken) (c .before .before .before .before .before .before .before .row-at .result) (c .before .before .before .before .before .before .before .row-at .ensures) (c .before .before .before .before .before .before .is-link .result) (c .before .before .before .before .before .before .is-link .ensures) (c .before .before .before .before .before .if1 .left) (c .before .before .before .if2 .left) (c .before .if3 .left)
+loop-again c =
+    let at-if3 = c .before in
+    let at-if2 = at-if3 .before .before in
+    let at-if1 = at-if2 .before .before in
+    let at-is-link = at-if1 .before in
+    let at-row-at = at-is-link .before in
+    let at-loop-test = at-row-at .before in
+    let at-loop = at-loop-test .before in
+    walking-on (at-loop .loop .inv) (at-loop-test .loop-test .taken) (at-row-at .row-at .result) (at-row-at .row-at .ensures) (at-is-link .is-link .result)
+    (at-is-link .is-link .ensures) (at-if1 .if1 .left) (at-if2 .if2 .left) (at-if3 .if3 .left)
 
 returns-4 : tie.Need-returns-4 Inv-loop μ-loop
 returns-4 c = walking-end (c .before .loop .inv) (c .loop-test .left)

@@ -12,9 +12,15 @@ pass-requires c κs =
 
 returns : tie.Need-returns
 returns c =
-    let a = c .before .before .before .before .before .before .before .before .before .before .before .before .before .before .before .args in
+    let at-pass = c .before .before .before in
+    let at-rows-to = at-pass .before .before .before in
+    let at-add-at2 = at-rows-to .before .before in
+    let at-add-at = at-add-at2 .before .before .before in
+    let at-start = at-add-at .before .before .before .before in
+    let a = at-start .args in
     start-passed (a .space .now) (a .numbers .now) _
-    (started (a .p) (a .q) (c .before .before .before .before .before .before .rows-to .result) _ _ (c .before .before .before .before .before .before .rows-to .ensures) (c .before .before .before .before .before .before .before .before .before .before .before .add-at .ensures) (c .before .before .before .before .before .before .before .before .add-at2 .ensures)) (c .before .before .before .pass .ensures)
+    (started (a .p) (a .q) (at-rows-to .rows-to .result) _ _ (at-rows-to .rows-to .ensures) (at-add-at .add-at .ensures) (at-add-at2 .add-at2 .ensures))
+    (at-pass .pass .ensures)
 
 pub subtract-spec : {M : Type 1} → statement M
 subtract-spec =

@@ -1,0 +1,216 @@
+// The symbolic rules: what node n gives on a path once its operands have given theirs. A value is its type's code and its place: a row of the terms, or of a
+// reference twice its symbol, and one more if `ref` made it on this path.
+ghost use Prim.Native.Nat.{_*_, _≤_};
+ghost use lib.ListN.{length};
+ghost use Rattle.script.specs.Code.Forms.{formOf};
+ghost use Rattle.script.specs.Rows.{varForm, unaryForm, binaryForm, notOp, refOp, getOp, addOp, eqOp, andOp, setOp};
+ghost use Rattle.workspace.specs.Paths.{Fresh};
+ghost use Rattle.workspace.specs.Rules.{Leaf, One, Two, After, Operable};
+ghost use Rattle.workspace.specs.State.{Room};
+use log::consistent;
+use log::forget;
+use log::lookup;
+use log::write;
+use script::Refusal;
+use script::table::ADD;
+use script::table::AND;
+use script::table::EQ;
+use script::table::GET;
+use script::table::INT;
+use script::table::NOT;
+use script::table::REF;
+use script::table::SET;
+use script::table::TRUE;
+use script::table::VAR;
+use terms::CONJUNCTION;
+use terms::CONSTANT;
+use terms::EQUALITY;
+use terms::NEGATION;
+use terms::NUMBER;
+use terms::SUM;
+use terms::SYMBOL;
+use terms::TRUTH;
+use terms::atoms::equal_references;
+use terms::atoms::symbols_atom;
+use terms::push;
+use types::DEEPEST;
+use words::equal_words;
+use workspace::Found;
+use workspace::NEXT;
+use workspace::Step;
+
+// A fresh symbol of type t: its place.
+pub fn fresh(space: &mut [u32], t: u32) -> u32
+    requires { ⌜ Room (now space) 1 ⌝ }
+    ensures { λ r. ⌜ Fresh t (now (space .entry)) r (now (space .exit)) ⌝ }
+{
+    let s = space[NEXT];
+    space[NEXT] = s + 1;
+    match t {
+        0 => push(space, SYMBOL, s, 0),
+        1 => symbols_atom(space, TRUTH, s, s),
+        _ => 2 * s,
+    }
+}
+
+// `var`: the value at place k of the environment.
+fn variable(space: &[u32], depth: usize, k: u32, n: u32) -> Step
+    requires { ⌜ 2 * depth ≤ length (now space) ⌝ }
+    ensures { λ r. ⌜ Leaf varForm n k depth (now (space .entry)) r (now (space .entry)) ⌝ }
+{
+    let i = k as usize;
+    if i < depth {
+        return Step::Gave(space[2 * i], space[2 * i + 1]);
+    }
+    Step::Stopped(Refusal::UnknownVariable(n))
+}
+
+// A node whose operands are no nodes: `int`, `true`, `false` and `var`.
+pub fn leaf(kind: u32, a: u32, space: &mut [u32], depth: usize, n: u32) -> Step
+    requires { ⌜ Room (now space) 1 ⌝ }
+    requires { ⌜ 2 * depth ≤ length (now space) ⌝ }
+    ensures { λ r. ⌜ Leaf (formOf kind) n a depth (now (space .entry)) r (now (space .exit)) ⌝ }
+{
+    match kind {
+        INT => Step::Gave(0, push(space, NUMBER, a, 0)),
+        TRUE => Step::Gave(1, push(space, CONSTANT, 1, 0)),
+        VAR => variable(space, depth, a, n),
+        _ => Step::Gave(1, push(space, CONSTANT, 0, 0)),
+    }
+}
+
+// `not`.
+fn negation(t: u32, p: u32, space: &mut [u32], n: u32) -> Step
+    requires { ⌜ Room (now space) 1 ⌝ }
+    ensures { λ r. ⌜ One (unaryForm notOp) n t p (now (space .entry)) r (now (space .exit)) ⌝ }
+{
+    if t != 1 {
+        return Step::Stopped(Refusal::WrongType(n));
+    }
+    Step::Gave(1, push(space, NEGATION, p, 0))
+}
+
+// `ref`: a fresh symbol, and its value in the log.
+fn make_cell(t: u32, p: u32, space: &mut [u32], n: u32) -> Step
+    requires { ⌜ Room (now space) 1 ⌝ }
+    ensures { λ r. ⌜ One (unaryForm refOp) n t p (now (space .entry)) r (now (space .exit)) ⌝ }
+{
+    if DEEPEST <= t {
+        return Step::Stopped(Refusal::TooManyReferences(n));
+    }
+    let s = space[NEXT];
+    space[NEXT] = s + 1;
+    write(space, t + 2, 2 * s + 1, t, p);
+    Step::Gave(t + 2, 2 * s + 1)
+}
+
+// `get`: what the log has, or a fresh symbol.
+fn read_cell(t: u32, p: u32, space: &mut [u32], n: u32) -> Step
+    requires { ⌜ Room (now space) 1 ⌝ }
+    ensures { λ r. ⌜ One (unaryForm getOp) n t p (now (space .entry)) r (now (space .exit)) ⌝ }
+{
+    if t < 2 {
+        return Step::Stopped(Refusal::WrongType(n));
+    }
+    if !consistent(space) {
+        return Step::Stopped(Refusal::InconsistentLog(n));
+    }
+    match lookup(space, p) {
+        Found::Value(u, q) => Step::Gave(u, q),
+        Found::Nothing => Step::Gave(t - 2, fresh(space, t - 2)),
+    }
+}
+
+// A node with one operand that is a node, which gave a value of type t at place p.
+pub fn one(kind: u32, t: u32, p: u32, space: &mut [u32], n: u32) -> Step
+    requires { ⌜ Room (now space) 1 ⌝ }
+    ensures { λ r. ⌜ One (formOf kind) n t p (now (space .entry)) r (now (space .exit)) ⌝ }
+{
+    match kind {
+        NOT => negation(t, p, space, n),
+        REF => make_cell(t, p, space, n),
+        GET => read_cell(t, p, space, n),
+        _ => Step::Gave(t, p),
+    }
+}
+
+// `add`.
+fn sum(t: u32, p: u32, u: u32, q: u32, space: &mut [u32], n: u32) -> Step
+    requires { ⌜ Room (now space) 1 ⌝ }
+    ensures { λ r. ⌜ Two (binaryForm addOp) n t p u q (now (space .entry)) r (now (space .exit)) ⌝ }
+{
+    if t != 0 {
+        return Step::Stopped(Refusal::WrongType(n));
+    }
+    if u != 0 {
+        return Step::Stopped(Refusal::WrongType(n));
+    }
+    Step::Gave(0, push(space, SUM, p, q))
+}
+
+// `eq`.
+fn equality(t: u32, p: u32, u: u32, q: u32, space: &mut [u32], n: u32) -> Step
+    requires { ⌜ Operable (now space) t p u q ⌝ }
+    ensures { λ r. ⌜ Two (binaryForm eqOp) n t p u q (now (space .entry)) r (now (space .exit)) ⌝ }
+{
+    if t != u {
+        return Step::Stopped(Refusal::WrongType(n));
+    }
+    match t {
+        0 => Step::Gave(1, equal_words(space, p, q)),
+        1 => Step::Gave(1, push(space, EQUALITY, p, q)),
+        _ => Step::Gave(1, equal_references(space, p, q)),
+    }
+}
+
+// `and`.
+fn conjunction(t: u32, p: u32, u: u32, q: u32, space: &mut [u32], n: u32) -> Step
+    requires { ⌜ Room (now space) 1 ⌝ }
+    ensures { λ r. ⌜ Two (binaryForm andOp) n t p u q (now (space .entry)) r (now (space .exit)) ⌝ }
+{
+    if t != 1 {
+        return Step::Stopped(Refusal::WrongType(n));
+    }
+    if u != 1 {
+        return Step::Stopped(Refusal::WrongType(n));
+    }
+    Step::Gave(1, push(space, CONJUNCTION, p, q))
+}
+
+// `set`: any value is logged.
+fn write_cell(t: u32, p: u32, u: u32, q: u32, space: &mut [u32], n: u32) -> Step
+    requires { ⌜ Room (now space) 1 ⌝ }
+    ensures { λ r. ⌜ Two (binaryForm setOp) n t p u q (now (space .entry)) r (now (space .exit)) ⌝ }
+{
+    if t < 2 {
+        return Step::Stopped(Refusal::WrongType(n));
+    }
+    write(space, t, p, u, q);
+    Step::Gave(u, q)
+}
+
+// A node whose first operand gave a value of type t at place p, and the next one of type u at place q.
+pub fn two(kind: u32, t: u32, p: u32, u: u32, q: u32, space: &mut [u32], n: u32) -> Step
+    requires { ⌜ Operable (now space) t p u q ⌝ }
+    ensures { λ r. ⌜ Two (formOf kind) n t p u q (now (space .entry)) r (now (space .exit)) ⌝ }
+{
+    match kind {
+        ADD => sum(t, p, u, q, space, n),
+        EQ => equality(t, p, u, q, space, n),
+        AND => conjunction(t, p, u, q, space, n),
+        SET => write_cell(t, p, u, q, space, n),
+        _ => Step::Gave(u, q),
+    }
+}
+
+// After a typed block whose operand has type t: a consistent log, of which no write counts then, and a fresh symbol.
+pub fn typed_result(t: u32, space: &mut [u32], n: u32) -> Step
+    requires { ⌜ Room (now space) 1 ⌝ }
+    ensures { λ r. ⌜ After n t (now (space .entry)) r (now (space .exit)) ⌝ }
+{
+    if !consistent(space) {
+        return Step::Stopped(Refusal::InconsistentLog(n));
+    }
+    forget(space);
+    Step::Gave(t, fresh(space, t))
+}

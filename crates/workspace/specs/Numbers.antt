@@ -1,0 +1,128 @@
+-- What the symbolic rules give and leave, number by number: each rule's step, and the workspace after it. Assumes nothing.
+use mathlib.Core.Bool.{Bool, true, false}
+use mathlib.Core.List.{List}
+use Prim.Native.Nat.{ℕ, zero, suc, _+_, _*_, _-_}
+use lib.Dec.{leb, ltb, eqb}
+use lib.ListN.{getD, set}
+use Rattle.script.specs.Rows.{Form, intForm, varForm, ifForm, letForm, typedForm, symForm, truthForm, unaryForm, binaryForm, UnaryOp, notOp, refOp, getOp, BinaryOp, addOp, eqOp, andOp, setOp}
+use Rattle.script.specs.Tests.{pick}
+use Rattle.script.specs.declared.Refusal.the-variants.{WrongType, UnknownVariable, TooManyReferences, InconsistentLog}
+use Rattle.terms.specs.Atoms.{atomRowOf, atomLeft, referencesRow, referencesLeft}
+use Rattle.terms.specs.Terms.{countIn, pushed}
+use Rattle.words.specs.Words.{equalRow, equalLeft}
+use Rattle.workspace.specs.Log.{consistentOn, lookupOn, written, emptied}
+use Rattle.workspace.specs.State.{nextIn, writesIn, startIn}
+use Rattle.workspace.specs.declared.Found.{Found}
+use Rattle.workspace.specs.declared.Found.the-variants.{Value, Nothing}
+use Rattle.workspace.specs.declared.Step.{Step}
+use Rattle.workspace.specs.declared.Step.the-variants.{Gave, Stopped}
+
+pub record Outcome : Type 0 where
+  pub step : Step
+  pub space : List ℕ
+
+abbrev pub gives : Step → List ℕ → Outcome
+gives r ws = record { step = r; space = ws }
+
+-- ---- fresh symbols
+
+-- the next number is taken
+abbrev pub numbered : List ℕ → List ℕ
+numbered ws = set ws 724 (nextIn ws + 1)
+
+-- the place of a fresh symbol of a type: a row, or of a reference twice its number
+unfoldable pub freshPlace : ℕ → List ℕ → ℕ
+freshPlace zero ws = countIn (numbered ws)
+freshPlace (suc zero) ws = atomRowOf (numbered ws) 8 (nextIn ws) (nextIn ws)
+freshPlace (suc (suc t)) ws = 2 * nextIn ws
+
+unfoldable pub freshLeft : ℕ → List ℕ → List ℕ
+freshLeft zero ws = pushed (numbered ws) 1 (nextIn ws) 0
+freshLeft (suc zero) ws = atomLeft (numbered ws) 8 (nextIn ws) (nextIn ws)
+freshLeft (suc (suc t)) ws = numbered ws
+
+-- ---- leaves
+
+-- a row of a constant
+abbrev pub constant : ℕ → List ℕ → Outcome
+constant b ws = gives (Gave 1 (countIn ws)) (pushed ws 3 b 0)
+
+unfoldable pub leafGives : Form → ℕ → ℕ → ℕ → List ℕ → Outcome
+leafGives intForm n a depth ws = gives (Gave 0 (countIn ws)) (pushed ws 0 a 0)
+leafGives varForm n a depth ws = pick (ltb a depth) (gives (Gave (getD ws (2 * a) 0) (getD ws (2 * a + 1) 0)) ws) (gives (Stopped (UnknownVariable n)) ws)
+leafGives ifForm n a depth ws = constant 0 ws
+leafGives letForm n a depth ws = constant 0 ws
+leafGives typedForm n a depth ws = constant 0 ws
+leafGives symForm n a depth ws = constant 0 ws
+leafGives (truthForm b) n a depth ws = constant (pick b 1 0) ws
+leafGives (unaryForm o) n a depth ws = constant 0 ws
+leafGives (binaryForm o) n a depth ws = constant 0 ws
+
+-- ---- one operand, of type t at place q
+
+-- the writes that count are consistent
+abbrev pub consistentIn : List ℕ → Bool
+consistentIn ws = consistentOn ws (startIn ws) 0 (writesIn ws - startIn ws)
+
+-- what the log has, or a fresh symbol of the type that the cell has
+unfoldable pub gotGives : Found → ℕ → List ℕ → Outcome
+gotGives (Value u p) t ws = gives (Gave u p) ws
+gotGives Nothing t ws = gives (Gave (t - 2) (freshPlace (t - 2) ws)) (freshLeft (t - 2) ws)
+
+unfoldable pub unaryGives : UnaryOp → ℕ → ℕ → ℕ → List ℕ → Outcome
+unaryGives notOp n t q ws = pick (eqb t 1) (gives (Gave 1 (countIn ws)) (pushed ws 4 q 0)) (gives (Stopped (WrongType n)) ws)
+unaryGives refOp n t q ws =
+    pick (ltb t 30) (gives (Gave (t + 2) (2 * nextIn ws + 1)) (written (numbered ws) (t + 2) (2 * nextIn ws + 1) t q)) (gives (Stopped (TooManyReferences n)) ws)
+unaryGives getOp n t q ws =
+    pick (ltb t 2) (gives (Stopped (WrongType n)) ws)
+    (pick (consistentIn ws) (gotGives (lookupOn ws (startIn ws) q (writesIn ws - startIn ws)) t ws) (gives (Stopped (InconsistentLog n)) ws))
+
+unfoldable pub oneGives : Form → ℕ → ℕ → ℕ → List ℕ → Outcome
+oneGives intForm n t q ws = gives (Gave t q) ws
+oneGives varForm n t q ws = gives (Gave t q) ws
+oneGives ifForm n t q ws = gives (Gave t q) ws
+oneGives letForm n t q ws = gives (Gave t q) ws
+oneGives typedForm n t q ws = gives (Gave t q) ws
+oneGives symForm n t q ws = gives (Gave t q) ws
+oneGives (truthForm b) n t q ws = gives (Gave t q) ws
+oneGives (unaryForm o) n t q ws = unaryGives o n t q ws
+oneGives (binaryForm o) n t q ws = gives (Gave t q) ws
+
+-- ---- two operands, of type t at place q and of type u at place s
+
+-- the row of an equality of two values of type t
+unfoldable pub equalPlace : ℕ → ℕ → ℕ → List ℕ → ℕ
+equalPlace zero q s ws = equalRow ws q s
+equalPlace (suc zero) q s ws = countIn ws
+equalPlace (suc (suc t)) q s ws = referencesRow ws q s
+
+unfoldable pub equalNumbers : ℕ → ℕ → ℕ → List ℕ → List ℕ
+equalNumbers zero q s ws = equalLeft ws q s
+equalNumbers (suc zero) q s ws = pushed ws 6 q s
+equalNumbers (suc (suc t)) q s ws = referencesLeft ws q s
+
+-- both of type k, or a refusal
+abbrev pub bothOf : ℕ → ℕ → ℕ → ℕ → List ℕ → Outcome → Outcome
+bothOf k n t u ws o = pick (eqb t k) (pick (eqb u k) o (gives (Stopped (WrongType n)) ws)) (gives (Stopped (WrongType n)) ws)
+
+unfoldable pub binaryGives : BinaryOp → ℕ → ℕ → ℕ → ℕ → ℕ → List ℕ → Outcome
+binaryGives addOp n t q u s ws = bothOf 0 n t u ws (gives (Gave 0 (countIn ws)) (pushed ws 2 q s))
+binaryGives eqOp n t q u s ws = pick (eqb t u) (gives (Gave 1 (equalPlace t q s ws)) (equalNumbers t q s ws)) (gives (Stopped (WrongType n)) ws)
+binaryGives andOp n t q u s ws = bothOf 1 n t u ws (gives (Gave 1 (countIn ws)) (pushed ws 5 q s))
+binaryGives setOp n t q u s ws = pick (ltb t 2) (gives (Stopped (WrongType n)) ws) (gives (Gave u s) (written ws t q u s))
+
+unfoldable pub twoGives : Form → ℕ → ℕ → ℕ → ℕ → ℕ → List ℕ → Outcome
+twoGives intForm n t q u s ws = gives (Gave u s) ws
+twoGives varForm n t q u s ws = gives (Gave u s) ws
+twoGives ifForm n t q u s ws = gives (Gave u s) ws
+twoGives letForm n t q u s ws = gives (Gave u s) ws
+twoGives typedForm n t q u s ws = gives (Gave u s) ws
+twoGives symForm n t q u s ws = gives (Gave u s) ws
+twoGives (truthForm b) n t q u s ws = gives (Gave u s) ws
+twoGives (unaryForm o) n t q u s ws = gives (Gave u s) ws
+twoGives (binaryForm o) n t q u s ws = binaryGives o n t q u s ws
+
+-- ---- after a typed block of type t
+
+abbrev pub afterGives : ℕ → ℕ → List ℕ → Outcome
+afterGives n t ws = pick (consistentIn ws) (gives (Gave t (freshPlace t (emptied ws))) (freshLeft t (emptied ws))) (gives (Stopped (InconsistentLog n)) ws)
