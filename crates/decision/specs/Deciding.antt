@@ -27,10 +27,11 @@ use Rattle.rows.specs.Decision.{branchesOf, decisionOf}
 use Rattle.rows.specs.declared.Decision.{Decision}
 use Rattle.rows.specs.declared.Decision.the-variants.{TooMany, OnlyTrue, OnlyFalse}
 use Rattle.rows.specs.Marks.{Within, part, Parts, Kept, AtLeast, Odd, kept-least, kept-odd, marked-keeps, closed-first, closed-second, parts-marked, start-length, start-parts, start-first, start-second}
-use Rattle.known.specs.Atoms.{assign, assign-respects, numberOf, number-less, number-assigns, apart-length, different-apart}
+use Rattle.rows.specs.Known.{assign, Assigned, Right}
+use Rattle.known.specs.Atoms.{assign-respects, numberOf, number-less, number-assigns, apart-length, different-apart}
 use Rattle.known.specs.Ordered.{numbered-rank}
 use Rattle.known.specs.Listed.{Counted, Listed, SomeList, some-list, list-made, rank-counted, listed-length, listed-in, listed-part, listed-apart, listed-assigns}
-use Rattle.known.specs.Words.{Assigned, Right, right-negation, right-conjunction, right-constant, Closed, RowOf, row-of, rows-of, Sweep, either, atom-op, rank-grows, rows-listed, rows-right}
+use Rattle.known.specs.Words.{right-negation, right-conjunction, right-constant, Closed, RowOf, row-of, rows-of, Sweep, either, atom-op, rank-grows, rows-listed, rows-right}
 use Rattle.decision.specs.Conjuncts.{linked-branches}
 
 -- ---- the blocks together

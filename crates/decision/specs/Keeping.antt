@@ -20,10 +20,10 @@ use Rattle.terms.specs.Terms.Laws.{atom-kept}
 use Rattle.rows.specs.Bits.{bit}
 use Rattle.rows.specs.Code.{rank, blocksOf, knownSize, knownRow, knownWord, keepRow, keptRows, keepWord, keptWords, kept, Keepable}
 use Rattle.rows.specs.Code.Leaves.{keptRows-length, keptRows-low, keptWords-length}
-use Rattle.known.specs.Atoms.{assign, assign-respects}
-use Rattle.known.specs.Known.{Numbered, Known, KnownOver}
+use Rattle.rows.specs.Known.{assign, Right, Numbered, Known, KnownOver}
+use Rattle.known.specs.Atoms.{assign-respects}
 use Rattle.known.specs.Listed.{Counted, Listed, listed-none, listed-skip, listed-more, rank-counted, listed-length, listed-in, listed-assigns}
-use Rattle.known.specs.Words.{Right, rank-grows}
+use Rattle.known.specs.Words.{rank-grows}
 use Rattle.decision.specs.Deciding.{with-atoms, without-atoms}
 
 -- ---- the rows

@@ -1,6 +1,6 @@
 pub mod Conjuncts
 pub mod Deciding
 pub mod Keeping
-pub mod Promise
+pub mod Promised
 pub mod Recalling
 pub mod Whole

@@ -20,8 +20,8 @@ use Rattle.rows.specs.Decision.{branchesOf, decisionOf}
 use Rattle.rows.specs.Marks.{kept-least, marked-keeps, closed-first, closed-second}
 use Rattle.known.specs.Atoms.{atom-one, apart-fits, different-apart}
 use Rattle.known.specs.Ordered.{rows-skip, rows-more}
-use Rattle.known.specs.Known.{Numbered, Known}
-use Rattle.known.specs.Words.{Assigned, Right, right-negation, right-conjunction, Sweep, atom-op, rows-listed, rows-right}
+use Rattle.rows.specs.Known.{Assigned, Right, Numbered, Known}
+use Rattle.known.specs.Words.{right-negation, right-conjunction, Sweep, atom-op, rows-listed, rows-right}
 use Rattle.decision.specs.Deciding.{found-is, with-atoms, without-atoms}
 
 -- ---- a row that has the mark is among the rows in order

@@ -8,7 +8,7 @@ ghost use lib.ListN.{length, set};
 ghost use Rattle.script.specs.Tests.{pick};
 ghost use Rattle.rows.specs.Decision.{onlyOne};
 ghost use Rattle.rows.specs.Code.{conditionWord, Searchable, Searched, kept, Keepable, decidedAnew, LeftAnew};
-ghost use Rattle.decision.specs.Promise.{Decidable, Decides};
+ghost use Rattle.rows.specs.Promise.{Decidable, Decides};
 
 mod conjuncts;
 

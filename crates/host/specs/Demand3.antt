@@ -17,7 +17,7 @@ use Rattle.rules.specs.Running.{valuesOf, rightCells, rightValues}
 use Rattle.rules.specs.Typings.{HasType, HaveTypes, Fits, Extends}
 use Rattle.text.specs.Grammar.{Meaning, means, refused, meaningOf}
 use Rattle.text.specs.Reading.{tableRead, entriesRead}
-use Rattle.host.specs.Answers.{packed, done, answerOfCheck, answerOfRun, AnswersRun}
+use Rattle.answers.specs.Answers.{packed, done, answerOfCheck, answerOfRun, AnswersRun}
 use Rattle.host.specs.Texts.{checkMeant, checkText, runMeant, runText}
 
 -- the types of a text's entries

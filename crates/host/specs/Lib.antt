@@ -1,4 +1,3 @@
-pub mod Answers
 pub mod Code
 pub mod Demand3
 pub mod LosesNothing

@@ -13,7 +13,7 @@ use Rattle.script.specs.declared.Ran.{Ran}
 use Rattle.script.specs.declared.Refusal.{Refusal}
 use Rattle.rules.specs.Checking.Bounds.{Bounded, code, refusal}
 use Rattle.rules.specs.Running.{lentLimit}
-use Rattle.host.specs.Answers.{packed, placeField, answerOfRefusal, answerOfCheck, answerOfRun}
+use Rattle.answers.specs.Answers.{packed, placeField, answerOfRefusal, answerOfCheck, answerOfRun}
 use Rattle.host.specs.Texts.Bounds.{placeLimit, check-bounded, RanWithin, gave-within, failed-within, refused-within, run-within}
 use Rattle.host.specs.Texts.{checkText, runText, checkTextReport, runTextReport}
 

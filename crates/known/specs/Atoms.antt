@@ -15,6 +15,7 @@ use Rattle.rules.specs.Symbolic.{Sum, number, wordSymbol, plus, minus, Atom, tr
 use Rattle.rules.specs.Symbolic.Laws.{sameAtom-refl, sameAtom-sym, sameAtom-trans, sameAtom-right}
 use Rattle.terms.specs.Terms.{rowIn, SumRow, numberRow, symbolRow, plusRow, AtomRow, truthSymbolRow, pairRow, differenceRow}
 use Rattle.rows.specs.Bits.{bit, bit-low, bit-high}
+use Rattle.rows.specs.Known.{assign}
 
 -- ---- sameness
 
@@ -122,11 +123,6 @@ module _ {ws : List ℕ} where
       ap₂ (λ (p q : Sum). difference (minus p q)) (sum-one (sym ea ∙ fa) u s) (sum-one (sym eb ∙ fb) v t)
 
 -- ---- assignments by number
-
--- bit k of the number for the atom that k atoms follow
-unfoldable pub assign : List Atom → ℕ → Atom → Bool
-assign [] x y = false
-assign (z ∷ zs) x y = pick (sameAtom z y) (bit x (length zs)) (assign zs x y)
 
 assign-same : (zs : List Atom) (n : ℕ) (x y : Atom) → sameAtom x y ≡ true → assign zs n x ≡ assign zs n y
 unfolding assign

@@ -1,5 +1,4 @@
 pub mod Atoms
-pub mod Known
 pub mod Listed
 pub mod Ordered
 pub mod Patterns

@@ -21,7 +21,8 @@ use Rattle.terms.specs.Terms.{rowIn, countIn, constantRow, atomRow, negationRow
 use Rattle.rows.specs.Bits.{bit}
 use Rattle.rows.specs.Code.{seenAfter, rank}
 use Rattle.rows.specs.Marks.{Part, part, Parts}
-use Rattle.known.specs.Atoms.{Apart, apart-none, apart-more, same-turned, atom-one, assign}
+use Rattle.rows.specs.Known.{assign}
+use Rattle.known.specs.Atoms.{Apart, apart-none, apart-more, same-turned, atom-one}
 
 -- a row that is an atom and has at least a mark
 pub record Counted (ws ms : List ℕ) (least i : ℕ) : Type 0 where

@@ -23,7 +23,8 @@ use Rattle.rows.specs.Bits.{bit, bit-and, bit-xor, bit-not}
 use Rattle.rows.specs.Code.{ones, spreadOf, patternOf, rank, rowWord, wordOf, words}
 use Rattle.rows.specs.Code.Laws.{seen-grows, words-length}
 use Rattle.rows.specs.Marks.{Operand, AtLeast}
-use Rattle.known.specs.Atoms.{assign, assign-respects}
+use Rattle.rows.specs.Known.{assign, Assigned, Right}
+use Rattle.known.specs.Atoms.{assign-respects}
 use Rattle.known.specs.Patterns.{pattern-bit, pattern-small, spread-bit, spread-small}
 
 -- ---- a row's word by its operator
@@ -85,16 +86,6 @@ module _ (ws ms : List ℕ) (least : ℕ) (ns : List ℕ) (block : ℕ) where
   word-row n i h k = words-at n i h ∙ rw (le-ltb (getD ms i 0) least k)
 
 -- ---- right words
-
--- the assignments by number give an atom of the list their bit m
-pub record Assigned (xs : List Atom) (m : ℕ) (x : Atom) : Type 0 where
-  pub low : m < 10
-  pub listed : among xs x ≡ true
-  pub bits : (n : ℕ) → assign xs n x ≡ bit n m
-
-pub record Right (xs : List Atom) (block w : ℕ) (f : Formula) : Type 0 where
-  pub small : w < 2 ^ 64
-  pub bits : (p : ℕ) → p < 64 → bit w p ≡ holds (assign xs (block * 64 + p)) f
 
 not-not : (b : Bool) → not (not b) ≡ b
 not-not true = refl

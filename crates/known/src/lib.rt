@@ -18,9 +18,6 @@ use truths::begin;
 use truths::evaluate;
 use truths::list_rows;
 
-// How many numbers are kept of what is known of a condition.
-pub const KNOWN: usize = 44;
-
 // Where the count of the atoms stands, from the first place on, their rows, and the truths.
 const COUNT: usize = 1;
 

@@ -1,4 +1,6 @@
 pub mod Bits
 pub mod Code
 pub mod Decision
+pub mod Known
 pub mod Marks
+pub mod Promise

@@ -12,7 +12,7 @@ use Rattle.rules.specs.Paths.{Path, Paths, ends, stops, Write, writeOf}
 use Rattle.rules.specs.Satisfiable.{satisfiable}
 use Rattle.rules.specs.Symbolic.{Sum, Formula, Origin, made, other, Symbolic, aWord, aTruth, aReference}
 use Rattle.terms.specs.Terms.{countIn, SumRow, TruthRow, Distinct, Grown, rowLimit, symbolLimit}
-use Rattle.known.specs.Known.{Remembers}
+use Rattle.rows.specs.Known.{Remembers}
 use Rattle.workspace.specs.declared.Step.{Step}
 use Rattle.workspace.specs.declared.Step.the-variants.{Gave, Stopped}
 
@@ -90,12 +90,6 @@ pub record State (ws : List ℕ) (depth : ℕ) (env : List Symbolic) (p : Path) 
 pub record Valued (ws : List ℕ) (t q : ℕ) : Type 0 where
   pub value : Symbolic
   pub means : Means ws t q value
-
--- a workspace that stands for some environment and path
-pub record Standing (ws : List ℕ) (depth : ℕ) : Type 0 where
-  pub environment : List Symbolic
-  pub path : Path
-  pub state : State ws depth environment path
 
 -- ---- room
 

@@ -46,7 +46,7 @@ pub const KEPT: usize = 8;
 pub const KNOWN: usize = NOTES + KEPT * NOTE;
 
 // How many numbers a workspace has.
-pub const SPACE: usize = KNOWN + known::KNOWN;
+pub const SPACE: usize = KNOWN + rows::KNOWN;
 
 // ---- the frames and the forks
 

@@ -4,7 +4,7 @@ use borrow.Author.Needs.{needs}
 use native.Mathlib.Omega.{arith}
 use Rattle.rows.specs.Code.{recalled, recalls}
 use Rattle.decision.specs.Whole.{decided-unknown, decided-known, decided-other, unknown, not-recalled, numbers-known, recalls-is, guard-long, guard-rows}
-use Rattle.decision.specs.Promise.Laws.{anew-promised, known-promised}
+use Rattle.decision.specs.Promised.{anew-promised, known-promised}
 use Rattle.decision.proofs.decide.Statement.{statement}
 use Rattle.decision.proofs.decide.Tie as tie
 

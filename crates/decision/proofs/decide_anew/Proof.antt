@@ -3,7 +3,7 @@ use mathlib.Core.Path.{_≡_, refl}
 use borrow.Author.Needs.{needs}
 use native.Mathlib.Omega.{arith}
 use Rattle.rows.specs.Code.{Room, decidedAnew, left-same, left-none}
-use Rattle.known.specs.Known.{blocks-most}
+use Rattle.rows.specs.Known.{blocks-most}
 use Rattle.decision.specs.Whole.{Prepared, room-start, room-marked, room-guard, decided-many, decided-alone, decided-with, decided-without, decided-both, aside-alone, aside-with, aside-without, aside-not, keepable, left-after, left-alone}
 use Rattle.decision.proofs.decide_anew.Statement.{statement}
 use Rattle.decision.proofs.decide_anew.Tie as tie

@@ -1,48 +1,27 @@
--- How an answer is packed: each way through the code gives the answer's number. Assumes nothing.
+-- The answers of the two calls as numbers. Assumes nothing.
 use mathlib.Core.List.{List}
-use mathlib.Core.Path.{_≡_, refl, sym, ap, _∙_}
-use Prim.Native.Nat.{ℕ, _+_}
-use native.Mathlib.Numerals.{add-one}
-use Rattle.script.specs.Answers.{numberOf, placeOf, kindOf, bitsOf}
-use Rattle.script.specs.declared.Place.{Place}
-use Rattle.script.specs.declared.Place.the-variants.{Nowhere, At}
-use Rattle.script.specs.declared.Checked.{Checked}
+use mathlib.Core.Path.{_≡_, sym, ap, _∙_}
+use Prim.Native.Nat.{ℕ, _≤_, _<_}
+use native.Mathlib.Omega.{arith}
 use Rattle.script.specs.declared.Ran.{Ran}
-use Rattle.script.specs.declared.Refusal.{Refusal}
-use Rattle.script.specs.declared.Value.{Value}
-use Rattle.rules.specs.Running.{Run}
-use Rattle.host.specs.Answers.{packed, refused, answerOfRefusal, done, failed, answerOfCheck, answerOfRun, AnswersRun}
-use Rattle.host.specs.Texts.{RanTo}
+use Rattle.rules.specs.Running.{Run, lentLimit}
+use Rattle.answers.specs.Answers.{answerOfRun, AnswersRun}
+use Rattle.answers.specs.Code.Packing.{usedIn}
+use Rattle.host.specs.Texts.{runText, RanTo}
+use Rattle.host.specs.Texts.Bounds.{RanWithin, gave-within, failed-within, refused-within, run-within}
 
--- ---- a refusal
-
-module _ (why : Refusal) {number : ℕ} {place : Place} {r : ℕ} (n : number ≡ numberOf why) (p : place ≡ placeOf why) where
-  pub refusal-nowhere : place ≡ Nowhere → r ≡ packed refused number 0 0 → r ≡ answerOfRefusal why
-  refusal-nowhere e h = h ∙ rw (n, sym p ∙ e) refl
-
-  pub refusal-at : {i : ℕ} → place ≡ At i → r ≡ packed refused number (i + 1) 0 → r ≡ answerOfRefusal why
-  refusal-at {i} e h = h ∙ rw (n, add-one i, sym p ∙ e) refl
-
--- ---- the whole calls
-
-pub check-accepted : {answer told : Checked} {code r : ℕ} → told ≡ answer → told ≡ Checked.Accepted code → r ≡ packed done 0 0 code → r ≡ answerOfCheck answer
-check-accepted q e h = h ∙ ap answerOfCheck (sym e ∙ q)
-
-pub check-refused : {answer told : Checked} {why : Refusal} {r : ℕ} → told ≡ answer → told ≡ Checked.Refused why → r ≡ answerOfRefusal why → r ≡ answerOfCheck answer
-check-refused q e h = h ∙ ap answerOfCheck (sym e ∙ q)
+used-within : {m n : ℕ} {r : Ran} → RanWithin m n r → usedIn r ≤ n
+used-within (gave-within l) = l
+used-within (failed-within b l) = l
+used-within (refused-within p) = omega arith
 
 module _ {run : Run} {told : Ran} {left : List ℕ} (q : RanTo run told left) where
-  pub told-is : told ≡ run .answer
-  told-is = ap (λ (r : Run). r .answer) q
+  pub run-answered : {r : ℕ} → r ≡ answerOfRun told → AnswersRun run r left
+  run-answered e = (e ∙ ap (λ (x : Run). answerOfRun (x .answer)) q, ap (λ (x : Run). x .cells) q)
 
-  answered : {a : Ran} {r : ℕ} → told ≡ a → r ≡ answerOfRun a → AnswersRun run r left
-  answered e h = (h ∙ ap answerOfRun (sym e ∙ told-is), ap (λ (r : Run). r .cells) q)
-
-  pub run-gave : {v : Value} {n kind bits r : ℕ} → told ≡ Ran.Gave v n → kind ≡ kindOf v → bits ≡ bitsOf v → r ≡ packed done kind n bits → AnswersRun run r left
-  run-gave e k b h = answered e (h ∙ rw (k, b) refl)
-
-  pub run-failed : {at n r : ℕ} → told ≡ Ran.Failed at n → r ≡ packed failed 0 n at → AnswersRun run r left
-  run-failed e h = answered e h
-
-  pub run-refused : {why : Refusal} {r : ℕ} → told ≡ Ran.Refused why → r ≡ answerOfRefusal why → AnswersRun run r left
-  run-refused e h = answered e h
+-- the used count has room in the number, since it is at most 192
+pub run-few : (text values cells : List ℕ) (used : ℕ) {told : Ran} {left : List ℕ} → RanTo (runText text values cells used) told left → usedIn told < 65536
+run-few text values cells used q =
+    let l = used-within (run-within text values cells used) in
+    let e = ap (λ (x : Run). usedIn (x .answer)) q in
+    omega (arith, l, e)

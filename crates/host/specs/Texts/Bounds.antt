@@ -86,15 +86,3 @@ run-within text values cells used = go (meaningOf text) refl (meaning-below text
     go (means es ns) e b =
         table-within (tableRead es ns nodeLimit entryLimit) values cells used (read-passes text es ns e nodeLimit entryLimit (omega arith) (omega arith))
     go (refused r) e (is-refused h) = refused-within h
-
-pub gave-count : {m n used : ℕ} {r : Ran} {v : Value} → RanWithin m n r → r ≡ Ran.Gave v used → used ≤ n
-gave-count q e = go (rw e at q)
-  where
-    go : {m n used : ℕ} {v : Value} → RanWithin m n (Ran.Gave v used) → used ≤ n
-    go (gave-within h) = h
-
-pub failed-count : {m n i used : ℕ} {r : Ran} → RanWithin m n r → r ≡ Ran.Failed i used → used ≤ n
-failed-count q e = go (rw e at q)
-  where
-    go : {m n i used : ℕ} → RanWithin m n (Ran.Failed i used) → used ≤ n
-    go (failed-within b h) = h

@@ -6,7 +6,7 @@ use native.Mathlib.Omega.{arith}
 use lib.ListN.{getD}
 use Rattle.rows.specs.Code.{changesOf}
 use Rattle.known.specs.Searching.{rows-listed, order-long, Comparing, comparing, compare-rows, comparing-on, comparing-both, comparing-end}
-use Rattle.known.specs.Known.{blocks-most}
+use Rattle.rows.specs.Known.{blocks-most}
 use Rattle.known.proofs.compare.Statement.{statement}
 use Rattle.known.proofs.compare.Tie as tie
 

@@ -11,7 +11,7 @@ use Rattle.rules.specs.Satisfiable.{satisfiable}
 use Rattle.rules.specs.Symbolic.{Formula, aTruth}
 use Rattle.terms.specs.Terms.{countIn, pushed, TruthRow, Distinct, Grown, Made, symbolLimit}
 use Rattle.terms.specs.Terms.Laws.{still-distinct, grown-trans, truth-kept, pushed-length, pushed-count, pushed-added, made-conjunction, made-exclusion}
-use Rattle.known.specs.Known.{Remembers}
+use Rattle.rows.specs.Known.{Remembers}
 use Rattle.workspace.specs.Paths.{assumed, forgotten, Learns}
 use Rattle.workspace.specs.Rules.{Ruled, withGuard, withoutGuard}
 use Rattle.workspace.specs.State.{conditionIn, writesIn, knownAt, Means, truthRow, PathIn, Room}

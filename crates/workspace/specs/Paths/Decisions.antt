@@ -17,8 +17,8 @@ use Rattle.terms.specs.Terms.{countIn, Space, TruthRow}
 use Rattle.rows.specs.Decision.{branchesOf, decisionOf}
 use Rattle.rows.specs.declared.Decision.{Decision}
 use Rattle.rows.specs.declared.Decision.the-variants.{TooMany, Both, OnlyTrue, OnlyFalse}
-use Rattle.known.specs.Known.{remembers-sound}
-use Rattle.decision.specs.Promise.{Asked, Decides, Decidable as DecidableRows}
+use Rattle.rows.specs.Known.{remembers-sound}
+use Rattle.rows.specs.Promise.{Asked, Decides, Decidable as DecidableRows}
 use Rattle.workspace.specs.Paths.{assumed, Learns}
 use Rattle.workspace.specs.Paths.Conditions.{ruled-refl, learnt-room, assumed-ruled, assumed-with, assumed-without}
 use Rattle.workspace.specs.Rules.{Decidable, withGuard, withoutGuard, Chosen, first, second, both, neither, Chooses}

@@ -13,7 +13,7 @@ use Rattle.rules.specs.Paths.{Path, Write}
 use Rattle.rules.specs.Symbolic.{Formula, Symbolic, typeOf}
 use Rattle.terms.specs.Terms.{countIn, Space, Grown, Distinct, Added}
 use Rattle.terms.specs.Terms.Laws.{grown-refl, grown-trans, sum-kept, truth-kept, still-distinct}
-use Rattle.known.specs.Known.{Remembers, remembers-kept}
+use Rattle.rows.specs.Known.{Remembers, remembers-kept}
 use Rattle.workspace.specs.State.{nextIn, conditionIn, writesIn, startIn, knownAt, typesOn, Means, wordRow, truthRow, madeSymbol, otherSymbol, Variables, noVariable, oneMore, Log, noWrite, aWrite, PathIn, Room, Went, Unnoted}
 
 -- ---- values

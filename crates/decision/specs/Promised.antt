@@ -18,12 +18,12 @@ use Rattle.rows.specs.Decision.{branchesOf, onlyOne, decisionOf}
 use Rattle.rows.specs.Marks.{start-length}
 use Rattle.rows.specs.declared.Decision.{Decision}
 use Rattle.rows.specs.declared.Decision.the-variants.{TooMany, OnlyTrue, OnlyFalse}
-use Rattle.known.specs.Known.{KnownOver, Remembers, blocks-most}
+use Rattle.rows.specs.Known.{KnownOver, Remembers, blocks-most}
 use Rattle.known.specs.Listed.{listed-length}
 use Rattle.decision.specs.Deciding.{decides, truths}
 use Rattle.decision.specs.Keeping.{kept-length, kept-before, kept-beyond, kept-known, known-with, known-without}
 use Rattle.decision.specs.Recalling.{recalled-atoms, recalled-decides}
-use Rattle.decision.specs.Promise.{Decidable, Asked, Decides}
+use Rattle.rows.specs.Promise.{Decidable, Asked, Decides}
 
 -- ---- a decision by the rows
 

@@ -2,19 +2,35 @@
 -- lent numbers from a place on: 1 if something is known, how many atoms, ten places for their rows, and two numbers for each of 16 blocks.
 -- Assumes nothing.
 use mathlib.Core.Bool.{Bool, true, false}
-use mathlib.Core.List.{List}
+use mathlib.Core.List.{List, [], _∷_}
 use mathlib.Core.Path.{_≡_, sym, _∙_}
-use Prim.Native.Nat.{ℕ, _+_, _*_, _≤_, _<_}
+use Prim.Native.Nat.{ℕ, _+_, _*_, _^_, _≤_, _<_}
 use native.Mathlib.Omega.{arith}
 use lib.Dec.{eqb, lit≤}
 use lib.ListN.{length, getD}
 use Rattle.script.specs.Tests.{pick}
-use Rattle.rules.specs.Satisfiable.{atomsOf, among}
-use Rattle.rules.specs.Symbolic.{Atom, Formula}
+use Rattle.rules.specs.Satisfiable.{holds, atomsOf, among}
+use Rattle.rules.specs.Symbolic.{Atom, Formula, sameAtom}
 use Rattle.terms.specs.Terms.{countIn, rowLimit, AtomRow, Grown}
 use Rattle.terms.specs.Terms.Laws.{atom-kept}
+use Rattle.rows.specs.Bits.{bit}
 use Rattle.rows.specs.Code.{blocksOf, knownSize, knownRow, knownWord, Sound}
-use Rattle.known.specs.Words.{Assigned, Right}
+
+-- assignments by number: bit k of the number for the atom that k atoms follow
+unfoldable pub assign : List Atom → ℕ → Atom → Bool
+assign [] x y = false
+assign (z ∷ zs) x y = pick (sameAtom z y) (bit x (length zs)) (assign zs x y)
+
+-- the assignments by number give an atom of the list their bit m
+pub record Assigned (xs : List Atom) (m : ℕ) (x : Atom) : Type 0 where
+  pub low : m < 10
+  pub listed : among xs x ≡ true
+  pub bits : (n : ℕ) → assign xs n x ≡ bit n m
+
+-- the truths of a formula under the 64 assignments of a block, one bit each
+pub record Right (xs : List Atom) (block w : ℕ) (f : Formula) : Type 0 where
+  pub small : w < 2 ^ 64
+  pub bits : (p : ℕ) → p < 64 → bit w p ≡ holds (assign xs (block * 64 + p)) f
 
 -- row i is an atom with number m
 pub record Numbered (ws : List ℕ) (xs : List Atom) (i m : ℕ) : Type 0 where

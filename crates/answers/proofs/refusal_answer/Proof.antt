@@ -1,8 +1,8 @@
--- `host::refusal_answer` meets its contract: the number, and the place plus 1. Assumes nothing.
+-- `answers::refusal_answer` meets its contract: the number, and the place plus 1. Assumes nothing.
 use borrow.Author.Needs.{needs}
-use Rattle.host.specs.Code.Packing.{refusal-nowhere, refusal-at}
-use Rattle.host.proofs.refusal_answer.Statement.{statement}
-use Rattle.host.proofs.refusal_answer.Tie as tie
+use Rattle.answers.specs.Code.Packing.{refusal-nowhere, refusal-at}
+use Rattle.answers.proofs.refusal_answer.Statement.{statement}
+use Rattle.answers.proofs.refusal_answer.Tie as tie
 
 returns : tie.Need-returns
 returns c = refusal-nowhere (c .before .before .before .before .before .args .why) (c .before .before .before .before .number .ensures) (c .before .before .before .place .ensures) (c .before .enum-told .given .1) (c .pack .ensures)

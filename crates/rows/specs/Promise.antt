@@ -1,6 +1,5 @@
 -- What `decide` promises: the rules' decision, where the two rows stand for a satisfiable condition and a guard and what is known is the condition's. If one
 -- branch is possible only, what is known then is the truths of what is assumed with it; else no number changes. Assumes nothing.
-pub mod Laws
 use mathlib.Core.Bool.{true}
 use mathlib.Core.List.{List}
 use mathlib.Core.Path.{_≡_}
@@ -9,11 +8,11 @@ use lib.ListN.{length, getD}
 use Rattle.rules.specs.Satisfiable.{satisfiable}
 use Rattle.rules.specs.Symbolic.{Formula, negation, conjunction}
 use Rattle.terms.specs.Terms.{countIn, rowLimit, rowsEnd, Space, TruthRow, Distinct}
 use Rattle.rows.specs.Code.{knownSize, Sound, decided, LeftBy}
 use Rattle.rows.specs.Decision.{decisionOf}
 use Rattle.rows.specs.declared.Decision.{Decision}
 use Rattle.rows.specs.declared.Decision.the-variants.{TooMany, Both, OnlyTrue, OnlyFalse}
-use Rattle.known.specs.Known.{Remembers}
+use Rattle.rows.specs.Known.{Remembers}
 
 -- the numbers and rows that it takes
 pub record Decidable (ws : List ℕ) (at c g : ℕ) : Type 0 where
