@@ -3,7 +3,7 @@ ghost use Rattle.checker.specs.Code.Going.{Restorable, Restores, Resumab
 use frames::forks::restore_one;
 use frames::forks::rewind;
 use frames::forks::without_guard;
-use script::table::node_at;
+use table::node_at;
 use workspace::BASE;
 use workspace::DEPTH;
 use workspace::FRAME;

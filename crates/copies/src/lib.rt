@@ -7,8 +7,8 @@ ghost use Rattle.script.specs.Table.{nodeAt};
 ghost use Rattle.copies.specs.Copies.{CopiedOut, places};
 use script::Node;
 use script::table::FALSE;
-use script::table::node_at;
-use script::table::put_node;
+use table::node_at;
+use table::put_node;
 
 // The record at place i.
 pub fn record_at(table: &[Node], i: usize) -> Node

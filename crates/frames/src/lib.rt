@@ -10,7 +10,7 @@ pub mod forks;
 
 use script::table::LEAVES;
 use script::table::TYPED;
-use script::table::node_at;
+use table::node_at;
 use workspace::FOR_FIRST;
 use workspace::FRAME;
 use workspace::Frame;

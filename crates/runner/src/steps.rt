@@ -17,8 +17,8 @@ use operators::two;
 use script::Value;
 use script::table::LEAVES;
 use script::table::LET;
-use script::table::has_one;
-use script::table::node_at;
+use table::has_one;
+use table::node_at;
 
 // The environment of that operand: a `let` adds v. Answers how many variables it has.
 fn bind(environment: &mut [u8], depth: usize, kind: u32, v: Value) -> usize

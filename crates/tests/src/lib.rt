@@ -14,11 +14,11 @@ use script::Refusal;
 use script::Script;
 use script::Sized;
 use script::table::Tested;
-use script::table::is_sym;
-use script::table::node_at;
-use script::table::node_operands;
-use script::table::operand_at;
-use script::table::well_formed;
+use table::is_sym;
+use table::node_at;
+use table::node_operands;
+use table::operand_at;
+use table::well_formed;
 
 // All codes of the first `count` entries are types.
 fn right_codes(entries: &[u32], count: usize) -> bool

@@ -6,7 +6,7 @@ ghost use Rattle.script.specs.Flat.{nodesIn};
 ghost use Rattle.script.specs.Tests.{all};
 ghost use Rattle.texts.specs.Slices.{isUnused};
 use script::Node;
-use script::table::node_at;
+use table::node_at;
 
 // Puts `w` into every place.
 pub fn fill_words(s: &mut [u32], w: u32)

@@ -19,8 +19,8 @@ use script::Refusal;
 use script::Script;
 use script::Writing;
 use script::table::Tested;
-use script::table::node_at;
-use script::table::operand_count;
+use table::node_at;
+use table::operand_count;
 use tests::test_table;
 
 // An entry line.

@@ -49,10 +49,10 @@ use Rattle.script.specs.declared.Node.{Node}
 use Rattle.script.specs.Table.{nodeAt}
 use Rattle.script.proofs.Node as T
 use Rattle.script.proofs.Node.Laws as T′
-use Rattle.script.proofs.table.put_node as put-node
-use Rattle.script.proofs.table.put_node.Symbol as put-node-def
-use Rattle.script.proofs.table.put_node.Symbol.{name as #script·table·put-node}
-use Rattle.script.proofs.table.put_node.Met as put-node-thm
+use Rattle.table.proofs.put_node as put-node
+use Rattle.table.proofs.put_node.Symbol as put-node-def
+use Rattle.table.proofs.put_node.Symbol.{name as #table·put-node}
+use Rattle.table.proofs.put_node.Met as put-node-thm
 use Rattle.copies.specs.Copies.{copied}
 use Rattle.copies.specs.Copies.Laws.{copied-start, copied-next, length-copied}
 use Rattle.copies.proofs.Counted.{goes-on, stops, counted}
@@ -167,7 +167,7 @@ module _ {M : Type 1} (𝓤 : URA M) (H : Heap 𝓤) (A : Atoms 𝓤) (W : Given
       heard ! (r ≡ n) (λ e. split ! $ move ! (1 ∷ []) $
       facts ! usize (Is usize) (shows 𝓤 H A usize) r (w ∷ []) (λ is. at-once ! $ check ! (ap only (is .0) ∙ ap (vint w64) e, subst (λ (m : ℕ). m < 2 ^ 64) e (is .1)) $ done !))))))
 
-  module _ (𝓣 : Tables 𝓤 H) (known-at : Triple 𝓤 (𝓣 .C #copies·record-at) (RecordAt 𝓤 H A mem run)) (known-put : Triple 𝓤 (𝓣 .C #script·table·put-node) (PutNode 𝓤 H A mem run))
+  module _ (𝓣 : Tables 𝓤 H) (known-at : Triple 𝓤 (𝓣 .C #copies·record-at) (RecordAt 𝓤 H A mem run)) (known-put : Triple 𝓤 (𝓣 .C #table·put-node) (PutNode 𝓤 H A mem run))
       (xs-fits : length xs < 2 ^ 64) (n-fits : n < 2 ^ 64) (l₀ l₁ l₂ l₃ l₄ l₅ l₆ l₇ l₈ l₉ l₁₀ l₁₁ l₁₂ : ℕ) where
     abbrev fm : FmC 𝓤 H (W .laws) (𝓣 .C)
     fm = fmOf 𝓤 H (W .laws) 𝓣
@@ -198,9 +198,9 @@ module _ {M : Type 1} (𝓤 : URA M) (H : Heap 𝓤) (A : Atoms 𝓤) (W : Given
       taken = takes 𝓤 H A W T.the-row (𝓣 .C #copies·record-at) (fm #copies·record-at) κ q i i-fits (record-at.clauses 𝓤 H A mem run) x (node i) tt known-at
           (factI 𝓤 (i < length ns) (emp 𝓤) (omega (arith, small))) (λ r e. id⊢ 𝓤 _)
 
-      put : (u : Val) → Is T.the-row (node i) (u ∷ []) → ent 𝓤 (mean 𝓤 H A (Flat i)) (H .⇛ (𝓣 .C #script·table·put-node (t ∷ vint w64 i ∷ u ∷ []) (λ w. mean 𝓤 H A (Back u32 𝓤 κ′ q′ b o γ (length xs)
+      put : (u : Val) → Is T.the-row (node i) (u ∷ []) → ent 𝓤 (mean 𝓤 H A (Flat i)) (H .⇛ (𝓣 .C #table·put-node (t ∷ vint w64 i ∷ u ∷ []) (λ w. mean 𝓤 H A (Back u32 𝓤 κ′ q′ b o γ (length xs)
           (copied ns (suc i) xs) w))))
-      put u is = puts 𝓤 H A W u32 (𝓣 .C #script·table·put-node) (fm #script·table·put-node) κ′ q′ i i-fits (put-node.clauses 𝓤 H A mem run) b o γ (node i) u is (copied ns i xs)
+      put u is = puts 𝓤 H A W u32 (𝓣 .C #table·put-node) (fm #table·put-node) κ′ q′ i i-fits (put-node.clauses 𝓤 H A mem run) b o γ (node i) u is (copied ns i xs)
           (copied ns (suc i) xs) (λ ν δ. tt)
           (length xs) (keeps-length i (omega (arith, small))) known-put
           (λ ν δ. factI 𝓤 (4 * i + 3 < length (copied ns i xs)) (emp 𝓤) (subst (λ (m : ℕ). 4 * i + 3 < m) (sym (keeps-length i (omega (arith, small)))) (omega (arith, small))))
@@ -248,7 +248,7 @@ module _ {M : Type 1} (𝓤 : URA M) (H : Heap 𝓤) (A : Atoms 𝓤) (W : Given
     loops = counted 𝓤 H A W 𝓣 E Mir′.turn-1 Left n (λ i. ⋆ 𝓤 H A (At i)) more ends
 
   walk : (𝓣 : Tables 𝓤 H) → Triple 𝓤 (𝓣 .C #copies·lesser) (Lesser 𝓤 H A mem run) → Triple 𝓤 (𝓣 .C #copies·record-at) (RecordAt 𝓤 H A mem run)
-      → Triple 𝓤 (𝓣 .C #script·table·put-node) (PutNode 𝓤 H A mem run)
+      → Triple 𝓤 (𝓣 .C #table·put-node) (PutNode 𝓤 H A mem run)
       → Room T.the-row (length ns) → Room u32 (length xs) → ent 𝓤 (onEntry 𝓤 H A copy-out.signature (κ, (κ′, tt)) (q, (q′, tt)) a vals) (WpFn 𝓤 H (𝓣 .C) (𝓣 .Λ) code.function (s ∷ t ∷ []) Post)
   walk 𝓣 known-less known-at known-put room room′ =
       qed W ((‵ (flft κ q) ⊛ (‵ (flft κ′ q′) ⊛ ‵ ftrue)) ∷ ‵ (owns (ShrSlice (named 0) κ T.the-row ∷ MutSlice (named 1) κ′ u32 ∷ []) a vals) ∷ []) ∵ enter ! (𝓣 .C) (𝓣 .Λ) code.function (s ∷ t ∷ []) _ $
@@ -276,7 +276,7 @@ module _ {M : Type 1} (𝓤 : URA M) (H : Heap 𝓤) (A : Atoms 𝓤) (W : Given
 
 module _ {M : Type 1} (𝓤 : URA M) (H : Heap 𝓤) (A : Atoms 𝓤) (W : Given 𝓤 H A) (mem : Memory → SProp 𝓤) (run : Routine → Fun 𝓤) (𝓣 : Tables 𝓤 H)
     (known-less : Triple 𝓤 (𝓣 .C #copies·lesser) (Lesser 𝓤 H A mem run)) (known-at : Triple 𝓤 (𝓣 .C #copies·record-at) (RecordAt 𝓤 H A mem run))
-    (known-put : Triple 𝓤 (𝓣 .C #script·table·put-node) (PutNode 𝓤 H A mem run)) where
+    (known-put : Triple 𝓤 (𝓣 .C #table·put-node) (PutNode 𝓤 H A mem run)) where
   copy-out-walks : Walks 𝓤 H A copy-out.ended stayed (WpFn 𝓤 H (𝓣 .C) (𝓣 .Λ) code.function) (copy-out.clauses 𝓤 H A mem run)
   copy-out-walks = walked 𝓤 H A copy-out.ended stayed (copy-out.clauses 𝓤 H A mem run) (WpFn 𝓤 H (𝓣 .C) (𝓣 .Λ) code.function)
       (λ κs. (slice-vals, (slice-vals, tt))) (λ κs. (shr-slice-tells (named 0) (κs .0) T.the-row, (mut-slice-tells (named 1) (κs .1 .0) u32, tt)))
@@ -296,4 +296,4 @@ copy-out-spec 𝓤 H 𝓜 𝓖 𝓡 =
     (copy-out-meets 𝓤 H (𝓖 .A) (givenOf 𝓤 H 𝓜 𝓖) (𝓜 .mem) (𝓡 .run) (tablesOf 𝓤 H 𝓜 (tables 𝓤 H 𝓜 𝓡 code.env))
     (cited 𝓤 H (Lesser 𝓤 H (𝓖 .A) (𝓜 .mem) (𝓡 .run)) 𝓜 𝓡 code.env #copies·lesser lesser-def.routine code.calls-copies·lesser (lesser-thm.met 𝓤 H 𝓜 𝓖 𝓡))
     (cited 𝓤 H (RecordAt 𝓤 H (𝓖 .A) (𝓜 .mem) (𝓡 .run)) 𝓜 𝓡 code.env #copies·record-at record-at-def.routine code.calls-copies·record-at (record-at-thm.met 𝓤 H 𝓜 𝓖 𝓡))
-    (cited 𝓤 H (PutNode 𝓤 H (𝓖 .A) (𝓜 .mem) (𝓡 .run)) 𝓜 𝓡 code.env #script·table·put-node put-node-def.routine code.calls-script·table·put-node (put-node-thm.met 𝓤 H 𝓜 𝓖 𝓡)))
+    (cited 𝓤 H (PutNode 𝓤 H (𝓖 .A) (𝓜 .mem) (𝓡 .run)) 𝓜 𝓡 code.env #table·put-node put-node-def.routine code.calls-table·put-node (put-node-thm.met 𝓤 H 𝓜 𝓖 𝓡)))

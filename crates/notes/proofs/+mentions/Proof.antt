@@ -9,8 +9,8 @@ use Rattle.workspace.specs.Notes.Mentions.{leaf-mentions, first-mentions, one-m
 use Prim.Native.Nat.{ℕ, _<_}
 use borrow.Fn.Kinds.{In}
 use borrow.Fn.PlainCycle.{Measures, is, falls, and}
-use Rattle.script.proofs.table.has_one.Reads as has-one-reads
-use Rattle.script.proofs.table.node_at.Reads as node-at-reads
+use Rattle.table.proofs.has_one.Reads as has-one-reads
+use Rattle.table.proofs.node_at.Reads as node-at-reads
 use Rattle.notes.proofs.mentions.Reads as mentions
 use Rattle.notes.proofs.mentions.Kinds as mentions-kinds
 use Rattle.notes.proofs.+mentions.Lts-mentions as mentions-lts

@@ -17,8 +17,8 @@ use Rattle.checker.specs.Code.Going.Walking.{Walking, walking-start, wal
 use Prim.Native.Nat.{ℕ, _<_}
 use borrow.Fn.Kinds.{In}
 use borrow.Fn.PlainCycle.{Measures, is, falls, and}
-use Rattle.script.proofs.table.has_one.Reads as has-one-reads
-use Rattle.script.proofs.table.node_at.Reads as node-at-reads
+use Rattle.table.proofs.has_one.Reads as has-one-reads
+use Rattle.table.proofs.node_at.Reads as node-at-reads
 use Rattle.types.proofs.bind_type.Reads as bind-type-reads
 use Rattle.types.proofs.if_type.Reads as if-type-reads
 use Rattle.types.proofs.leaf_type.Reads as leaf-type-reads

@@ -8,8 +8,8 @@ use mathlib.Core.Path.{sym, _∙_}
 use Prim.Native.Nat.{ℕ, _+_, _*_, _<_}
 use native.Mathlib.Omega.{arith}
 use Rattle.script.specs.Code.Forms.{has-one, has-more, some-operand}
-use Rattle.script.proofs.table.has_one.Reads as has-one-reads
-use Rattle.script.proofs.table.node_at.Reads as node-at-reads
+use Rattle.table.proofs.has_one.Reads as has-one-reads
+use Rattle.table.proofs.node_at.Reads as node-at-reads
 use Rattle.operators.proofs.leaf.Reads as leaf-reads
 use Rattle.operators.proofs.one.Reads as one-reads
 use Rattle.operators.proofs.two.Reads as two-reads

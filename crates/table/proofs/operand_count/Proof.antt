@@ -1,9 +1,9 @@
--- `script::table::operand_count` meets its contract: the constant table holds the counts of the rows. Assumes nothing.
+-- `table::operand_count` meets its contract: the constant table holds the counts of the rows. Assumes nothing.
 use borrow.Author.Needs.{needs}
 use mathlib.Core.Path.{sym}
 use Rattle.script.specs.Rows.Laws.{operand-counts, no-operands}
-use Rattle.script.proofs.table.operand_count.Statement.{statement}
-use Rattle.script.proofs.table.operand_count.Tie as tie
+use Rattle.table.proofs.operand_count.Statement.{statement}
+use Rattle.table.proofs.operand_count.Tie as tie
 
 pub operand-count-spec : {M : Type 1} → statement M
 operand-count-spec =

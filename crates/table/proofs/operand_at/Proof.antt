@@ -1,8 +1,8 @@
--- `script::table::operand_at` meets its contract: each arm names one of the three operands. Assumes nothing.
+-- `table::operand_at` meets its contract: each arm names one of the three operands. Assumes nothing.
 use borrow.Author.Needs.{needs}
 use Rattle.script.specs.Table.Uses.{no-operand}
-use Rattle.script.proofs.table.operand_at.Statement.{statement}
-use Rattle.script.proofs.table.operand_at.Tie as tie
+use Rattle.table.proofs.operand_at.Statement.{statement}
+use Rattle.table.proofs.operand_at.Tie as tie
 
 pub operand-at-spec : {M : Type 1} → statement M
 operand-at-spec =

@@ -1,8 +1,8 @@
--- `script::table::right_field` meets its contract: each `return` is one case of the kind's row. Assumes nothing.
+-- `table::right_field` meets its contract: each `return` is one case of the kind's row. Assumes nothing.
 use borrow.Author.Needs.{needs}
 use Rattle.script.specs.Code.TableTests.Laws.{right-number, right-earlier, right-zero, right-no-kind}
-use Rattle.script.proofs.table.right_field.Statement.{statement}
-use Rattle.script.proofs.table.right_field.Tie as tie
+use Rattle.table.proofs.right_field.Statement.{statement}
+use Rattle.table.proofs.right_field.Tie as tie
 
 returns : tie.Need-returns
 returns c =

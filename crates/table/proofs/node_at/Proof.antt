@@ -1,9 +1,9 @@
--- `script::table::node_at` meets its contract: the four numbers from place 4 * i on are node i. Assumes nothing.
+-- `table::node_at` meets its contract: the four numbers from place 4 * i on are node i. Assumes nothing.
 use borrow.Author.Needs.{needs}
 use mathlib.Core.Path.{sym}
 use Rattle.script.specs.Flat.Laws.{nodeAt-nodesIn}
-use Rattle.script.proofs.table.node_at.Statement.{statement}
-use Rattle.script.proofs.table.node_at.Tie as tie
+use Rattle.table.proofs.node_at.Statement.{statement}
+use Rattle.table.proofs.node_at.Tie as tie
 
 returns : tie.Need-returns
 returns c =

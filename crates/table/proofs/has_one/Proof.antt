@@ -1,9 +1,9 @@
--- `script::table::has_one` meets its contract: five kinds have one operand that is a node. Assumes nothing.
+-- `table::has_one` meets its contract: five kinds have one operand that is a node. Assumes nothing.
 use mathlib.Core.Path.{sym}
 use Rattle.script.specs.Code.Forms.{not-one}
 use Rattle.script.specs.Rows.{rows, rowOf, operandCount, takesOf, nodeOperands}
-use Rattle.script.proofs.table.has_one.Statement.{statement}
-use Rattle.script.proofs.table.has_one.Tie as tie
+use Rattle.table.proofs.has_one.Statement.{statement}
+use Rattle.table.proofs.has_one.Tie as tie
 
 pub has-one-spec : {M : Type 1} → statement M
 unfolding nodeOperands takesOf operandCount rowOf rows

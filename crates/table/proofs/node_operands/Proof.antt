@@ -1,8 +1,8 @@
--- `script::table::node_operands` meets its contract: what the kind takes says whether its operands are nodes. Assumes nothing.
+-- `table::node_operands` meets its contract: what the kind takes says whether its operands are nodes. Assumes nothing.
 use borrow.Author.Needs.{needs}
 use Rattle.script.specs.Rows.Laws.{numbers-no-nodes, all-nodes}
-use Rattle.script.proofs.table.node_operands.Statement.{statement}
-use Rattle.script.proofs.table.node_operands.Tie as tie
+use Rattle.table.proofs.node_operands.Statement.{statement}
+use Rattle.table.proofs.node_operands.Tie as tie
 
 returns : tie.Need-returns
 returns c =

@@ -1,10 +1,10 @@
--- `script::table::well_formed` meets its contract: a node is right where its three operands are. Assumes nothing.
+-- `table::well_formed` meets its contract: a node is right where its three operands are. Assumes nothing.
 use borrow.Author.Needs.{needs}
 use mathlib.Core.Path.{sym, _∙_}
 use Rattle.script.specs.Rows.{rowOf}
 use Rattle.script.specs.Code.TableTests.Laws.{first-wrong, second-wrong, third-says}
-use Rattle.script.proofs.table.well_formed.Statement.{statement}
-use Rattle.script.proofs.table.well_formed.Tie as tie
+use Rattle.table.proofs.well_formed.Statement.{statement}
+use Rattle.table.proofs.well_formed.Tie as tie
 
 returns : tie.Need-returns
 returns c =

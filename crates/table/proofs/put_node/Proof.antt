@@ -1,10 +1,10 @@
--- `script::table::put_node` meets its contract: its four stores are those of `sets`. Assumes nothing.
+-- `table::put_node` meets its contract: its four stores are those of `sets`. Assumes nothing.
 use borrow.Author.Needs.{needs}
 use native.Mathlib.Omega.{arith}
 use lib.ListN.{length-set}
 use Rattle.script.specs.Flat.Laws.{stores-sets}
-use Rattle.script.proofs.table.put_node.Statement.{statement}
-use Rattle.script.proofs.table.put_node.Tie as tie
+use Rattle.table.proofs.put_node.Statement.{statement}
+use Rattle.table.proofs.put_node.Tie as tie
 
 pub put-node-spec : {M : Type 1} → statement M
 put-node-spec =

@@ -1,7 +1,0 @@
--- `script::table::is_sym` meets its contract: `sym` is kind 14. Assumes nothing.
-use Rattle.script.specs.Table.Uses.{sym-kind}
-use Rattle.script.proofs.table.is_sym.Statement.{statement}
-use Rattle.script.proofs.table.is_sym.Tie as tie
-
-pub is-sym-spec : {M : Type 1} → statement M
-is-sym-spec = tie.close (tie.spec (λ c. sym-kind (c .before .args .n .kind)))
