@@ -91,7 +91,8 @@ cases =
 
 -- to unfold this is to unfold every definition that the cases compute with
 computed : Unit {0}
-unfolding checkTable unaryOn binaryOn eval has consistentAfter lookup bind leaves allValid valuesOf runTest runTable allBytes holds atomsOf among different someChoice satisfiable plusEach oppositeEach sameEach sameSum sameAtom symbol symbols apart equalReferences unaryExec binaryExec branches decide typedResult variable judge unaryType binaryType ifType rows rowOf wellFormed operands timesIn uses symsAround tooDeep treeTest nodesTest tableTest lowestFrom shape treeBy treesFrom trees root treeOf check
+unfolding checkTable unaryOn binaryOn eval has consistentAfter lookup bind leaves allValid valuesOf runTest runTable allBytes holds atomsOf among different someChoice satisfiable plusEach oppositeEach sameEach sameSum sameAtom symbol symbols
+    apart equalReferences unaryExec binaryExec branches decide typedResult variable judge unaryType binaryType ifType rows rowOf wellFormed operands timesIn uses symsAround tooDeep treeTest nodesTest tableTest lowestFrom shape treeBy treesFrom trees root treeOf check
 computed = tt
 
 pub cases-hold : map asking cases ≡ map right cases

@@ -28,8 +28,10 @@ traps =
     -- carrying a branch's condition into the other branch: there the same condition is false
     ∷ refuses (1 ∷ []) (var′ 0 ∷ int′ 1 ∷ var′ 0 ∷ int′ 2 ∷ true′ ∷ if′ 2 3 4 ∷ if′ 0 1 5 ∷ sym′ 6 ∷ []) 10 (At 7)
     -- saying 11 before 64 paths have ended, and not saying it then
-    ∷ accepts (replicate 6 1) (var′ 0 ∷ int′ 1 ∷ int′ 2 ∷ if′ 0 1 2 ∷ var′ 1 ∷ int′ 1 ∷ int′ 2 ∷ if′ 4 5 6 ∷ var′ 2 ∷ int′ 1 ∷ int′ 2 ∷ if′ 8 9 10 ∷ var′ 3 ∷ int′ 1 ∷ int′ 2 ∷ if′ 12 13 14 ∷ var′ 4 ∷ int′ 1 ∷ int′ 2 ∷ if′ 16 17 18 ∷ var′ 5 ∷ int′ 1 ∷ int′ 2 ∷ if′ 20 21 22 ∷ let′ 19 23 ∷ let′ 15 24 ∷ let′ 11 25 ∷ let′ 7 26 ∷ let′ 3 27 ∷ sym′ 28 ∷ []) 0
-    ∷ refuses (replicate 7 1) (var′ 0 ∷ int′ 1 ∷ int′ 2 ∷ if′ 0 1 2 ∷ var′ 1 ∷ int′ 1 ∷ int′ 2 ∷ if′ 4 5 6 ∷ var′ 2 ∷ int′ 1 ∷ int′ 2 ∷ if′ 8 9 10 ∷ var′ 3 ∷ int′ 1 ∷ int′ 2 ∷ if′ 12 13 14 ∷ var′ 4 ∷ int′ 1 ∷ int′ 2 ∷ if′ 16 17 18 ∷ var′ 5 ∷ int′ 1 ∷ int′ 2 ∷ if′ 20 21 22 ∷ var′ 6 ∷ int′ 1 ∷ int′ 2 ∷ if′ 24 25 26 ∷ let′ 23 27 ∷ let′ 19 28 ∷ let′ 15 29 ∷ let′ 11 30 ∷ let′ 7 31 ∷ let′ 3 32 ∷ sym′ 33 ∷ []) 11 (At 34)
+    ∷ accepts (replicate 6 1) (var′ 0 ∷ int′ 1 ∷ int′ 2 ∷ if′ 0 1 2 ∷ var′ 1 ∷ int′ 1 ∷ int′ 2 ∷ if′ 4 5 6 ∷ var′ 2 ∷ int′ 1 ∷ int′ 2 ∷ if′ 8 9 10 ∷ var′ 3 ∷ int′ 1 ∷ int′ 2 ∷ if′ 12 13 14
+    ∷ var′ 4 ∷ int′ 1 ∷ int′ 2 ∷ if′ 16 17 18 ∷ var′ 5 ∷ int′ 1 ∷ int′ 2 ∷ if′ 20 21 22 ∷ let′ 19 23 ∷ let′ 15 24 ∷ let′ 11 25 ∷ let′ 7 26 ∷ let′ 3 27 ∷ sym′ 28 ∷ []) 0
+    ∷ refuses (replicate 7 1) (var′ 0 ∷ int′ 1 ∷ int′ 2 ∷ if′ 0 1 2 ∷ var′ 1 ∷ int′ 1 ∷ int′ 2 ∷ if′ 4 5 6 ∷ var′ 2 ∷ int′ 1 ∷ int′ 2 ∷ if′ 8 9 10 ∷ var′ 3 ∷ int′ 1 ∷ int′ 2 ∷ if′ 12 13 14
+    ∷ var′ 4 ∷ int′ 1 ∷ int′ 2 ∷ if′ 16 17 18 ∷ var′ 5 ∷ int′ 1 ∷ int′ 2 ∷ if′ 20 21 22 ∷ var′ 6 ∷ int′ 1 ∷ int′ 2 ∷ if′ 24 25 26 ∷ let′ 23 27 ∷ let′ 19 28 ∷ let′ 15 29 ∷ let′ 11 30 ∷ let′ 7 31 ∷ let′ 3 32 ∷ sym′ 33 ∷ []) 11 (At 34)
     -- taking a difference and its negation for two atoms: where x = y fails, y = x fails too
     ∷ accepts (0 ∷ 0 ∷ []) (var′ 0 ∷ var′ 1 ∷ eq′ 0 1 ∷ int′ 1 ∷ var′ 1 ∷ var′ 0 ∷ eq′ 4 5 ∷ true′ ∷ int′ 2 ∷ if′ 6 7 8 ∷ if′ 2 3 9 ∷ sym′ 10 ∷ []) 0
     -- reporting `i` always

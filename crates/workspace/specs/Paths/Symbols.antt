@@ -16,6 +16,7 @@ use Rattle.terms.specs.Atoms.Made.{made-truth}
 use Rattle.terms.specs.Terms.{countIn, Space, pushed, Distinct, Grown, Added, symbolLimit}
 use Rattle.terms.specs.Terms.Laws.{grown-trans, added-refl, still-distinct, pushed-length, pushed-added, made-symbol}
 use Rattle.workspace.specs.Numbers.{freshPlace, freshLeft}
+use Rattle.workspace.specs.Numbers as Numbers
 use Rattle.workspace.specs.Paths.{Fresh}
 use Rattle.workspace.specs.Rules.{Ruled}
 use Rattle.workspace.specs.State.{nextIn, Means, wordRow, truthRow, otherSymbol, PathIn, Room}
@@ -44,7 +45,7 @@ module _ {ws : List ℕ} (s : Space ws 1) (op a b : ℕ) where
 
 module _ (ws : List ℕ) (room : Room ws 1) where
   abbrev numbered : List ℕ
-  numbered = set ws 724 (nextIn ws + 1)
+  numbered = Numbers.numbered ws
 
   numbered-length : length numbered ≡ length ws
   numbered-length = length-set ws 724 (nextIn ws + 1)

@@ -17,7 +17,8 @@ use Rattle.terms.specs.Terms.{countIn, Grown}
 use Rattle.terms.specs.Terms.Laws.{grown-trans, still-distinct}
 use Rattle.workspace.specs.Log.{consistentOn, lookupOn, written, FoundAs, found-none, found-some, emptied}
 use Rattle.workspace.specs.Log.Laws.{consistent-is, lookup-is, written-grown, written-before, written-ruled, written-path}
-use Rattle.workspace.specs.Numbers.{consistentIn, gotGives, unaryGives, oneGives, binaryGives, twoGives}
+use Rattle.workspace.specs.Numbers.{gotGives, unaryGives, oneGives, binaryGives, twoGives}
+use Rattle.workspace.specs.Numbers as Numbers
 use Rattle.workspace.specs.Paths.{Fresh}
 use Rattle.workspace.specs.Paths.Conditions.{ruled-refl}
 use Rattle.workspace.specs.Paths.Symbols.{fresh-reference}
@@ -98,7 +99,7 @@ module _ (n t q : ℕ) {ws : List ℕ} where
 
   module _ (x : Room ws 1) (l : t < 30) where
     abbrev numbered : List ℕ
-    numbered = set ws 724 (nextIn ws + 1)
+    numbered = Numbers.numbered ws
 
     fresh : Fresh (t + 2) ws (2 * nextIn ws) numbered
     fresh = fresh-reference ws x (t + 2) (λ e. omega arith) (λ e. omega arith)
