@@ -4,20 +4,22 @@ use frames::forks::restore_one;
 use frames::forks::rewind;
 use frames::forks::without_guard;
 use table::node_at;
+use workspace::AWAITS;
 use workspace::BASE;
 use workspace::DEPTH;
 use workspace::FRAME;
+use workspace::GOAL;
 
 // The variables are those that the frames have.
 fn restore(space: &mut [u32], frames: &[u32])
     requires { ⌜ Restorable (now space) (now frames) ⌝ }
     ensures { λ r. ⌜ Restores (now (space .entry)) (now (frames .entry)) (now (space .exit)) ⌝ }
 {
-    let mut f = frames[FRAME] as usize;
+    let mut f = frames[GOAL] as usize;
     let mut d = space[DEPTH] as usize;
     while (space[BASE] as usize) < d {
         d = restore_one(space, frames, f, d);
-        f = (frames[4 * f + 1] / 4) as usize;
+        f = (frames[FRAME * f + 1] / AWAITS) as usize;
     }
 }
 
@@ -28,7 +30,7 @@ pub fn resume(table: &[u32], space: &mut [u32], frames: &mut [u32]) -> u32
 {
     rewind(space, frames);
     restore(space, frames);
-    let at = 4 * (frames[FRAME] as usize);
+    let at = FRAME * (frames[GOAL] as usize);
     without_guard(space, frames[at + 3]);
     node_at(table, frames[at] as usize).c
 }

@@ -1,7 +1,7 @@
 // A path's own numbers: the decision at an `if`, the start.
 ghost use Prim.Native.Nat.{suc, _*_, _<_, _≤_};
 ghost use lib.ListN.{length};
-ghost use Rattle.terms.specs.Terms.{symbolLimit};
+ghost use Rattle.terms.specs.Places.{symbolLimit};
 ghost use Rattle.workspace.specs.Paths.{Blank, Starting};
 ghost use Rattle.workspace.specs.Rules.{Decidable, Chooses, Started};
 ghost use Rattle.workspace.specs.State.{typesOn};

@@ -2,11 +2,12 @@
 ghost use mathlib.Core.Path.{_≡_};
 ghost use Prim.Native.Nat.{_+_, _*_, _≤_, _<_};
 ghost use lib.ListN.{length};
-ghost use Rattle.terms.specs.Terms.{symbolLimit};
+ghost use Rattle.terms.specs.Places.{symbolLimit};
 ghost use Rattle.workspace.specs.Frames.{frameIn, Waitable};
-ghost use Rattle.workspace.specs.Forks.{forkedIn, framesSize};
+ghost use Rattle.workspace.specs.Forks.{forkedIn};
+ghost use Rattle.workspace.specs.Places.{framesSize, spaceSize, forkLimit};
 ghost use Rattle.workspace.specs.Rules.{Decidable};
-ghost use Rattle.workspace.specs.State.{depthIn, spaceSize};
+ghost use Rattle.workspace.specs.State.{depthIn};
 ghost use Rattle.checker.specs.Code.Going.{boundTo, unbound, movedBy, Branched, Lastable, Lasts, Returnable, Backs, Climbs, Leafable, LeafArrives};
 use crate::path::choose;
 use frames::forks::fork;
@@ -27,7 +28,7 @@ use workspace::DEPTH;
 use workspace::FOR_BODY;
 use workspace::FOR_FIRST;
 use workspace::FOR_NEXT;
-use workspace::FRAME;
+use workspace::GOAL;
 use workspace::KNOWN;
 use workspace::Step;
 
@@ -54,7 +55,7 @@ fn branch(space: &mut [u32], frames: &mut [u32], b: u32, c: u32, t: u32, p: u32,
     requires { ⌜ Decidable (now space) t p ⌝ }
     requires { ⌜ Waitable (now frames) ⌝ }
     requires { ⌜ framesSize ≤ length (now frames) ⌝ }
-    requires { ⌜ forkedIn (now frames) < 64 ⌝ }
+    requires { ⌜ forkedIn (now frames) < forkLimit ⌝ }
     requires { ⌜ depthIn (now space) ≤ symbolLimit ⌝ }
     ensures { λ r. ⌜ Branched b c n t p (now (space .entry)) (now (frames .entry)) (now (space .exit)) (now (frames .exit)) r ⌝ }
 {
@@ -139,7 +140,7 @@ pub fn climb(table: &[u32], space: &mut [u32], frames: &mut [u32], t: u32, p: u3
 {
     let mut u = t;
     let mut q = p;
-    while frames[FRAME] != 0 {
+    while frames[GOAL] != 0 {
         match back(table, space, frames, u, q) {
             Move::Value(w, r) => {
                 u = w;

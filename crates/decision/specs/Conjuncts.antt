@@ -12,7 +12,8 @@ use Rattle.script.specs.Tests.Laws.{true-or-false, both-true, true-both}
 use Rattle.rules.specs.Satisfiable.{holds, satisfiable}
 use Rattle.rules.specs.Satisfiable.Laws.{Respects, satisfiable-if, satisfiable-only-if}
 use Rattle.rules.specs.Symbolic.{Atom, Formula, negation, conjunction, sameAtom}
-use Rattle.terms.specs.Terms.{rowIn, rowLimit, bitOf, AtomRow, TruthRow, constantRow, atomRow, negationRow, conjunctionRow, equalityRow, exclusionRow}
+use Rattle.terms.specs.Places.{rowLimit}
+use Rattle.terms.specs.Terms.{rowIn, bitOf, AtomRow, TruthRow, constantRow, atomRow, negationRow, conjunctionRow, equalityRow, exclusionRow, ofConjunction, ofExclusion, firstAtom}
 use Rattle.terms.specs.declared.Row.{Row}
 use Rattle.rows.specs.Code.{isLink, conjunctAt, conjunctOf}
 use Rattle.rows.specs.Decision.{branchesOf}
@@ -96,7 +97,7 @@ module _ (ws : List ℕ) {i j : ℕ} (e : i ≡ j) where
   other : {A : Type 0} {m n : ℕ} → rowIn ws i .op ≡ m → rowIn ws j .op ≡ n → (m ≡ n → ⊥) → A
   other p q h = absurd (h (sym p ∙ ap (λ (n : ℕ). rowIn ws n .op) e ∙ q))
 
-  no-atom : {A : Type 0} {n : ℕ} {x : Atom} → AtomRow ws i x → rowIn ws j .op ≡ n → n < 8 → A
+  no-atom : {A : Type 0} {n : ℕ} {x : Atom} → AtomRow ws i x → rowIn ws j .op ≡ n → n < firstAtom → A
   no-atom p q h =
       let a = atom-op p in
       let o = ap (λ (n : ℕ). rowIn ws n .op) e in
@@ -157,23 +158,23 @@ module _ {ws : List ℕ} (a : Atom → Bool) (r : Respects a) where
 -- what the operator found says of the guard
 pub data Linked : ℕ → Bool → Type 0 where
   unlinked : {b : Bool} → Linked 0 b
-  linked-with : Linked 5 true
-  linked-without : Linked 7 false
+  linked-with : Linked ofConjunction true
+  linked-without : Linked ofExclusion false
 
-pub guard-true : {n : ℕ} {b : Bool} → Linked n b → n ≡ 5 → b ≡ true
+pub guard-true : {n : ℕ} {b : Bool} → Linked n b → n ≡ ofConjunction → b ≡ true
 guard-true unlinked e = absurd (omega arith)
 guard-true linked-with e = refl
 guard-true linked-without e = absurd (omega arith)
 
-pub guard-false : {n : ℕ} {b : Bool} → Linked n b → n ≡ 7 → b ≡ false
+pub guard-false : {n : ℕ} {b : Bool} → Linked n b → n ≡ ofExclusion → b ≡ false
 guard-false unlinked e = absurd (omega arith)
 guard-false linked-with e = absurd (omega arith)
 guard-false linked-without e = refl
 
-at-true : {b : Bool} → b ≡ true → Linked 5 b
+at-true : {b : Bool} → b ≡ true → Linked ofConjunction b
 at-true e = rw e linked-with
 
-at-false : {b : Bool} → not b ≡ true → Linked 7 b
+at-false : {b : Bool} → not b ≡ true → Linked ofExclusion b
 at-false {b} e = rw (not-true b e) linked-without
 
 module _ {ws : List ℕ} {g : ℕ} {h : Formula} (is-guard : TruthRow ws g h) (a : Atom → Bool) (r : Respects a) where
@@ -197,7 +198,7 @@ module _ {ws : List ℕ} {g : ℕ} {h : Formula} (is-guard : TruthRow ws g h) (a
   atom-link : {i : ℕ} {x : Atom} → AtomRow ws i x → isLink (rowIn ws i .op) ≡ false
   unfolding isLink
   atom-link {i = i} p =
-      let o = atom-op p in rw (ne-eqb (rowIn ws i .op) 5 (λ z. omega arith), ne-eqb (rowIn ws i .op) 7 (λ z. omega arith))
+      let o = atom-op p in rw (ne-eqb (rowIn ws i .op) ofConjunction (λ z. omega arith), ne-eqb (rowIn ws i .op) ofExclusion (λ z. omega arith))
 
   pub linked : (n i : ℕ) (f : Formula) → TruthRow ws i f → holds a f ≡ true → Linked (conjunctAt ws g n i) (holds a h)
   unfolding conjunctAt isLink holds
@@ -257,13 +258,13 @@ module _ {ws : List ℕ} {c g : ℕ} {f h : Formula} (is-condition : TruthRow ws
 
   -- a conjunct decides as the branches that are satisfiable do
   pub linked-branches : (d : Decision) → satisfiable f ≡ true → d ≡ branchesOf (satisfiable (conjunction f h)) (satisfiable (conjunction f (negation h)))
-      → pick (eqb (conjunctOf ws c g) 5) OnlyTrue (pick (eqb (conjunctOf ws c g) 7) OnlyFalse d)
+      → pick (eqb (conjunctOf ws c g) ofConjunction) OnlyTrue (pick (eqb (conjunctOf ws c g) ofExclusion) OnlyFalse d)
       ≡ branchesOf (satisfiable (conjunction f h)) (satisfiable (conjunction f (negation h)))
   unfolding branchesOf
-  linked-branches d s e = go (eqb (conjunctOf ws c g) 5) refl (eqb (conjunctOf ws c g) 7) refl
+  linked-branches d s e = go (eqb (conjunctOf ws c g) ofConjunction) refl (eqb (conjunctOf ws c g) ofExclusion) refl
     where
-      go : (t : Bool) → eqb (conjunctOf ws c g) 5 ≡ t → (u : Bool) → eqb (conjunctOf ws c g) 7 ≡ u
+      go : (t : Bool) → eqb (conjunctOf ws c g) ofConjunction ≡ t → (u : Bool) → eqb (conjunctOf ws c g) ofExclusion ≡ u
           → pick t OnlyTrue (pick u OnlyFalse d) ≡ branchesOf (satisfiable (conjunction f h)) (satisfiable (conjunction f (negation h)))
-      go true p u q = let l = eqb-true (conjunctOf ws c g) 5 p in rw (with-true l s, with-false l)
-      go false p true q = rw (without-true (eqb-true (conjunctOf ws c g) 7 q))
+      go true p u q = let l = eqb-true (conjunctOf ws c g) ofConjunction p in rw (with-true l s, with-false l)
+      go false p true q = rw (without-true (eqb-true (conjunctOf ws c g) ofExclusion q))
       go false p false q = e

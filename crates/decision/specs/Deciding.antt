@@ -18,9 +18,10 @@ use Rattle.rules.specs.Satisfiable.Apart.{Apart, apart-negation, apart-alone}
 use Rattle.rules.specs.Satisfiable.Laws.{Respects, holds-agree, satisfiable-if, satisfiable-only-if, true-satisfiable, among-same, among-different, in-first, in-second}
 use Rattle.rules.specs.Symbolic.{Atom, Formula, constantly, negation, conjunction, sameAtom}
 use Rattle.rules.specs.Symbolic.Laws.{sameAtom-sym, sameAtom-trans}
-use Rattle.terms.specs.Terms.{rowIn, countIn, rowLimit, Space, TruthRow, AtomRow, Distinct}
+use Rattle.terms.specs.Places.{rowLimit}
+use Rattle.terms.specs.Terms.{rowIn, countIn, Space, TruthRow, AtomRow, Distinct, firstAtom, ofExclusion, ofConjunction}
 use Rattle.rows.specs.Bits.{bit, bit-zero, some-bit, or-second-most}
-use Rattle.rows.specs.Code.{above, seenAfter, rank, words, spreadOf, numbersFrom, blocksOf, together, conditionWord, trueWord, falseWord, nonZero, searchedBy, searched, truthsOf, startMarks, marksFrom, atomsFrom, conjunctOf, decidedAnew}
+use Rattle.rows.specs.Code.{above, atomsFrom, seenAfter, rank, words, spreadOf, numbersFrom, blocksOf, together, conditionWord, trueWord, falseWord, nonZero, searchedBy, searched, truthsOf, startMarks, marksFrom, conjunctOf, decidedAnew}
 use Rattle.rows.specs.Code.Laws.{above-first, above-second, above-within}
 use Rattle.rows.specs.Code.Loops.{together-grows}
 use Rattle.rows.specs.Decision.{branchesOf, decisionOf}
@@ -157,7 +158,7 @@ pub record Truths (ws : List ℕ) (c g : ℕ) (f h : Formula) : Type 0 where
 
 seen-fewer : (op mark low high p q : ℕ) → low ≤ high → p ≤ q → seenAfter op mark high p ≤ seenAfter op mark low q
 unfolding seenAfter
-seen-fewer op mark low high p q l h = go (ltb mark high) refl (ltb mark low) refl (ltb op 8)
+seen-fewer op mark low high p q l h = go (ltb mark high) refl (ltb mark low) refl (ltb op firstAtom)
   where
     go : (s : Bool) → ltb mark high ≡ s → (t : Bool) → ltb mark low ≡ t → (u : Bool) → pick s p (pick u p (p + 1)) ≤ pick t q (pick u q (q + 1))
     go true e true k u = h
@@ -322,7 +323,7 @@ module _ (ws : List ℕ) (c g : ℕ) (f h : Formula) (space : Space ws 0) (disti
 
   -- ---- the guard alone
 
-  no-shared : (i : ℕ) → i < above c g → 3 ≤ getD marks i 0 → 7 < rowIn ws i .op → rank ws marks 3 (above c g) ≡ 0 → ⊥
+  no-shared : (i : ℕ) → i < above c g → 3 ≤ getD marks i 0 → ofExclusion < rowIn ws i .op → rank ws marks 3 (above c g) ≡ 0 → ⊥
   no-shared i l m o z =
       let r = rank-counted {ws = ws} {ms = marks} {least = 3} i (record { marks = m; atoms = o }) in
       let q = rank-grows ws marks 3 (suc i) (above c g) l in
@@ -386,7 +387,7 @@ module _ (ws : List ℕ) (c g : ℕ) (f h : Formula) (space : Space ws 0) (disti
 
     -- a guard that is a conjunct is not searched for
     abbrev linking : Decision
-    linking = pick (eqb (conjunctOf ws c g) 5) OnlyTrue (pick (eqb (conjunctOf ws c g) 7) OnlyFalse searching)
+    linking = pick (eqb (conjunctOf ws c g) ofConjunction) OnlyTrue (pick (eqb (conjunctOf ws c g) ofExclusion) OnlyFalse searching)
 
     listed-decides : decidedAnew ws c g ≡ decisionOf f h
     unfolding decidedAnew decisionOf atomsFrom

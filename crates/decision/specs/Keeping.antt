@@ -15,7 +15,8 @@ use Rattle.script.specs.Tests.{pick}
 use Rattle.rules.specs.Satisfiable.{holds, atomsOf, among, satisfiable}
 use Rattle.rules.specs.Satisfiable.Laws.{satisfiable-if}
 use Rattle.rules.specs.Symbolic.{Atom, Formula, negation, conjunction}
-use Rattle.terms.specs.Terms.{rowIn, countIn, rowLimit, AtomRow, Distinct, Grown}
+use Rattle.terms.specs.Places.{rowLimit, countAt, rowAt}
+use Rattle.terms.specs.Terms.{rowIn, countIn, AtomRow, Distinct, Grown, firstAtom}
 use Rattle.terms.specs.Terms.Laws.{atom-kept}
 use Rattle.rows.specs.Bits.{bit}
 use Rattle.rows.specs.Code.{rank, blocksOf, knownSize, knownRow, knownWord, keepRow, keptRows, keepWord, keptWords, kept, Keepable}
@@ -30,13 +31,13 @@ use Rattle.decision.specs.Deciding.{with-atoms, without-atoms}
 
 -- a row is an atom with a mark, or not
 rank-or : (ws ms : List ℕ) (i : ℕ) → (Counted ws ms 1 i → ⊥) ⊎ Counted ws ms 1 i
-rank-or ws ms i = go (ltb (getD ms i 0) 1) refl (ltb (rowIn ws i .op) 8) refl
+rank-or ws ms i = go (ltb (getD ms i 0) 1) refl (ltb (rowIn ws i .op) firstAtom) refl
   where
-    go : (t : Bool) → ltb (getD ms i 0) 1 ≡ t → (u : Bool) → ltb (rowIn ws i .op) 8 ≡ u → (Counted ws ms 1 i → ⊥) ⊎ Counted ws ms 1 i
+    go : (t : Bool) → ltb (getD ms i 0) 1 ≡ t → (u : Bool) → ltb (rowIn ws i .op) firstAtom ≡ u → (Counted ws ms 1 i → ⊥) ⊎ Counted ws ms 1 i
     go true e u f = let m = ltb-true (getD ms i 0) 1 e in inl (λ c. let a = c .marks in omega arith)
-    go false e true f = let o = ltb-true (rowIn ws i .op) 8 f in inl (λ c. let a = c .atoms in omega arith)
+    go false e true f = let o = ltb-true (rowIn ws i .op) firstAtom f in inl (λ c. let a = c .atoms in omega arith)
     go false e false f =
-        let o = ltb-false (rowIn ws i .op) 8 f in inr (record { marks = ltb-false (getD ms i 0) 1 e; atoms = omega arith })
+        let o = ltb-false (rowIn ws i .op) firstAtom f in inr (record { marks = ltb-false (getD ms i 0) 1 e; atoms = omega arith })
 
 module _ {ws : List ℕ} {at : ℕ} {ms : List ℕ} {n : ℕ} (k : Keepable ws at ms n) where
   abbrev after : ℕ → List ℕ
@@ -44,7 +45,7 @@ module _ {ws : List ℕ} {at : ℕ} {ms : List ℕ} {n : ℕ} (k : Keepable ws a
 
   one-other : (vs : List ℕ) (mark i count p : ℕ) → (p ≡ at + 2 + count → ⊥) → getD (keepRow vs at mark i count) p 0 ≡ getD vs p 0
   unfolding keepRow
-  one-other vs mark i count p h = go (ltb mark 1) (ltb (rowIn vs i .op) 8)
+  one-other vs mark i count p h = go (ltb mark 1) (ltb (rowIn vs i .op) firstAtom)
     where
       go : (t u : Bool) → getD (pick t vs (pick u vs (set vs (at + 2 + count) i))) p 0 ≡ getD vs p 0
       go true u = refl
@@ -52,26 +53,26 @@ module _ {ws : List ℕ} {at : ℕ} {ms : List ℕ} {n : ℕ} (k : Keepable ws a
       go false false = getD-set-other vs (at + 2 + count) p i 0 h
 
   after-op : (i q : ℕ) → q < rowLimit → rowIn (after i) q .op ≡ rowIn ws q .op
-  after-op i q h = let b = k .behind in keptRows-low ws at ms i (289 + 3 * q) (omega arith)
+  after-op i q h = let b = k .behind in keptRows-low ws at ms i (rowAt q) (omega arith)
 
   -- of a row that is no atom with a mark nothing is kept
   counted-or : (i : ℕ) → i < rowLimit → (Counted ws ms 1 i → ⊥) → after (suc i) ≡ after i
   unfolding keptRows keepRow
-  counted-or i h c = rw (after-op i i h) (go (ltb (getD ms i 0) 1) refl (ltb (rowIn ws i .op) 8) refl)
+  counted-or i h c = rw (after-op i i h) (go (ltb (getD ms i 0) 1) refl (ltb (rowIn ws i .op) firstAtom) refl)
     where
-      go : (t : Bool) → ltb (getD ms i 0) 1 ≡ t → (u : Bool) → ltb (rowIn ws i .op) 8 ≡ u
+      go : (t : Bool) → ltb (getD ms i 0) 1 ≡ t → (u : Bool) → ltb (rowIn ws i .op) firstAtom ≡ u
           → pick t (after i) (pick u (after i) (set (after i) (at + 2 + rank ws ms 1 i) i)) ≡ after i
       go true e u f = refl
       go false e true f = refl
       go false e false f =
-          let o = ltb-false (rowIn ws i .op) 8 f in
+          let o = ltb-false (rowIn ws i .op) firstAtom f in
           absurd (c (record { marks = ltb-false (getD ms i 0) 1 e; atoms = omega arith }))
 
   counted-kept : (i : ℕ) → i < rowLimit → Counted ws ms 1 i → after (suc i) ≡ set (after i) (at + 2 + rank ws ms 1 i) i
   unfolding keptRows keepRow
   counted-kept i h c =
       let o = c .atoms in
-      rw (after-op i i h, le-ltb (getD ms i 0) 1 (c .marks), le-ltb (rowIn ws i .op) 8 (omega arith)) refl
+      rw (after-op i i h, le-ltb (getD ms i 0) 1 (c .marks), le-ltb (rowIn ws i .op) firstAtom (omega arith)) refl
 
   few-before : (i : ℕ) → i < n → Counted ws ms 1 i → rank ws ms 1 i < 10
   few-before i h c =
@@ -260,7 +261,7 @@ module _ {ws : List ℕ} {at : ℕ} {ms : List ℕ} {n : ℕ} (k : Keepable ws a
     kept-grown : Grown ws left
     kept-grown =
         let b = k .behind in
-        let e = kept-before 288 (omega arith) in
+        let e = kept-before countAt (omega arith) in
         record { grows = omega arith; rows = λ p l h. kept-before p (omega arith) }
 
     kept-numbered : (j : ℕ) → j < length xs → Numbered left xs (knownRow left at j) j
@@ -269,7 +270,7 @@ module _ {ws : List ℕ} {at : ℕ} {ms : List ℕ} {n : ℕ} (k : Keepable ws a
         let w = t .below in
         let c = t .counted in
         let e = kept-row (t .at) w c in
-        let g = kept-before 288 (let b = k .behind in omega arith) in
+        let g = kept-before countAt (let b = k .behind in omega arith) in
         let f = few-before k (t .at) w c in
         let q = t .is in
         let m : knownRow left at j ≡ t .at = rw q at e in

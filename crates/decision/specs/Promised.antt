@@ -11,8 +11,9 @@ use Rattle.script.specs.Tests.{pick}
 use Rattle.rules.specs.Satisfiable.{differentAtoms, satisfiable}
 use Rattle.rules.specs.Symbolic.{Formula, negation, conjunction}
 use Rattle.rules.specs.SymbolicRules.{atomLimit}
-use Rattle.terms.specs.Terms.{countIn, rowLimit}
-use Rattle.rows.specs.Code.{above, blocksOf, truthsOf, marksFrom, atomsFrom, kept, Keepable, compared, recalled, recalls, decidedAnew, decided, LeftAnew, left-same, left-none, left-kept, LeftBy, by-known, by-rows}
+use Rattle.terms.specs.Places.{rowLimit}
+use Rattle.terms.specs.Terms.{countIn}
+use Rattle.rows.specs.Code.{above, atomsFrom, blocksOf, truthsOf, marksFrom, kept, Keepable, compared, recalled, recalls, decidedAnew, decided, LeftAnew, left-same, left-none, left-kept, LeftBy, by-known, by-rows}
 use Rattle.rows.specs.Code.Laws.{above-within, marked-length}
 use Rattle.rows.specs.Decision.{branchesOf, onlyOne, decisionOf}
 use Rattle.rows.specs.Marks.{start-length}

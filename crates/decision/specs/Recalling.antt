@@ -14,7 +14,8 @@ use Rattle.script.specs.Tests.{pick}
 use Rattle.rules.specs.Satisfiable.{atomsOf, among, differentAtoms, satisfiable}
 use Rattle.rules.specs.Satisfiable.Laws.{among-different}
 use Rattle.rules.specs.Symbolic.{Atom, Formula, negation, conjunction}
-use Rattle.terms.specs.Terms.{rowIn, rowLimit, TruthRow, AtomRow}
+use Rattle.terms.specs.Places.{rowLimit}
+use Rattle.terms.specs.Terms.{rowIn, TruthRow, AtomRow, firstAtom, ofExclusion}
 use Rattle.rows.specs.Code.{words, rowsFrom, isNumbered, numberedTo, noNumbers, knownRow, knownNumbers, guardMarks, guardRows, withKnown, withoutKnown, compared, recalled, recalls}
 use Rattle.rows.specs.Decision.{branchesOf, decisionOf}
 use Rattle.rows.specs.Marks.{kept-least, marked-keeps, closed-first, closed-second}
@@ -62,9 +63,9 @@ numbered-each ws os ns (suc n) j e h = go (isNumbered ws ns (getD os n 0)) refl 
     go true q r (no z) ih = ih r (omega arith)
     go false q r d ih = absurd (false≢true r)
 
-number-low : (ws ns : List ℕ) (i : ℕ) → isNumbered ws ns i ≡ true → 7 < rowIn ws i .op → getD ns i 0 < 10
+number-low : (ws ns : List ℕ) (i : ℕ) → isNumbered ws ns i ≡ true → ofExclusion < rowIn ws i .op → getD ns i 0 < 10
 unfolding isNumbered
-number-low ws ns i e h = ltb-true (getD ns i 0) 10 (rw (le-ltb (rowIn ws i .op) 8 (omega arith)) at e)
+number-low ws ns i e h = ltb-true (getD ns i 0) 10 (rw (le-ltb (rowIn ws i .op) firstAtom (omega arith)) at e)
 
 -- ---- the numbers are those of the atoms known
 

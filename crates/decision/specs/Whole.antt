@@ -8,8 +8,8 @@ use native.Mathlib.Omega.{arith}
 use lib.Dec.{eqb}
 use lib.ListN.{length, getD, set, take}
 use Rattle.script.specs.Tests.{pick}
-use Rattle.terms.specs.Terms.{rowLimit, rowsEnd}
-use Rattle.rows.specs.Code.{above, Room, marked, rank, Rows, numberedTo, noNumbers, countsOf, blocksOf, searched, Searched, knownSize, knownNumbers, kept, Keepable, guardMarks, guardRows, compared, startMarks, marksFrom, atomsFrom, conjunctOf, isLink, recalled, recalls, decidedAnew, aside, decided, LeftAnew, left-same, left-none, left-kept}
+use Rattle.terms.specs.Places.{rowLimit, rowsEnd}
+use Rattle.rows.specs.Code.{above, atomsFrom, Room, marked, rank, Rows, numberedTo, noNumbers, countsOf, blocksOf, searched, Searched, knownSize, knownNumbers, kept, Keepable, guardMarks, guardRows, compared, startMarks, marksFrom, conjunctOf, isLink, recalled, recalls, decidedAnew, aside, decided, LeftAnew, left-same, left-none, left-kept}
 use Rattle.rows.specs.Code.Laws.{above-second, above-within, marked-length}
 use Rattle.rows.specs.Decision.{onlyOne}
 use Rattle.rows.specs.Marks.{start-length}
@@ -18,6 +18,7 @@ use Rattle.rows.specs.declared.Decision.{Decision}
 use Rattle.rows.specs.declared.Decision.the-variants.{TooMany, OnlyTrue, OnlyFalse}
 use Rattle.known.specs.Ordered.{numbered-alike, taken-alike}
 use Rattle.known.specs.Searching.{rows-listed, order-long}
+use Rattle.terms.specs.Terms.{ofConjunction, ofExclusion}
 
 module _ (ws : List ℕ) (c g : ℕ) where
   pub room-start : (n : ℕ) → n ≡ above c g → rowsEnd ≤ length ws → c < rowLimit → g < rowLimit → Room ws n (startMarks c g)
@@ -63,15 +64,15 @@ module _ (ws : List ℕ) (c g : ℕ) where
         rw (le-ltb 10 (atomsFrom ws c g 1) (omega arith), eq-eqb (atomsFrom ws c g 3) 0 (omega arith), ed, eb, parts-marks, parts-own)
 
     -- the guard is a conjunct of the condition
-    pub decided-with : (link : ℕ) → k .all ≤ 10 → (k .shared ≡ 0 → ⊥) → link ≡ conjunctOf ws c g → link ≡ 5 → OnlyTrue ≡ decidedAnew ws c g
+    pub decided-with : (link : ℕ) → k .all ≤ 10 → (k .shared ≡ 0 → ⊥) → link ≡ conjunctOf ws c g → link ≡ ofConjunction → OnlyTrue ≡ decidedAnew ws c g
     unfolding decidedAnew
     decided-with link h z el l =
         let e = parts-all in
         let f = parts-shared in
-        rw (le-ltb 10 (atomsFrom ws c g 1) (omega arith), ne-eqb (atomsFrom ws c g 3) 0 (λ q. z (f ∙ q)), eq-eqb (conjunctOf ws c g) 5 (sym el ∙ l))
+        rw (le-ltb 10 (atomsFrom ws c g 1) (omega arith), ne-eqb (atomsFrom ws c g 3) 0 (λ q. z (f ∙ q)), eq-eqb (conjunctOf ws c g) ofConjunction (sym el ∙ l))
 
     -- its negation is one
-    pub decided-without : (link : ℕ) → k .all ≤ 10 → (k .shared ≡ 0 → ⊥) → link ≡ conjunctOf ws c g → link ≡ 7 → OnlyFalse ≡ decidedAnew ws c g
+    pub decided-without : (link : ℕ) → k .all ≤ 10 → (k .shared ≡ 0 → ⊥) → link ≡ conjunctOf ws c g → link ≡ ofExclusion → OnlyFalse ≡ decidedAnew ws c g
     unfolding decidedAnew
     decided-without link h z el l =
         let e = parts-all in
@@ -80,12 +81,12 @@ module _ (ws : List ℕ) (c g : ℕ) where
         rw (
           le-ltb 10 (atomsFrom ws c g 1) (omega arith),
           ne-eqb (atomsFrom ws c g 3) 0 (λ q. z (f ∙ q)),
-          ne-eqb (conjunctOf ws c g) 5 (λ q. omega arith),
-          eq-eqb (conjunctOf ws c g) 7 m,
+          ne-eqb (conjunctOf ws c g) ofConjunction (λ q. omega arith),
+          eq-eqb (conjunctOf ws c g) ofExclusion m,
         )
 
     -- the two together
-    pub decided-both : (link blocks : ℕ) (d : Decision) → k .all ≤ 10 → (k .shared ≡ 0 → ⊥) → link ≡ conjunctOf ws c g → (link ≡ 5 → ⊥) → (link ≡ 7 → ⊥)
+    pub decided-both : (link blocks : ℕ) (d : Decision) → k .all ≤ 10 → (k .shared ≡ 0 → ⊥) → link ≡ conjunctOf ws c g → (link ≡ ofConjunction → ⊥) → (link ≡ ofExclusion → ⊥)
         → blocks ≡ blocksOf (k .all) → d ≡ searched ws ms 1 c g blocks → d ≡ decidedAnew ws c g
     unfolding decidedAnew
     decided-both link blocks d h z el m n eb ed =
@@ -94,8 +95,8 @@ module _ (ws : List ℕ) (c g : ℕ) where
         rw (
           le-ltb 10 (atomsFrom ws c g 1) (omega arith),
           ne-eqb (atomsFrom ws c g 3) 0 (λ q. z (f ∙ q)),
-          ne-eqb (conjunctOf ws c g) 5 (λ q. m (el ∙ q)),
-          ne-eqb (conjunctOf ws c g) 7 (λ q. n (el ∙ q)),
+          ne-eqb (conjunctOf ws c g) ofConjunction (λ q. m (el ∙ q)),
+          ne-eqb (conjunctOf ws c g) ofExclusion (λ q. n (el ∙ q)),
           ed,
           eb,
           parts-marks,
@@ -107,22 +108,22 @@ module _ (ws : List ℕ) (c g : ℕ) where
     unfolding aside
     aside-alone z = let f = parts-shared in rw (eq-eqb (atomsFrom ws c g 3) 0 (omega arith)) refl
 
-    pub aside-with : (link : ℕ) → (k .shared ≡ 0 → ⊥) → link ≡ conjunctOf ws c g → link ≡ 5 → aside ws c g ≡ true
+    pub aside-with : (link : ℕ) → (k .shared ≡ 0 → ⊥) → link ≡ conjunctOf ws c g → link ≡ ofConjunction → aside ws c g ≡ true
     unfolding aside isLink
-    aside-with link z el l = let f = parts-shared in rw (ne-eqb (atomsFrom ws c g 3) 0 (λ q. z (f ∙ q)), eq-eqb (conjunctOf ws c g) 5 (sym el ∙ l)) refl
+    aside-with link z el l = let f = parts-shared in rw (ne-eqb (atomsFrom ws c g 3) 0 (λ q. z (f ∙ q)), eq-eqb (conjunctOf ws c g) ofConjunction (sym el ∙ l)) refl
 
-    pub aside-without : (link : ℕ) → (k .shared ≡ 0 → ⊥) → link ≡ conjunctOf ws c g → link ≡ 7 → aside ws c g ≡ true
+    pub aside-without : (link : ℕ) → (k .shared ≡ 0 → ⊥) → link ≡ conjunctOf ws c g → link ≡ ofExclusion → aside ws c g ≡ true
     unfolding aside isLink
     aside-without link z el l =
         let f = parts-shared in
         let m : conjunctOf ws c g ≡ 7 = sym el ∙ l in
-        rw (ne-eqb (atomsFrom ws c g 3) 0 (λ q. z (f ∙ q)), ne-eqb (conjunctOf ws c g) 5 (λ q. omega arith), eq-eqb (conjunctOf ws c g) 7 m) refl
+        rw (ne-eqb (atomsFrom ws c g 3) 0 (λ q. z (f ∙ q)), ne-eqb (conjunctOf ws c g) ofConjunction (λ q. omega arith), eq-eqb (conjunctOf ws c g) ofExclusion m) refl
 
-    pub aside-not : (link : ℕ) → (k .shared ≡ 0 → ⊥) → link ≡ conjunctOf ws c g → (link ≡ 5 → ⊥) → (link ≡ 7 → ⊥) → aside ws c g ≡ false
+    pub aside-not : (link : ℕ) → (k .shared ≡ 0 → ⊥) → link ≡ conjunctOf ws c g → (link ≡ ofConjunction → ⊥) → (link ≡ ofExclusion → ⊥) → aside ws c g ≡ false
     unfolding aside isLink
     aside-not link z el n m =
         let f = parts-shared in
-        rw (ne-eqb (atomsFrom ws c g 3) 0 (λ q. z (f ∙ q)), ne-eqb (conjunctOf ws c g) 5 (λ q. n (el ∙ q)), ne-eqb (conjunctOf ws c g) 7 (λ q. m (el ∙ q))) refl
+        rw (ne-eqb (atomsFrom ws c g 3) 0 (λ q. z (f ∙ q)), ne-eqb (conjunctOf ws c g) ofConjunction (λ q. n (el ∙ q)), ne-eqb (conjunctOf ws c g) ofExclusion (λ q. m (el ∙ q))) refl
 
     -- what is kept then
     pub keepable : (at : ℕ) → rowsEnd ≤ at → at + knownSize ≤ length ws → c < rowLimit → g < rowLimit → k .all ≤ 10 → Keepable ws at ms n

@@ -3,7 +3,7 @@
 ghost use mathlib.Core.Path.{_≡_};
 ghost use Prim.Native.Nat.{_≤_, _<_};
 ghost use lib.ListN.{length};
-ghost use Rattle.terms.specs.Terms.{rowLimit, rowsEnd};
+ghost use Rattle.terms.specs.Places.{rowLimit, rowsEnd};
 ghost use Rattle.rows.specs.Code.{isLink, conjunctOf};
 use terms::CONJUNCTION;
 use terms::EXCLUSION;

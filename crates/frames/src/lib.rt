@@ -4,51 +4,55 @@
 ghost use mathlib.Core.Path.{_≡_};
 ghost use Prim.Native.Nat.{_*_, _/_, _≤_, _<_};
 ghost use lib.ListN.{length, set};
-ghost use Rattle.workspace.specs.Frames.{frameIn, upOf, framesEnd, Waitable, Waits, frameAt, waitsFor, Descends, Descendable};
+ghost use Rattle.script.specs.Limits.{nodeLimit};
+ghost use Rattle.workspace.specs.Frames.{frameIn, upOf, Waitable, Waits, frameAt, waitsFor, Descends, Descendable, awaitLimit, goesTo};
+ghost use Rattle.workspace.specs.Places.{framesEnd, goalAt};
 
 pub mod forks;
 
 use script::table::LEAVES;
 use script::table::TYPED;
 use table::node_at;
+use workspace::AWAITS;
 use workspace::FOR_FIRST;
 use workspace::FRAME;
 use workspace::Frame;
+use workspace::GOAL;
 use workspace::TOP;
 
 // Node n waits for an operand, where the first one gave x and y, if it has given yet.
 pub fn wait(frames: &mut [u32], n: u32, awaits: u32, x: u32, y: u32)
     requires { ⌜ Waitable (now frames) ⌝ }
-    requires { ⌜ awaits < 4 ⌝ }
+    requires { ⌜ awaits < awaitLimit ⌝ }
     ensures { λ r. ⌜ Waits n awaits x y (now (frames .entry)) (now (frames .exit)) ⌝ }
 {
     let top = frames[TOP] + 1;
-    let up = 4 * frames[FRAME] + awaits;
-    let at = 4 * (top as usize);
+    let up = AWAITS * frames[GOAL] + awaits;
+    let at = FRAME * (top as usize);
     frames[at] = n;
     frames[at + 1] = up;
     frames[at + 2] = x;
     frames[at + 3] = y;
     frames[TOP] = top;
-    frames[FRAME] = top;
+    frames[GOAL] = top;
 }
 
 // The frame that a value goes to; the next one goes to where this one's does.
 pub fn leave(frames: &mut [u32]) -> Frame
     requires { ⌜ framesEnd ≤ length (now frames) ⌝ }
-    requires { ⌜ frameIn (now frames) < 128 ⌝ }
+    requires { ⌜ frameIn (now frames) < nodeLimit ⌝ }
     ensures { λ r. ⌜ r ≡ frameAt (now (frames .entry)) (frameIn (now (frames .entry))) ⌝ }
-    ensures { λ r. ⌜ now (frames .exit) ≡ set (now (frames .entry)) 0 (upOf (now (frames .entry)) (frameIn (now (frames .entry))) / 4) ⌝ }
+    ensures { λ r. ⌜ now (frames .exit) ≡ set (now (frames .entry)) goalAt (goesTo (now (frames .entry)) (frameIn (now (frames .entry)))) ⌝ }
 {
-    let at = 4 * (frames[FRAME] as usize);
+    let at = FRAME * (frames[GOAL] as usize);
     let up = frames[at + 1];
     let frame = Frame {
         node: frames[at],
-        awaits: up % 4,
+        awaits: up % AWAITS,
         x: frames[at + 2],
         y: frames[at + 3],
     };
-    frames[FRAME] = up / 4;
+    frames[GOAL] = up / AWAITS;
     frame
 }
 

@@ -17,7 +17,7 @@ use Rattle.rules.specs.Satisfiable.{atomsOf, among}
 use Rattle.rules.specs.Satisfiable.Laws.{among-same}
 use Rattle.rules.specs.Symbolic.{Atom, Formula, sameAtom}
 use Rattle.rules.specs.Symbolic.Laws.{sameAtom-refl}
-use Rattle.terms.specs.Terms.{rowIn, countIn, constantRow, atomRow, negationRow, conjunctionRow, equalityRow, exclusionRow, AtomRow, Distinct}
+use Rattle.terms.specs.Terms.{rowIn, countIn, constantRow, atomRow, negationRow, conjunctionRow, equalityRow, exclusionRow, AtomRow, Distinct, firstAtom, ofExclusion}
 use Rattle.rows.specs.Bits.{bit}
 use Rattle.rows.specs.Code.{seenAfter, rank}
 use Rattle.rows.specs.Marks.{Part, part, Parts}
@@ -27,7 +27,7 @@ use Rattle.known.specs.Atoms.{Apart, apart-none, apart-more, same-turned
 -- a row that is an atom and has at least a mark
 pub record Counted (ws ms : List ℕ) (least i : ℕ) : Type 0 where
   pub marks : least ≤ getD ms i 0
-  pub atoms : 7 < rowIn ws i .op
+  pub atoms : ofExclusion < rowIn ws i .op
 
 pub data Listed (ws ms : List ℕ) (least : ℕ) : ℕ → List Atom → Type 0 where
   listed-none : Listed ws ms least 0 []
@@ -43,7 +43,7 @@ data AtomOf (ws : List ℕ) (i : ℕ) : Type 0 where
 -- ---- a marked row that is an atom stands for one of the formula
 
 module _ {ws : List ℕ} where
-  atom-at : {whole : Formula} {i : ℕ} → Part ws whole i → 7 < rowIn ws i .op → AtomOf ws i
+  atom-at : {whole : Formula} {i : ℕ} → Part ws whole i → ofExclusion < rowIn ws i .op → AtomOf ws i
   atom-at (part (constantRow eo ea) w) h = absurd (omega arith)
   atom-at (part (atomRow a s) w) h = atom-of a
   atom-at (part (negationRow eo ea ja t) w) h = absurd (omega arith)
@@ -51,7 +51,7 @@ module _ {ws : List ℕ} where
   atom-at (part (equalityRow eo ea eb ja jb t u) w) h = absurd (omega arith)
   atom-at (part (exclusionRow eo ea eb ja jb t u) w) h = absurd (omega arith)
 
-  part-has : {whole : Formula} {i : ℕ} {x : Atom} → Part ws whole i → 7 < rowIn ws i .op → AtomRow ws i x → among (atomsOf whole) x ≡ true
+  part-has : {whole : Formula} {i : ℕ} {x : Atom} → Part ws whole i → ofExclusion < rowIn ws i .op → AtomRow ws i x → among (atomsOf whole) x ≡ true
   unfolding atomsOf among
   part-has (part (constantRow eo ea) w) h r = absurd (omega arith)
   part-has {whole = whole} {x = x} (part (atomRow {x = z} {y = y} a s) w) h r =
@@ -70,18 +70,18 @@ module _ {ws ms : List ℕ} {least : ℕ} where
   rank-counted i c =
       let m = c .marks in
       let a = c .atoms in
-      rw (le-ltb (getD ms i 0) least m, le-ltb (rowIn ws i .op) 8 (omega arith)) (add-one (rank ws ms least i))
+      rw (le-ltb (getD ms i 0) least m, le-ltb (rowIn ws i .op) firstAtom (omega arith)) (add-one (rank ws ms least i))
 
   rank-or : (i : ℕ) → (rank ws ms least (suc i) ≡ rank ws ms least i) ⊎ Counted ws ms least i
   unfolding rank seenAfter
-  rank-or i = go (ltb (getD ms i 0) least) refl (ltb (rowIn ws i .op) 8) refl
+  rank-or i = go (ltb (getD ms i 0) least) refl (ltb (rowIn ws i .op) firstAtom) refl
     where
-      go : (s : Bool) → ltb (getD ms i 0) least ≡ s → (t : Bool) → ltb (rowIn ws i .op) 8 ≡ t
+      go : (s : Bool) → ltb (getD ms i 0) least ≡ s → (t : Bool) → ltb (rowIn ws i .op) firstAtom ≡ t
           → (pick s (rank ws ms least i) (pick t (rank ws ms least i) (rank ws ms least i + 1)) ≡ rank ws ms least i) ⊎ Counted ws ms least i
       go true e t f = inl refl
       go false e true f = inl refl
       go false e false f =
-          let a = ltb-false (rowIn ws i .op) 8 f in
+          let a = ltb-false (rowIn ws i .op) firstAtom f in
           inr (record { marks = ltb-false (getD ms i 0) least e; atoms = omega arith })
 
   -- a counted row is no skipped one

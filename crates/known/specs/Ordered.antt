@@ -10,7 +10,8 @@ use lib.Dec.{ltb}
 use lib.ListN.{length, getD, take, set, length-set, length-append, length-replicate, List·getD-append}
 use lib.Seq.{take-suc, take-suc-set, take-set-le, getD-take, getD-at, getD-set-same, getD-set-other}
 use Rattle.script.specs.Tests.{pick}
-use Rattle.terms.specs.Terms.{rowIn, rowLimit}
+use Rattle.terms.specs.Places.{rowLimit}
+use Rattle.terms.specs.Terms.{rowIn, firstAtom, ofTruth}
 use Rattle.rows.specs.Code.{seenAfter, rank, words, rowsFrom, seenAt, seenTo, numberRow, numbersTo, numberedTo, noNumbers, numbersFrom, evaluateRow, evaluatedTo, changeRow, changedTo}
 
 -- ---- the first rows alone count
@@ -202,13 +203,13 @@ module _ (F : List ℕ → ℕ → ℕ) where
 
 -- ---- numbers
 
-number-same : (ws ns : List ℕ) (i seen : ℕ) → i < length ns → 8 ≤ rowIn ws i .op → getD (numberRow ws ns i seen) i 0 ≡ seen
+number-same : (ws ns : List ℕ) (i seen : ℕ) → i < length ns → firstAtom ≤ rowIn ws i .op → getD (numberRow ws ns i seen) i 0 ≡ seen
 unfolding numberRow
-number-same ws ns i seen l o = rw (le-ltb (rowIn ws i .op) 8 o) (getD-set-same ns i seen 0 l)
+number-same ws ns i seen l o = rw (le-ltb (rowIn ws i .op) firstAtom o) (getD-set-same ns i seen 0 l)
 
 number-other : (ws ns : List ℕ) (i seen k : ℕ) → (k ≡ i → ⊥) → getD (numberRow ws ns i seen) k 0 ≡ getD ns k 0
 unfolding numberRow
-number-other ws ns i seen k n = go (ltb (rowIn ws i .op) 8)
+number-other ws ns i seen k n = go (ltb (rowIn ws i .op) firstAtom)
   where
     go : (t : Bool) → getD (pick t ns (set ns i seen)) k 0 ≡ getD ns k 0
     go true = refl
@@ -224,7 +225,7 @@ module _ (ws ms : List ℕ) (least : ℕ) where
   seen-rank (suc n) = go (seen-rank n) (ltb (getD ms n 0) least)
     where
       more : seenTo ws (listed n) (length (listed n)) ≡ rank ws ms least n
-          → seenTo ws (listed n ++ (n ∷ [])) (suc (length (listed n))) ≡ pick (ltb (rowIn ws n .op) 8) (rank ws ms least n) (rank ws ms least n + 1)
+          → seenTo ws (listed n ++ (n ∷ [])) (suc (length (listed n))) ≡ pick (ltb (rowIn ws n .op) firstAtom) (rank ws ms least n) (rank ws ms least n + 1)
       more ih =
           let a = getD-at (listed n) n [] 0 (length (listed n)) refl in
           let b = seen-alike ws (listed n ++ (n ∷ [])) (listed n) (length (listed n)) (longer-alike (listed n) n) in
@@ -232,7 +233,7 @@ module _ (ws ms : List ℕ) (least : ℕ) where
 
       go : seenTo ws (listed n) (length (listed n)) ≡ rank ws ms least n → (t : Bool)
           → seenTo ws (pick t (listed n) (listed n ++ (n ∷ []))) (length (pick t (listed n) (listed n ++ (n ∷ []))))
-          ≡ pick t (rank ws ms least n) (pick (ltb (rowIn ws n .op) 8) (rank ws ms least n) (rank ws ms least n + 1))
+          ≡ pick t (rank ws ms least n) (pick (ltb (rowIn ws n .op) firstAtom) (rank ws ms least n) (rank ws ms least n + 1))
       go ih true = ih
       go ih false = ap (seenTo ws (listed n ++ (n ∷ []))) (rows-longer ms least n) ∙ more ih
 
@@ -251,7 +252,7 @@ module _ (ws ms : List ℕ) (least : ℕ) where
         go : (m : ℕ) → length (numbersTo ws (listed n) start m) ≡ length start
         go zero = refl
         go (suc m) =
-            one (numbersTo ws (listed n) start m) (getD (listed n) m 0) (seenTo ws (listed n) m) (ltb (rowIn ws (getD (listed n) m 0) .op) 8) ∙ go m
+            one (numbersTo ws (listed n) start m) (getD (listed n) m 0) (seenTo ws (listed n) m) (ltb (rowIn ws (getD (listed n) m 0) .op) ofTruth) ∙ go m
 
     numbers-skip : (n : ℕ) → getD ms n 0 < least → numbers (suc n) ≡ numbers n
     numbers-skip n h = ap (λ (l : List ℕ). numbersTo ws l start (length l)) (rows-skip ms least n h)
@@ -266,7 +267,7 @@ module _ (ws ms : List ℕ) (least : ℕ) where
         ∙ ap (numbersTo ws (listed n ++ (n ∷ [])) start) (rows-longer ms least n) ∙ rw (a, b, d, seen-rank n) refl
 
     -- an atom that has the mark has its rank as its number
-    pub numbers-rank : (n i : ℕ) → n ≤ length start → i < n → least ≤ getD ms i 0 → 8 ≤ rowIn ws i .op → getD (numbers n) i 0 ≡ rank ws ms least i
+    pub numbers-rank : (n i : ℕ) → n ≤ length start → i < n → least ≤ getD ms i 0 → firstAtom ≤ rowIn ws i .op → getD (numbers n) i 0 ≡ rank ws ms least i
     numbers-rank zero i l h m o = absurd (omega arith)
     numbers-rank (suc n) i l h m o = go (ℕ-discrete n i) (ltb (getD ms n 0) least) refl (λ k. numbers-rank n i (omega arith) k m o)
       where
@@ -281,7 +282,7 @@ module _ (ws ms : List ℕ) (least : ℕ) where
             ∙ number-other ws (numbers n) n (rank ws ms least n) i (λ z. e (sym z)) ∙ ih (omega arith)
 
 -- in the code's own words
-pub numbered-rank : (ws ms : List ℕ) (least n i : ℕ) → n ≤ rowLimit → i < n → least ≤ getD ms i 0 → 8 ≤ rowIn ws i .op
+pub numbered-rank : (ws ms : List ℕ) (least n i : ℕ) → n ≤ rowLimit → i < n → least ≤ getD ms i 0 → firstAtom ≤ rowIn ws i .op
     → getD (numbersFrom ws ms least n) i 0 ≡ rank ws ms least i
 unfolding numbersFrom
 numbered-rank ws ms least n i l = let k = length-replicate {A = ℕ} rowLimit 10 in numbers-rank ws ms least noNumbers n i (omega arith)

@@ -12,7 +12,7 @@ use lib.ListN.{length, getD, take, set, length-set, replicate, length-replicate}
 use lib.Seq.{take-length, getD-set-same, getD-set-other}
 use Rattle.script.specs.Rows.Laws.{same-anywhere}
 use Rattle.script.specs.Tests.{pick}
-use Rattle.terms.specs.Terms.{rowLimit, rowsEnd}
+use Rattle.terms.specs.Places.{rowLimit, rowsEnd}
 use Rattle.rows.specs.Code.{above, words, rowsFrom, Rows, numbersTo, noNumbers, numbersFrom, evaluatedTo, changedTo, changesOf, ones, blocksOf, conditionWord, trueWord, falseWord, nonZero, searchedBy, searched, truthsOf, Searchable, Searched, knownWord, guardMarks, guardRows, guardedWords, guardedWord, withKnown, withoutKnown, compared, Comparable}
 use Rattle.rows.specs.Code.Laws.{above-first, above-second}
 use Rattle.rows.specs.Code.Loops.{Searching, searching, searching-on, searching-both, searching-end}

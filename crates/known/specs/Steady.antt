@@ -13,7 +13,8 @@ use lib.ListN.{length, getD, take, replicate, length-replicate, List·getD-eq-de
 use lib.Seq.{take-all, getD-take}
 use Rattle.script.specs.Tests.{pick}
 use Rattle.script.specs.Rows.Laws.{same-anywhere}
-use Rattle.terms.specs.Terms.{rowIn, rowLimit}
+use Rattle.terms.specs.Places.{rowLimit}
+use Rattle.terms.specs.Terms.{rowIn, firstAtom, ofTruth}
 use Rattle.terms.specs.declared.Row.{Row}
 use Rattle.rows.specs.Bits.{or-first-most, or-second-most}
 use Rattle.rows.specs.Code.{patternOf, rowWord, wordOf, words, rowsFrom, evaluateRow, evaluatedTo, changeOf, changeRow, changedTo, changesOf}
@@ -83,29 +84,29 @@ pattern-steady (suc (suc (suc (suc (suc zero))))) block h = refl
 pattern-steady (suc (suc (suc (suc (suc (suc m)))))) block h = absurd (omega arith)
 
 -- of an atom and of another row
-change-atom : (r : Row) (m x y : ℕ) → 8 ≤ r .op → changeOf r m x y ≡ 0 → m < 6
+change-atom : (r : Row) (m x y : ℕ) → firstAtom ≤ r .op → changeOf r m x y ≡ 0 → m < 6
 unfolding changeOf
-change-atom r m x y h e = go (ltb m 6) refl (rw (le-ltb (r .op) 8 h) at e)
+change-atom r m x y h e = go (ltb m 6) refl (rw (le-ltb (r .op) firstAtom h) at e)
   where
     go : (t : Bool) → ltb m 6 ≡ t → _≡_ {A = ℕ} (pick t 0 1) 0 → m < 6
     go true q z = ltb-true m 6 q
     go false q z = absurd (omega arith)
 
-change-operands : (r : Row) (m x y : ℕ) → r .op < 8 → changeOf r m x y ≡ 0 → (x ≡ 0) × (y ≡ 0)
+change-operands : (r : Row) (m x y : ℕ) → r .op < firstAtom → changeOf r m x y ≡ 0 → (x ≡ 0) × (y ≡ 0)
 unfolding changeOf
 change-operands r m x y h e =
-    let z : bitOr x y ≡ 0 = rw (lt-ltb (r .op) 8 h) at e in
+    let z : bitOr x y ≡ 0 = rw (lt-ltb (r .op) firstAtom h) at e in
     let a = or-first-most x y in
     let b = or-second-most x y in
     (omega arith, omega arith)
 
-row-steady : (r : Row) (x y u v m block : ℕ) → r .op < 8 → x ≡ u → y ≡ v → rowWord r x y m block ≡ rowWord r u v m 0
+row-steady : (r : Row) (x y u v m block : ℕ) → r .op < firstAtom → x ≡ u → y ≡ v → rowWord r x y m block ≡ rowWord r u v m 0
 unfolding rowWord
-row-steady r x y u v m block h ex ey = rw (lt-leb 8 (r .op) h, ex, ey) refl
+row-steady r x y u v m block h ex ey = rw (lt-leb firstAtom (r .op) h, ex, ey) refl
 
-atom-steady : (r : Row) (x y u v m block : ℕ) → 8 ≤ r .op → m < 6 → rowWord r x y m block ≡ rowWord r u v m 0
+atom-steady : (r : Row) (x y u v m block : ℕ) → firstAtom ≤ r .op → m < 6 → rowWord r x y m block ≡ rowWord r u v m 0
 unfolding rowWord
-atom-steady r x y u v m block h l = rw (le-leb 8 (r .op) h) (pattern-steady m block l)
+atom-steady r x y u v m block h l = rw (le-leb firstAtom (r .op) h) (pattern-steady m block l)
 
 module _ (ws ns ms : List ℕ) (least n : ℕ) (few : n ≤ rowLimit) (os : List ℕ) (count : ℕ) (many : count ≡ length (rowsFrom ms least n)) (is : take count os ≡ rowsFrom ms least n) where
   abbrev changes : List ℕ
@@ -166,9 +167,9 @@ module _ (ws ns ms : List ℕ) (least n : ℕ) (few : n ≤ rowLimit) (os : List
   -- a row of which it is not said has the same word in every block
   pub steady : (k i : ℕ) → i < k → i < n → getD changes i 0 ≡ 0 → (block : ℕ) → getD (words ws ms least ns block n) i 0 ≡ getD (words ws ms least ns 0 n) i 0
   steady zero i l h z block = absurd (omega arith)
-  steady (suc k) i l h z block = go (decLt (getD ms i 0) least) (decLt (rowIn ws i .op) 8) (λ j m q. steady k j (omega arith) (omega arith) q block)
+  steady (suc k) i l h z block = go (decLt (getD ms i 0) least) (decLt (rowIn ws i .op) ofTruth) (λ j m q. steady k j (omega arith) (omega arith) q block)
     where
-      go : Dec (getD ms i 0 < least) → Dec (rowIn ws i .op < 8)
+      go : Dec (getD ms i 0 < least) → Dec (rowIn ws i .op < firstAtom)
           → ((j : ℕ) → j < i → getD changes j 0 ≡ 0 → getD (words ws ms least ns block n) j 0 ≡ getD (words ws ms least ns 0 n) j 0)
           → getD (words ws ms least ns block n) i 0 ≡ getD (words ws ms least ns 0 n) i 0
       go (yes m) d ih = no-word block i h m ∙ sym (no-word 0 i h m)

@@ -17,7 +17,7 @@ use Rattle.rules.specs.Satisfiable.{holds, atomsOf, among}
 use Rattle.rules.specs.Satisfiable.Laws.{among-same, among-append}
 use Rattle.rules.specs.Symbolic.Laws.{sameAtom-trans}
 use Rattle.rules.specs.Symbolic.{Atom, Formula, constantly, atom, negation, conjunction, equality, sameAtom}
-use Rattle.terms.specs.Terms.{rowIn, bitOf, TruthRow, constantRow, atomRow, negationRow, conjunctionRow, equalityRow, exclusionRow, AtomRow, truthSymbolRow, pairRow, differenceRow}
+use Rattle.terms.specs.Terms.{rowIn, bitOf, TruthRow, constantRow, atomRow, negationRow, conjunctionRow, equalityRow, exclusionRow, AtomRow, truthSymbolRow, pairRow, differenceRow, ofConjunction, ofConstant, ofEquality, ofExclusion, ofNegation, firstAtom}
 use Rattle.terms.specs.declared.Row.{Row}
 use Rattle.rows.specs.Bits.{bit, bit-and, bit-xor, bit-not}
 use Rattle.rows.specs.Code.{ones, spreadOf, patternOf, rank, rowWord, wordOf, words}
@@ -32,25 +32,25 @@ use Rattle.known.specs.Patterns.{pattern-bit, pattern-small, spread-bit,
 module _ (r : Row) (x y m block : ℕ) where
   word-atom : 7 < r .op → rowWord r x y m block ≡ patternOf m block
   unfolding rowWord
-  word-atom h = rw (le-leb 8 (r .op) h)
+  word-atom h = rw (le-leb firstAtom (r .op) h)
 
-  word-exclusion : r .op ≡ 7 → rowWord r x y m block ≡ bitAnd x (ones - y)
+  word-exclusion : r .op ≡ ofExclusion → rowWord r x y m block ≡ bitAnd x (ones - y)
   unfolding rowWord
   word-exclusion e = rw e
 
-  word-equality : r .op ≡ 6 → rowWord r x y m block ≡ ones - bitXor x y
+  word-equality : r .op ≡ ofEquality → rowWord r x y m block ≡ ones - bitXor x y
   unfolding rowWord
   word-equality e = rw e
 
-  word-conjunction : r .op ≡ 5 → rowWord r x y m block ≡ bitAnd x y
+  word-conjunction : r .op ≡ ofConjunction → rowWord r x y m block ≡ bitAnd x y
   unfolding rowWord
   word-conjunction e = rw e
 
-  word-negation : r .op ≡ 4 → rowWord r x y m block ≡ ones - x
+  word-negation : r .op ≡ ofNegation → rowWord r x y m block ≡ ones - x
   unfolding rowWord
   word-negation e = rw e
 
-  word-constant : r .op ≡ 3 → rowWord r x y m block ≡ spreadOf (r .a)
+  word-constant : r .op ≡ ofConstant → rowWord r x y m block ≡ spreadOf (r .a)
   unfolding rowWord
   word-constant e = rw e
 
@@ -122,8 +122,8 @@ module _ {xs : List Atom} {block : ℕ} where
 -- what holds of a row's mark holds of its operands' marks
 pub record Closed (P : ℕ → Type 0) (ws ms : List ℕ) (n : ℕ) : Type 0 where
   pub some : (i : ℕ) → P (getD ms i 0) → 0 < getD ms i 0
-  pub first : (i : ℕ) → i < n → Operand 4 (rowIn ws i .op) (getD ms i 0) i (rowIn ws i .a) → P (getD ms i 0) → P (getD ms (rowIn ws i .a) 0)
-  pub second : (i : ℕ) → i < n → Operand 5 (rowIn ws i .op) (getD ms i 0) i (rowIn ws i .b) → P (getD ms i 0) → P (getD ms (rowIn ws i .b) 0)
+  pub first : (i : ℕ) → i < n → Operand ofNegation (rowIn ws i .op) (getD ms i 0) i (rowIn ws i .a) → P (getD ms i 0) → P (getD ms (rowIn ws i .a) 0)
+  pub second : (i : ℕ) → i < n → Operand ofConjunction (rowIn ws i .op) (getD ms i 0) i (rowIn ws i .b) → P (getD ms i 0) → P (getD ms (rowIn ws i .b) 0)
 
 rank-more : (ws ms : List ℕ) (least i : ℕ) → rank ws ms least i ≤ rank ws ms least (suc i)
 unfolding rank
@@ -133,7 +133,7 @@ pub rank-grows : (ws ms : List ℕ) (least i n : ℕ) → i ≤ n → rank ws ms
 rank-grows ws ms least i n h =
     le-ind (λ (m : ℕ). rank ws ms least i ≤ rank ws ms least m) (omega arith) (λ m l e. let o = rank-more ws ms least m in omega arith) n h
 
-pub atom-op : {ws : List ℕ} {i : ℕ} {x : Atom} → AtomRow ws i x → 7 < rowIn ws i .op
+pub atom-op : {ws : List ℕ} {i : ℕ} {x : Atom} → AtomRow ws i x → ofExclusion < rowIn ws i .op
 atom-op (truthSymbolRow eo ea eb) = omega arith
 atom-op (pairRow eo ea eb) = omega arith
 atom-op (differenceRow eo ea eb ja jb p q) = omega arith
@@ -150,10 +150,10 @@ pub data RowOf (P : ℕ → Type 0) (ws ms : List ℕ) (n : ℕ) (z : Atom) : Ty
 
 module _ {P : ℕ → Type 0} {ws ms : List ℕ} {n : ℕ} (s : Closed P ws ms n) where
   -- a marked operand below its row
-  first-marked : (i j : ℕ) → i < n → P (getD ms i 0) → 4 ≤ rowIn ws i .op → rowIn ws i .op ≤ 7 → rowIn ws i .a ≡ j → j < i → P (getD ms j 0)
+  first-marked : (i j : ℕ) → i < n → P (getD ms i 0) → ofNegation ≤ rowIn ws i .op → rowIn ws i .op ≤ ofExclusion → rowIn ws i .a ≡ j → j < i → P (getD ms j 0)
   first-marked i j h k l u e b = rw e at (s .first i h (record { marks = s .some i k; low = l; high = u; below = omega arith }) k)
 
-  second-marked : (i j : ℕ) → i < n → P (getD ms i 0) → 5 ≤ rowIn ws i .op → rowIn ws i .op ≤ 7 → rowIn ws i .b ≡ j → j < i → P (getD ms j 0)
+  second-marked : (i j : ℕ) → i < n → P (getD ms i 0) → ofConjunction ≤ rowIn ws i .op → rowIn ws i .op ≤ ofExclusion → rowIn ws i .b ≡ j → j < i → P (getD ms j 0)
   second-marked i j h k l u e b = rw e at (s .second i h (record { marks = s .some i k; low = l; high = u; below = omega arith }) k)
 
   two-rows : (f g : Formula) (z : Atom) → among (atomsOf f ++ atomsOf g) z ≡ true → (among (atomsOf f) z ≡ true → RowOf P ws ms n z)

@@ -3,7 +3,8 @@
 ghost use mathlib.Core.Path.{_≡_};
 ghost use Prim.Native.Nat.{_+_, _*_, _≤_, _<_};
 ghost use lib.ListN.{length, getD, set};
-ghost use Rattle.terms.specs.Terms.{rowIn, rowLimit, rowsEnd};
+ghost use Rattle.terms.specs.Places.{rowLimit, rowsEnd};
+ghost use Rattle.terms.specs.Terms.{rowIn};
 ghost use Rattle.rows.specs.Code.{Rows, seenAfter, rank, knownSize, knownWord, knownNumbers, Sound, keepRow, Keepable, keptRows, keepWord, keptWords, kept, GuardListed, guardedWord, guardedWords, Comparable, compared};
 use rows::CONDITION;
 use rows::Decision;
@@ -11,8 +12,8 @@ use rows::blocks_of;
 use rows::both_found;
 use rows::branches_of;
 use rows::mark_all;
+use terms::FIRST_ATOM;
 use terms::ROWS;
-use terms::TRUTH;
 use terms::row_at;
 use truths::begin;
 use truths::evaluate;
@@ -64,7 +65,7 @@ fn keep_row(space: &mut [u32], at: usize, mark: u8, i: usize, count: u32) -> u32
     if mark < CONDITION {
         return count;
     }
-    if row_at(space, i).op < TRUTH {
+    if row_at(space, i).op < FIRST_ATOM {
         return count;
     }
     space[at + ATOM_ROWS + count as usize] = i as u32;

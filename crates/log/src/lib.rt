@@ -3,11 +3,15 @@ ghost use mathlib.Core.Path.{_≡_};
 ghost use Prim.Native.Nat.{suc, _-_, _<_, _≤_};
 ghost use lib.ListN.{length};
 ghost use Rattle.script.specs.Limits.{nodeLimit};
-ghost use Rattle.workspace.specs.Log.{rightOn, mendsOn, mendedOn, settledOn, consistentOn, apartOn, lookupOn, written, emptied};
-ghost use Rattle.workspace.specs.State.{spaceSize, writesIn, startIn};
+ghost use Rattle.workspace.specs.Log.{rightOn, mendsOn, mendedOn, settledOn, consistentOn, lookupOn, written, emptied};
+ghost use Rattle.workspace.specs.Places.{spaceSize};
+ghost use Rattle.workspace.specs.State.{writesIn, startIn};
+use terms::references::apart;
+use terms::references::symbol_of;
 use workspace::Found;
 use workspace::LOG;
 use workspace::START;
+use workspace::WRITE;
 use workspace::WRITES;
 
 // Write i has the type of its cell.
@@ -16,8 +20,8 @@ fn is_right(space: &[u32], i: usize) -> bool
     requires { ⌜ spaceSize ≤ length (now space) ⌝ }
     ensures { λ r. ⌜ r ≡ rightOn (now (space .entry)) i ⌝ }
 {
-    let t = space[LOG + 4 * i];
-    let u = space[LOG + 4 * i + 2];
+    let t = space[LOG + WRITE * i];
+    let u = space[LOG + WRITE * i + 2];
     2 <= t && t - 2 == u
 }
 
@@ -30,7 +34,7 @@ fn mends(space: &[u32], j: usize, symbol: u32) -> bool
     if !is_right(space, j) {
         return false;
     }
-    space[LOG + 4 * j + 1] / 2 == symbol
+    symbol_of(space[LOG + WRITE * j + 1]) == symbol
 }
 
 // A write of the right type through this symbol comes after write i.
@@ -61,7 +65,7 @@ fn settled(space: &[u32], i: usize) -> bool
     if is_right(space, i) {
         return true;
     }
-    mended(space, i, space[LOG + 4 * i + 1] / 2)
+    mended(space, i, symbol_of(space[LOG + WRITE * i + 1]))
 }
 
 // Each write of a wrong type, from the first that counts on, is followed by one of the right type through the same symbol.
@@ -81,19 +85,6 @@ pub fn consistent(space: &[u32]) -> bool
     true
 }
 
-// The two places are of different symbols that `ref` made on this path.
-fn apart(p: u32, q: u32) -> bool
-    ensures { λ r. ⌜ r ≡ apartOn p q ⌝ }
-{
-    if p % 2 != 1 {
-        return false;
-    }
-    if q % 2 != 1 {
-        return false;
-    }
-    p / 2 != q / 2
-}
-
 // What `get` finds through the reference at this place, seen from the newest write, among those that count.
 pub fn lookup(space: &[u32], place: u32) -> Found
     requires { ⌜ writesIn (now space) ≤ nodeLimit ⌝ }
@@ -103,10 +94,13 @@ pub fn lookup(space: &[u32], place: u32) -> Found
     let first = space[START] as usize;
     let mut i = space[WRITES] as usize;
     while first < i {
-        let through = space[LOG + 4 * (i - 1) + 1];
+        let through = space[LOG + WRITE * (i - 1) + 1];
         if !apart(through, place) {
-            if through / 2 == place / 2 {
-                return Found::Value(space[LOG + 4 * (i - 1) + 2], space[LOG + 4 * (i - 1) + 3]);
+            if symbol_of(through) == symbol_of(place) {
+                return Found::Value(
+                    space[LOG + WRITE * (i - 1) + 2],
+                    space[LOG + WRITE * (i - 1) + 3],
+                );
             }
             return Found::Nothing;
         }
@@ -122,7 +116,7 @@ pub fn write(space: &mut [u32], t: u32, p: u32, u: u32, q: u32)
     ensures { λ r. ⌜ now (space .exit) ≡ written (now (space .entry)) t p u q ⌝ }
 {
     let count = space[WRITES];
-    let at = LOG + 4 * (count as usize);
+    let at = LOG + WRITE * (count as usize);
     space[at] = t;
     space[at + 1] = p;
     space[at + 2] = u;

@@ -8,9 +8,9 @@ ghost use lib.ListN.{length};
 ghost use Rattle.script.specs.Code.Forms.{formOf, treeIn};
 ghost use Rattle.script.specs.Flat.{FormedNodes};
 ghost use Rattle.rules.specs.Checking.Mentions.{mentions};
-ghost use Rattle.terms.specs.Terms.{symbolLimit};
+ghost use Rattle.terms.specs.Places.{symbolLimit};
 ghost use Rattle.workspace.specs.Notes.{leafMentions, Readable, Recallable, Recallables, agreesOn, isOf, recalledOn, Named, named, Nameable, Names, Noted};
-ghost use Rattle.workspace.specs.State.{spaceSize};
+ghost use Rattle.workspace.specs.Places.{noteLimit, spaceSize};
 use script::table::IF;
 use script::table::LEAVES;
 use script::table::VAR;
@@ -92,7 +92,7 @@ fn is_of(space: &[u32], at: usize, depth: usize, a: u32) -> bool
 // What the notes say of node a with so many variables.
 pub fn recall(space: &[u32], depth: usize, a: u32) -> Known
     requires { ⌜ Recallables (now space) depth ⌝ }
-    ensures { λ r. ⌜ r ≡ recalledOn (now (space .entry)) depth a 0 8 ⌝ }
+    ensures { λ r. ⌜ r ≡ recalledOn (now (space .entry)) depth a 0 noteLimit ⌝ }
 {
     let mut i = 0;
     while i < KEPT {

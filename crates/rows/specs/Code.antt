@@ -12,7 +12,8 @@ use lib.Bits.{bitAnd, bitOr, bitXor}
 use lib.Dec.{leb, ltb, eqb}
 use lib.ListN.{length, getD, take, set, replicate}
 use Rattle.script.specs.Tests.{pick}
-use Rattle.terms.specs.Terms.{rowIn, rowLimit, rowsEnd}
+use Rattle.terms.specs.Places.{rowLimit, rowsEnd}
+use Rattle.terms.specs.Terms.{rowIn, firstAtom, ofConjunction, ofConstant, ofEquality, ofExclusion, ofNegation}
 use Rattle.terms.specs.declared.Row.{Row}
 use Rattle.rows.specs.Decision.{branchesOf, onlyOne}
 use Rattle.rows.specs.declared.Counts.{Counts}
@@ -33,7 +34,7 @@ pub record Room (ws : List ℕ) (n : ℕ) (ms : List ℕ) : Type 0 where
 
 -- below which row an operand of a marked row lies that the operators from `least` to 7 have
 unfoldable pub operandBelow : ℕ → ℕ → ℕ → ℕ → ℕ
-operandBelow least op mark i = pick (eqb mark 0) 0 (pick (ltb op least) 0 (pick (ltb 7 op) 0 i))
+operandBelow least op mark i = pick (eqb mark 0) 0 (pick (ltb op least) 0 (pick (ltb ofExclusion op) 0 i))
 
 -- row a has one mark more
 unfoldable pub reached : List ℕ → ℕ → ℕ → ℕ → List ℕ
@@ -41,7 +42,7 @@ reached ms a below mark = pick (leb below a) ms (set ms a (bitOr (getD ms a 0) m
 
 unfoldable pub markRow : List ℕ → Row → ℕ → List ℕ
 markRow ms r i =
-    reached (reached ms (r .a) (operandBelow 4 (r .op) (getD ms i 0) i) (getD ms i 0)) (r .b) (operandBelow 5 (r .op) (getD ms i 0) i) (getD ms i 0)
+    reached (reached ms (r .a) (operandBelow ofNegation (r .op) (getD ms i 0) i) (getD ms i 0)) (r .b) (operandBelow ofConjunction (r .op) (getD ms i 0) i) (getD ms i 0)
 
 -- from the last row down
 unfoldable pub marked : List ℕ → ℕ → List ℕ → List ℕ
@@ -52,7 +53,7 @@ marked ws (suc j) ms = marked ws j (markRow ms (rowIn ws j) j)
 
 -- those that have at least a mark count
 unfoldable pub seenAfter : ℕ → ℕ → ℕ → ℕ → ℕ
-seenAfter op mark least seen = pick (ltb mark least) seen (pick (ltb op 8) seen (seen + 1))
+seenAfter op mark least seen = pick (ltb mark least) seen (pick (ltb op firstAtom) seen (seen + 1))
 
 -- how many of the first rows are atoms with at least a mark: the number of the next one
 unfoldable pub rank : List ℕ → List ℕ → ℕ → ℕ → ℕ
@@ -102,12 +103,12 @@ patternOf (suc (suc (suc (suc (suc (suc (suc (suc (suc m))))))))) block = spread
 -- a row whose operands are x and y; m is its number, if it is an atom
 unfoldable pub rowWord : Row → ℕ → ℕ → ℕ → ℕ → ℕ
 rowWord r x y m block =
-    pick (leb 8 (r .op)) (patternOf m block)
-    (pick (eqb (r .op) 7) (bitAnd x (ones - y))
-    (pick (eqb (r .op) 6) (ones - bitXor x y)
-    (pick (eqb (r .op) 5) (bitAnd x y)
-    (pick (eqb (r .op) 4) (ones - x)
-    (pick (eqb (r .op) 3) (spreadOf (r .a)) 0)))))
+    pick (leb firstAtom (r .op)) (patternOf m block)
+    (pick (eqb (r .op) ofExclusion) (bitAnd x (ones - y))
+    (pick (eqb (r .op) ofEquality) (ones - bitXor x y)
+    (pick (eqb (r .op) ofConjunction) (bitAnd x y)
+    (pick (eqb (r .op) ofNegation) (ones - x)
+    (pick (eqb (r .op) ofConstant) (spreadOf (r .a)) 0)))))
 
 -- a row by the words of the rows before
 unfoldable pub wordOf : List ℕ → Row → ℕ → ℕ → ℕ → ℕ → ℕ
@@ -154,10 +155,10 @@ pub record Rows (ws os : List ℕ) (count : ℕ) : Type 0 where
 -- ---- the numbers of the atoms among them
 
 unfoldable pub seenAt : List ℕ → ℕ → ℕ → ℕ
-seenAt ws i seen = pick (ltb (rowIn ws i .op) 8) seen (seen + 1)
+seenAt ws i seen = pick (ltb (rowIn ws i .op) firstAtom) seen (seen + 1)
 
 unfoldable pub numberRow : List ℕ → List ℕ → ℕ → ℕ → List ℕ
-numberRow ws ns i seen = pick (ltb (rowIn ws i .op) 8) ns (set ns i seen)
+numberRow ws ns i seen = pick (ltb (rowIn ws i .op) firstAtom) ns (set ns i seen)
 
 -- how many of the first j rows are atoms
 unfoldable pub seenTo : List ℕ → List ℕ → ℕ → ℕ
@@ -171,7 +172,7 @@ numbersTo ws os ns (suc j) = numberRow ws (numbersTo ws os ns j) (getD os j 0) (
 
 -- a row is no atom, or has a number; and so do the first j rows
 unfoldable pub isNumbered : List ℕ → List ℕ → ℕ → Bool
-isNumbered ws ns i = pick (ltb (rowIn ws i .op) 8) true (ltb (getD ns i 0) 10)
+isNumbered ws ns i = pick (ltb (rowIn ws i .op) firstAtom) true (ltb (getD ns i 0) 10)
 
 unfoldable pub numberedTo : List ℕ → List ℕ → List ℕ → ℕ → Bool
 numberedTo ws os ns zero = true
@@ -198,7 +199,7 @@ evaluatedTo ws os ns block vs (suc j) = evaluateRow ws ns block (evaluatedTo ws 
 
 -- by what is said of the operands; m is the row's number, if it is an atom
 unfoldable pub changeOf : Row → ℕ → ℕ → ℕ → ℕ
-changeOf r m x y = pick (ltb (r .op) 8) (bitOr x y) (pick (ltb m 6) 0 1)
+changeOf r m x y = pick (ltb (r .op) firstAtom) (bitOr x y) (pick (ltb m 6) 0 1)
 
 unfoldable pub changeRow : List ℕ → List ℕ → List ℕ → ℕ → List ℕ
 changeRow ws ns hs i =
@@ -284,7 +285,7 @@ knownNumbers ws at ns (suc j) = set (knownNumbers ws at ns j) (knownRow ws at j)
 
 -- row i is kept, if it is an atom with a mark, after so many others
 unfoldable pub keepRow : List ℕ → ℕ → ℕ → ℕ → ℕ → List ℕ
-keepRow ws at mark i count = pick (ltb mark 1) ws (pick (ltb (rowIn ws i .op) 8) ws (set ws (at + 2 + count) i))
+keepRow ws at mark i count = pick (ltb mark 1) ws (pick (ltb (rowIn ws i .op) firstAtom) ws (set ws (at + 2 + count) i))
 
 unfoldable pub keptRows : List ℕ → ℕ → List ℕ → ℕ → List ℕ
 keptRows ws at ms zero = ws
@@ -368,7 +369,7 @@ atomsFrom ws c g least = rank ws (marksFrom ws c g) least (above c g)
 
 -- 'a and b' and 'a and not b' have the conjunct b
 unfoldable pub isLink : ℕ → Bool
-isLink op = pick (eqb op 5) true (eqb op 7)
+isLink op = pick (eqb op ofConjunction) true (eqb op ofExclusion)
 
 -- the operator with which row i has row g as a conjunct, at most so many rows down; 0 if it does not have it
 unfoldable pub conjunctAt : List ℕ → ℕ → ℕ → ℕ → ℕ
@@ -387,8 +388,8 @@ decidedAnew ws c g =
     pick (ltb 10 (atomsFrom ws c g 1)) TooMany
     (pick (eqb (atomsFrom ws c g 3) 0)
     (searched ws (marksFrom ws c g) 2 g g (blocksOf (atomsFrom ws c g 2)))
-    (pick (eqb (conjunctOf ws c g) 5) OnlyTrue
-    (pick (eqb (conjunctOf ws c g) 7) OnlyFalse
+    (pick (eqb (conjunctOf ws c g) ofConjunction) OnlyTrue
+    (pick (eqb (conjunctOf ws c g) ofExclusion) OnlyFalse
     (searched ws (marksFrom ws c g) 1 c g (blocksOf (atomsFrom ws c g 1))))))
 
 -- the atoms of what is known have their numbers; every atom of the guard has one

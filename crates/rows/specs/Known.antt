@@ -11,7 +11,8 @@ use lib.ListN.{length, getD}
 use Rattle.script.specs.Tests.{pick}
 use Rattle.rules.specs.Satisfiable.{holds, atomsOf, among}
 use Rattle.rules.specs.Symbolic.{Atom, Formula, sameAtom}
-use Rattle.terms.specs.Terms.{countIn, rowLimit, AtomRow, Grown}
+use Rattle.terms.specs.Places.{rowLimit}
+use Rattle.terms.specs.Terms.{countIn, AtomRow, Grown}
 use Rattle.terms.specs.Terms.Laws.{atom-kept}
 use Rattle.rows.specs.Bits.{bit}
 use Rattle.rows.specs.Code.{blocksOf, knownSize, knownRow, knownWord, Sound}

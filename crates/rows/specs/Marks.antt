@@ -15,7 +15,8 @@ use Rattle.script.specs.Tests.{pick}
 use Rattle.rules.specs.Satisfiable.{atomsOf, among}
 use Rattle.rules.specs.Satisfiable.Laws.{in-first, in-second}
 use Rattle.rules.specs.Symbolic.{Atom, Formula, negation, conjunction, equality}
-use Rattle.terms.specs.Terms.{rowIn, rowLimit, TruthRow, constantRow, atomRow, negationRow, conjunctionRow, equalityRow, exclusionRow, truthSymbolRow, pairRow, differenceRow}
+use Rattle.terms.specs.Places.{rowLimit}
+use Rattle.terms.specs.Terms.{rowIn, TruthRow, constantRow, atomRow, negationRow, conjunctionRow, equalityRow, exclusionRow, truthSymbolRow, pairRow, differenceRow, ofConjunction, ofExclusion, ofNegation}
 use Rattle.terms.specs.declared.Row.{Row}
 use Rattle.rows.specs.Bits.{or-first-most, or-second-most, or-first-odd, or-second-odd}
 use Rattle.rows.specs.Code.{operandBelow, reached, markRow, marked, firstMark, startMarks}
@@ -27,7 +28,7 @@ use Rattle.rows.specs.Code.Laws.{below-within, reached-length, markRow-l
 pub record Operand (least op mark i a : ℕ) : Type 0 where
   pub marks : 0 < mark
   pub low : least ≤ op
-  pub high : op ≤ 7
+  pub high : op ≤ ofExclusion
   pub below : a < i
 
 pick-less : (t : Bool) (a k : ℕ) → a < pick t 0 k → (t ≡ false) × (a < k)
@@ -38,17 +39,17 @@ module _ (least op mark i a : ℕ) where
   pub below-operand : a < operandBelow least op mark i → Operand least op mark i a
   unfolding operandBelow
   below-operand h =
-      let p = pick-less (eqb mark 0) a (pick (ltb op least) 0 (pick (ltb 7 op) 0 i)) h in
-      let q = pick-less (ltb op least) a (pick (ltb 7 op) 0 i) (p .1) in
-      let r = pick-less (ltb 7 op) a i (q .1) in
+      let p = pick-less (eqb mark 0) a (pick (ltb op least) 0 (pick (ltb ofExclusion op) 0 i)) h in
+      let q = pick-less (ltb op least) a (pick (ltb ofExclusion op) 0 i) (p .1) in
+      let r = pick-less (ltb ofExclusion op) a i (q .1) in
       let m = eqb-false mark 0 (p .0) in
-      record { marks = omega arith; low = ltb-false op least (q .0); high = ltb-false 7 op (r .0); below = r .1 }
+      record { marks = omega arith; low = ltb-false op least (q .0); high = ltb-false ofExclusion op (r .0); below = r .1 }
 
   pub operand-below : Operand least op mark i a → operandBelow least op mark i ≡ i
   unfolding operandBelow
   operand-below o =
       let m = o .marks in
-      rw (ne-eqb mark 0 (λ e. omega arith), le-ltb op least (o .low), le-ltb 7 op (o .high))
+      rw (ne-eqb mark 0 (λ e. omega arith), le-ltb op least (o .low), le-ltb ofExclusion op (o .high))
 
 -- ---- what marks say
 
@@ -124,10 +125,10 @@ module _ (ms : List ℕ) (r : Row) (i : ℕ) where
   unfolding markRow
   row-above k h =
       let m = getD ms i 0 in
-      let f = operandBelow 4 (r .op) m i in
-      let s = operandBelow 5 (r .op) m i in
-      let p = below-within 4 (r .op) m i in
-      let q = below-within 5 (r .op) m i in
+      let f = operandBelow ofNegation (r .op) m i in
+      let s = operandBelow ofConjunction (r .op) m i in
+      let p = below-within ofNegation (r .op) m i in
+      let q = below-within ofConjunction (r .op) m i in
       reached-above (reached ms (r .a) f m) (r .b) s m k (omega arith) ∙ reached-above ms (r .a) f m k (omega arith)
 
   module _ {P : ℕ → Type 0} (kept : Kept P) where
@@ -135,30 +136,30 @@ module _ (ms : List ℕ) (r : Row) (i : ℕ) where
     unfolding markRow
     row-keeps k h l =
         let m = getD ms i 0 in
-        let f = operandBelow 4 (r .op) m i in
+        let f = operandBelow ofNegation (r .op) m i in
         let e = reached-length ms (r .a) f m in
-        reached-keeps (reached ms (r .a) f m) (r .b) (operandBelow 5 (r .op) m i) m kept k (reached-keeps ms (r .a) f m kept k h l) (omega arith)
+        reached-keeps (reached ms (r .a) f m) (r .b) (operandBelow ofConjunction (r .op) m i) m kept k (reached-keeps ms (r .a) f m kept k h l) (omega arith)
 
-    pub row-first : Operand 4 (r .op) (getD ms i 0) i (r .a) → P (getD ms i 0) → i ≤ length ms → P (getD (markRow ms r i) (r .a) 0)
+    pub row-first : Operand ofNegation (r .op) (getD ms i 0) i (r .a) → P (getD ms i 0) → i ≤ length ms → P (getD (markRow ms r i) (r .a) 0)
     unfolding markRow
     row-first o h l =
         let m = getD ms i 0 in
-        let f = operandBelow 4 (r .op) m i in
+        let f = operandBelow ofNegation (r .op) m i in
         let e = reached-length ms (r .a) f m in
-        let p = operand-below 4 (r .op) m i (r .a) o in
+        let p = operand-below ofNegation (r .op) m i (r .a) o in
         let b = o .below in
-        reached-keeps (reached ms (r .a) f m) (r .b) (operandBelow 5 (r .op) m i) m kept (r .a)
+        reached-keeps (reached ms (r .a) f m) (r .b) (operandBelow ofConjunction (r .op) m i) m kept (r .a)
         (reached-there ms (r .a) f m kept h (omega arith) (omega arith)) (omega arith)
 
-    pub row-second : Operand 5 (r .op) (getD ms i 0) i (r .b) → P (getD ms i 0) → i ≤ length ms → P (getD (markRow ms r i) (r .b) 0)
+    pub row-second : Operand ofConjunction (r .op) (getD ms i 0) i (r .b) → P (getD ms i 0) → i ≤ length ms → P (getD (markRow ms r i) (r .b) 0)
     unfolding markRow
     row-second o h l =
         let m = getD ms i 0 in
-        let f = operandBelow 4 (r .op) m i in
+        let f = operandBelow ofNegation (r .op) m i in
         let e = reached-length ms (r .a) f m in
-        let p = operand-below 5 (r .op) m i (r .b) o in
+        let p = operand-below ofConjunction (r .op) m i (r .b) o in
         let b = o .below in
-        reached-there (reached ms (r .a) f m) (r .b) (operandBelow 5 (r .op) m i) m kept h (omega arith) (omega arith)
+        reached-there (reached ms (r .a) f m) (r .b) (operandBelow ofConjunction (r .op) m i) m kept h (omega arith) (omega arith)
 
 -- ---- all rows
 
@@ -206,12 +207,12 @@ module _ (ws : List ℕ) where
           go (no q) ih = let e = markRow-length ms (rowIn ws j) j in ih (omega arith) i (omega arith) o m
 
     pub closed-first : (n : ℕ) (ms : List ℕ) → n ≤ length ms → (i : ℕ) → i < n
-        → Operand 4 (rowIn ws i .op) (getD (marked ws n ms) i 0) i (rowIn ws i .a) → P (getD (marked ws n ms) i 0)
+        → Operand ofNegation (rowIn ws i .op) (getD (marked ws n ms) i 0) i (rowIn ws i .a) → P (getD (marked ws n ms) i 0)
         → P (getD (marked ws n ms) (rowIn ws i .a) 0)
     closed-first = closed 4 (λ r. r .a) (λ ms r i. row-first ms r i kept)
 
     pub closed-second : (n : ℕ) (ms : List ℕ) → n ≤ length ms → (i : ℕ) → i < n
-        → Operand 5 (rowIn ws i .op) (getD (marked ws n ms) i 0) i (rowIn ws i .b) → P (getD (marked ws n ms) i 0)
+        → Operand ofConjunction (rowIn ws i .op) (getD (marked ws n ms) i 0) i (rowIn ws i .b) → P (getD (marked ws n ms) i 0)
         → P (getD (marked ws n ms) (rowIn ws i .b) 0)
     closed-second = closed 5 (λ r. r .b) (λ ms r i. row-second ms r i kept)
 
@@ -245,7 +246,7 @@ unfolding atomsOf
 within-equality f g w = record { each = w .each }
 
 module _ (ws : List ℕ) (whole : Formula) where
-  first-part : {i : ℕ} {f : Formula} → TruthRow ws i f → Within f whole → 4 ≤ rowIn ws i .op → rowIn ws i .op ≤ 7 → Part ws whole (rowIn ws i .a)
+  first-part : {i : ℕ} {f : Formula} → TruthRow ws i f → Within f whole → ofNegation ≤ rowIn ws i .op → rowIn ws i .op ≤ ofExclusion → Part ws whole (rowIn ws i .a)
   first-part (constantRow eo ea) w l h = absurd (omega arith)
   first-part (atomRow (truthSymbolRow eo ea eb) s) w l h = absurd (omega arith)
   first-part (atomRow (pairRow eo ea eb) s) w l h = absurd (omega arith)
@@ -255,7 +256,7 @@ module _ (ws : List ℕ) (whole : Formula) where
   first-part (equalityRow {f = f} {g = g} eo ea eb ja jb t u) w l h = rw ea (part t (within-first f g (within-equality f g w)))
   first-part (exclusionRow {f = f} {g = g} eo ea eb ja jb t u) w l h = rw ea (part t (within-first f (negation g) w))
 
-  second-part : {i : ℕ} {f : Formula} → TruthRow ws i f → Within f whole → 5 ≤ rowIn ws i .op → rowIn ws i .op ≤ 7 → Part ws whole (rowIn ws i .b)
+  second-part : {i : ℕ} {f : Formula} → TruthRow ws i f → Within f whole → ofConjunction ≤ rowIn ws i .op → rowIn ws i .op ≤ ofExclusion → Part ws whole (rowIn ws i .b)
   second-part (constantRow eo ea) w l h = absurd (omega arith)
   second-part (atomRow (truthSymbolRow eo ea eb) s) w l h = absurd (omega arith)
   second-part (atomRow (pairRow eo ea eb) s) w l h = absurd (omega arith)
@@ -265,10 +266,10 @@ module _ (ws : List ℕ) (whole : Formula) where
   second-part (equalityRow {f = f} {g = g} eo ea eb ja jb t u) w l h = rw eb (part u (within-second f g (within-equality f g w)))
   second-part (exclusionRow {f = f} {g = g} eo ea eb ja jb t u) w l h = rw eb (part u (within-negation (within-second f (negation g) w)))
 
-  first-of : {i : ℕ} → Part ws whole i → 4 ≤ rowIn ws i .op → rowIn ws i .op ≤ 7 → Part ws whole (rowIn ws i .a)
+  first-of : {i : ℕ} → Part ws whole i → ofNegation ≤ rowIn ws i .op → rowIn ws i .op ≤ ofExclusion → Part ws whole (rowIn ws i .a)
   first-of (part t w) l h = first-part t w l h
 
-  second-of : {i : ℕ} → Part ws whole i → 5 ≤ rowIn ws i .op → rowIn ws i .op ≤ 7 → Part ws whole (rowIn ws i .b)
+  second-of : {i : ℕ} → Part ws whole i → ofConjunction ≤ rowIn ws i .op → rowIn ws i .op ≤ ofExclusion → Part ws whole (rowIn ws i .b)
   second-of (part t w) l h = second-part t w l h
 
   parts-reached : (ms : List ℕ) (a below mark : ℕ) → Parts ws whole ms → (a < below → Part ws whole a) → Parts ws whole (reached ms a below mark)
@@ -283,11 +284,11 @@ module _ (ws : List ℕ) (whole : Formula) where
   parts-row ms i s =
       parts-reached _ (rowIn ws i .b) _ _ (parts-reached ms (rowIn ws i .a) _ _ s one) two
     where
-      one : rowIn ws i .a < operandBelow 4 (rowIn ws i .op) (getD ms i 0) i → Part ws whole (rowIn ws i .a)
-      one h = let o = below-operand 4 (rowIn ws i .op) (getD ms i 0) i (rowIn ws i .a) h in first-of (s .each i (o .marks)) (o .low) (o .high)
+      one : rowIn ws i .a < operandBelow ofNegation (rowIn ws i .op) (getD ms i 0) i → Part ws whole (rowIn ws i .a)
+      one h = let o = below-operand ofNegation (rowIn ws i .op) (getD ms i 0) i (rowIn ws i .a) h in first-of (s .each i (o .marks)) (o .low) (o .high)
 
-      two : rowIn ws i .b < operandBelow 5 (rowIn ws i .op) (getD ms i 0) i → Part ws whole (rowIn ws i .b)
-      two h = let o = below-operand 5 (rowIn ws i .op) (getD ms i 0) i (rowIn ws i .b) h in second-of (s .each i (o .marks)) (o .low) (o .high)
+      two : rowIn ws i .b < operandBelow ofConjunction (rowIn ws i .op) (getD ms i 0) i → Part ws whole (rowIn ws i .b)
+      two h = let o = below-operand ofConjunction (rowIn ws i .op) (getD ms i 0) i (rowIn ws i .b) h in second-of (s .each i (o .marks)) (o .low) (o .high)
 
   pub parts-marked : (n : ℕ) (ms : List ℕ) → Parts ws whole ms → Parts ws whole (marked ws n ms)
   unfolding marked

@@ -7,7 +7,8 @@ use Prim.Native.Nat.{ℕ, _+_, _≤_, _<_}
 use lib.ListN.{length, getD}
 use Rattle.rules.specs.Satisfiable.{satisfiable}
 use Rattle.rules.specs.Symbolic.{Formula, negation, conjunction}
-use Rattle.terms.specs.Terms.{countIn, rowLimit, rowsEnd, Space, TruthRow, Distinct}
+use Rattle.terms.specs.Places.{rowLimit, rowsEnd}
+use Rattle.terms.specs.Terms.{countIn, Space, TruthRow, Distinct}
 use Rattle.rows.specs.Code.{knownSize, Sound, decided, LeftBy}
 use Rattle.rows.specs.Decision.{decisionOf}
 use Rattle.rows.specs.declared.Decision.{Decision}

@@ -4,14 +4,14 @@ ghost use mathlib.Core.Bool.{_&&_};
 ghost use mathlib.Core.Path.{_≡_};
 ghost use Prim.Native.Nat.{_+_, _<_, _≤_};
 ghost use lib.ListN.{length};
-ghost use Rattle.terms.specs.Terms.{rowLimit};
+ghost use Rattle.terms.specs.Places.{rowLimit};
 ghost use Rattle.rows.specs.Decision.{branchesOf};
 ghost use Rattle.rows.specs.Code.{above, Room, Low, operandBelow, reached, markRow, marked, seenAfter, Visited, countsOf, blocksOf, nonZero};
 use terms::CONJUNCTION;
 use terms::EXCLUSION;
+use terms::FIRST_ATOM;
 use terms::NEGATION;
 use terms::Row;
-use terms::TRUTH;
 use terms::row_at;
 
 // Which branches are taken: none, since there are too many atoms; both; or one.
@@ -107,7 +107,7 @@ fn seen_after(op: u32, mark: u8, least: u8, seen: u32) -> u32
     if mark < least {
         return seen;
     }
-    if op < TRUTH {
+    if op < FIRST_ATOM {
         return seen;
     }
     seen + 1
@@ -124,7 +124,7 @@ fn visit(space: &[u32], marks: &mut [u8], i: usize, counts: Counts) -> Counts
         return counts;
     }
     let row = row_at(space, i);
-    if TRUTH <= row.op {
+    if FIRST_ATOM <= row.op {
         return Counts {
             all: seen_after(row.op, mark, CONDITION, counts.all),
             own: seen_after(row.op, mark, GUARD, counts.own),

@@ -1,5 +1,5 @@
-// The symbolic rules: what node n gives on a path once its operands have given theirs. A value is its type's code and its place: a row of the terms, or of a
-// reference twice its symbol, and one more if `ref` made it on this path.
+// The symbolic rules: what node n gives on a path once its operands have given theirs. A value is its type's code and its place: a row of the terms, or what
+// `terms::references` says of a reference.
 ghost use Prim.Native.Nat.{_*_, _≤_};
 ghost use lib.ListN.{length};
 ghost use Rattle.script.specs.Code.Forms.{formOf};
@@ -33,6 +33,9 @@ use terms::TRUTH;
 use terms::atoms::equal_references;
 use terms::atoms::symbols_atom;
 use terms::push;
+use terms::references::MADE;
+use terms::references::OTHER;
+use terms::references::reference;
 use types::DEEPEST;
 use words::equal_words;
 use workspace::Found;
@@ -49,7 +52,7 @@ pub fn fresh(space: &mut [u32], t: u32) -> u32
     match t {
         0 => push(space, SYMBOL, s, 0),
         1 => symbols_atom(space, TRUTH, s, s),
-        _ => 2 * s,
+        _ => reference(s, OTHER),
     }
 }
 
@@ -100,8 +103,9 @@ fn make_cell(t: u32, p: u32, space: &mut [u32], n: u32) -> Step
     }
     let s = space[NEXT];
     space[NEXT] = s + 1;
-    write(space, t + 2, 2 * s + 1, t, p);
-    Step::Gave(t + 2, 2 * s + 1)
+    let place = reference(s, MADE);
+    write(space, t + 2, place, t, p);
+    Step::Gave(t + 2, place)
 }
 
 // `get`: what the log has, or a fresh symbol.

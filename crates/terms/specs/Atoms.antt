@@ -3,12 +3,12 @@ pub mod Laws
 pub mod Made
 use mathlib.Core.Bool.{Bool, _&&_, _||_}
 use mathlib.Core.List.{List}
-use Prim.Native.Nat.{ℕ, _+_, _*_, _/_, _%_}
+use Prim.Native.Nat.{ℕ}
 use lib.Dec.{eqb, ltb}
 use Rattle.script.specs.Tests.{pick}
-use Rattle.rules.specs.Symbolic.{Origin, made, other}
+use Rattle.terms.specs.References.{symbolAt, apartAt}
 use Rattle.terms.specs.Search.{firstOr}
-use Rattle.terms.specs.Terms.{countIn, rowIn, pushed}
+use Rattle.terms.specs.Terms.{countIn, rowIn, pushed, ofConstant, ofPair}
 use Rattle.terms.specs.declared.Row.{Row}
 
 -- the rows after row r was found among them, or else the one row more
@@ -33,19 +33,11 @@ atomRowOf ws op a b = firstOr (atomAt ws op a b) (countIn ws)
 abbrev pub atomLeft : List ℕ → ℕ → ℕ → ℕ → List ℕ
 atomLeft ws op a b = foundOr ws (atomRowOf ws op a b) op a b
 
--- ---- references
-
--- a reference's place: twice its symbol, and 1 more if it is made by `ref` on this path
-abbrev pub placeOf : Origin → ℕ → ℕ
-placeOf made s = 2 * s + 1
-placeOf other s = 2 * s
-
-unfoldable pub bothMade : ℕ → ℕ → Bool
-bothMade r s = eqb (r % 2) 1 && eqb (s % 2) 1
+-- ---- equality of references, by their places
 
 unfoldable pub referencesRow : List ℕ → ℕ → ℕ → ℕ
-referencesRow ws r s = pick (eqb (r / 2) (s / 2)) (countIn ws) (pick (bothMade r s) (countIn ws) (atomRowOf ws 9 (r / 2) (s / 2)))
+referencesRow ws r s = pick (eqb (symbolAt r) (symbolAt s)) (countIn ws) (pick (apartAt r s) (countIn ws) (atomRowOf ws ofPair (symbolAt r) (symbolAt s)))
 
 unfoldable pub referencesLeft : List ℕ → ℕ → ℕ → List ℕ
 referencesLeft ws r s =
-    pick (eqb (r / 2) (s / 2)) (pushed ws 3 1 0) (pick (bothMade r s) (pushed ws 3 0 0) (atomLeft ws 9 (r / 2) (s / 2)))
+    pick (eqb (symbolAt r) (symbolAt s)) (pushed ws ofConstant 1 0) (pick (apartAt r s) (pushed ws ofConstant 0 0) (atomLeft ws ofPair (symbolAt r) (symbolAt s)))

@@ -1,3 +1,5 @@
+pub mod Places
 pub mod Terms
 pub mod Search
+pub mod References
 pub mod Atoms

@@ -1,12 +1,14 @@
 // The atoms of symbols: truth symbols and pairs of reference symbols, each with one row. And the equality of references.
 ghost use mathlib.Core.Path.{_≡_};
 ghost use Rattle.terms.specs.Terms.{Space};
-ghost use Rattle.terms.specs.Atoms.{holds, isAtom, atomRowOf, atomLeft, bothMade, referencesRow, referencesLeft};
+ghost use Rattle.terms.specs.Atoms.{holds, isAtom, atomRowOf, atomLeft, referencesRow, referencesLeft};
 use crate::CONSTANT;
 use crate::COUNT;
 use crate::PAIR;
 use crate::Row;
 use crate::push;
+use crate::references::apart;
+use crate::references::symbol_of;
 use crate::row_at;
 
 // The row has these operands, in this order.
@@ -61,28 +63,18 @@ pub fn symbols_atom(space: &mut [u32], op: u32, a: u32, b: u32) -> u32
     push(space, op, a, b)
 }
 
-// Both references are made by `ref` on this path: their places are odd.
-fn both_made(r: u32, s: u32) -> bool
-    ensures { λ m. ⌜ m ≡ bothMade r s ⌝ }
-{
-    if r % 2 != 1 {
-        return false;
-    }
-    s % 2 == 1
-}
-
-// The row of the equality of two references, by their places: twice the symbol, and 1 more if it is made by `ref` on this path.
+// The row of the equality of two references, by their places.
 pub fn equal_references(space: &mut [u32], r: u32, s: u32) -> u32
     requires { ⌜ Space (now space) 1 ⌝ }
     ensures { λ u. ⌜ u ≡ referencesRow (now (space .entry)) r s ⌝ }
     ensures { λ u. ⌜ now (space .exit) ≡ referencesLeft (now (space .entry)) r s ⌝ }
 {
-    let a = r / 2;
-    let b = s / 2;
+    let a = symbol_of(r);
+    let b = symbol_of(s);
     if a == b {
         return push(space, CONSTANT, 1, 0);
     }
-    if both_made(r, s) {
+    if apart(r, s) {
         return push(space, CONSTANT, 0, 0);
     }
     symbols_atom(space, PAIR, a, b)

@@ -2,11 +2,13 @@
 // whose first part is the environment, two numbers a variable; then come the count of the rows and the rows, three numbers each; then what the checker
 // keeps of a path.
 ghost use mathlib.Core.Path.{_≡_};
+ghost use Rattle.terms.specs.Places.{rowAt};
 ghost use Rattle.terms.specs.Terms.{rowIn, Space, pushed, countIn};
 ghost use Prim.Native.Nat.{_+_, _*_, _<_};
 ghost use lib.ListN.{length};
 
 pub mod atoms;
+pub mod references;
 
 use script::Script;
 
@@ -19,9 +21,12 @@ pub const COUNT: usize = 2 * VARIABLES;
 // Where the rows begin.
 pub const FIRST: usize = COUNT + 1;
 
-// At most how many rows a path has: one for `true`, one for each variable at its start, and one for each node; variables and nodes are together at
-// most `VARIABLES`.
-pub const ROWS: usize = 1 + VARIABLES;
+// At most how many rows a node makes.
+pub const ROWS_A_NODE: usize = 1;
+
+// At most how many rows a path has: one for `true`, one for each variable at its start, and those of its nodes. Variables and nodes are together at most
+// `VARIABLES`, and a node makes as many rows as a variable or more.
+pub const ROWS: usize = 1 + Script::ENTRIES + ROWS_A_NODE * Script::NODES;
 
 // Where the rows end.
 pub const END: usize = FIRST + 3 * ROWS;
@@ -51,6 +56,9 @@ pub const PAIR: u32 = 9;
 
 pub const DIFFERENCE: u32 = 10;
 
+// The operators of atoms are those from here on.
+pub const FIRST_ATOM: u32 = TRUTH;
+
 // A row: what it is, and its two operands.
 pub struct Row {
     pub op: u32,
@@ -60,7 +68,7 @@ pub struct Row {
 
 // Row i.
 pub fn row_at(space: &[u32], i: usize) -> Row
-    requires { ⌜ 289 + 3 * i + 2 < length (now space) ⌝ }
+    requires { ⌜ rowAt i + 2 < length (now space) ⌝ }
     ensures { λ r. ⌜ r ≡ rowIn (now (space .entry)) i ⌝ }
 {
     Row {

@@ -2,7 +2,7 @@
 ghost use mathlib.Core.Path.{_≡_};
 ghost use Prim.Native.Nat.{_+_, _≤_, _<_};
 ghost use lib.ListN.{length, getD, take};
-ghost use Rattle.terms.specs.Terms.{rowLimit, rowsEnd};
+ghost use Rattle.terms.specs.Places.{rowLimit, rowsEnd};
 ghost use Rattle.rows.specs.Code.{Listable, listedRow, countAfter, Lists, Rows, numberRow, seenAt, numbersTo, isNumbered, numberedTo, spreadOf, patternOf, rowWord, evaluateRow, evaluatedTo, changeOf, changeRow, changedTo, changesOf};
 use rows::ATOMS;
 use rows::ONES;
@@ -10,10 +10,10 @@ use terms::CONJUNCTION;
 use terms::CONSTANT;
 use terms::EQUALITY;
 use terms::EXCLUSION;
+use terms::FIRST_ATOM;
 use terms::NEGATION;
 use terms::ROWS;
 use terms::Row;
-use terms::TRUTH;
 use terms::row_at;
 
 // The atoms with lower numbers have the same truths in every block.
@@ -55,7 +55,7 @@ fn number_row(space: &[u32], numbers: &mut [u8], i: usize, seen: u8) -> u8
     ensures { λ r. ⌜ r ≡ seenAt (now (space .entry)) i seen ⌝ }
     ensures { λ r. ⌜ now (numbers .exit) ≡ numberRow (now (space .entry)) (now (numbers .entry)) i seen ⌝ }
 {
-    if row_at(space, i).op < TRUTH {
+    if row_at(space, i).op < FIRST_ATOM {
         return seen;
     }
     numbers[i] = seen;
@@ -82,7 +82,7 @@ fn is_numbered(space: &[u32], numbers: &[u8], i: usize) -> bool
     requires { ⌜ i < length (now numbers) ⌝ }
     ensures { λ r. ⌜ r ≡ isNumbered (now (space .entry)) (now (numbers .entry)) i ⌝ }
 {
-    if row_at(space, i).op < TRUTH {
+    if row_at(space, i).op < FIRST_ATOM {
         return true;
     }
     (numbers[i] as u32) < ATOMS
@@ -150,7 +150,7 @@ fn row_word(row: Row, x: u64, y: u64, m: u32, block: u32) -> u64
     ensures { λ r. ⌜ r ≡ rowWord row x y m block ⌝ }
 {
     let op = row.op;
-    if TRUTH <= op {
+    if FIRST_ATOM <= op {
         return pattern(m, block);
     }
     if op == EXCLUSION {
@@ -211,7 +211,7 @@ pub fn evaluate(
 fn change_of(row: Row, m: u8, x: u8, y: u8) -> u8
     ensures { λ r. ⌜ r ≡ changeOf row m x y ⌝ }
 {
-    if row.op < TRUTH {
+    if row.op < FIRST_ATOM {
         return x | y;
     }
     if m < STEADY {

@@ -8,8 +8,9 @@ use Prim.Native.Nat.{ℕ, zero, suc, _+_, _*_, _%_, _^_, _≤_, _<_}
 use lib.Dec.{eqb, ltb}
 use lib.ListN.{length, getD, set, replicate}
 use Rattle.script.specs.Tests.{pick}
+use Rattle.terms.specs.Places.{rowLimit, rowsEnd, symbolLimit}
 use Rattle.terms.specs.Search.{nowhere}
-use Rattle.terms.specs.Terms.{rowIn, rowLimit, rowsEnd, symbolLimit}
+use Rattle.terms.specs.Terms.{rowIn, ofNumber, ofSum, ofSymbol}
 use Rattle.terms.specs.declared.Row.{Row}
 
 -- the constant and the coefficients
@@ -26,16 +27,16 @@ joins row op i = eqb (row .op) op && (ltb (row .a) i && ltb (row .b) i)
 
 -- the row is a symbol of a word
 unfoldable pub isSymbol : Row → Bool
-isSymbol row = eqb (row .op) 1 && ltb (row .a) symbolLimit
+isSymbol row = eqb (row .op) ofSymbol && ltb (row .a) symbolLimit
 
 -- the weight w of row i goes to its operands, if it is a sum
 unfoldable pub spread : List ℕ → Row → ℕ → ℕ → List ℕ
-spread weights row i w = pick (joins row 2 i) (added (added weights (row .a) w) (row .b) w) weights
+spread weights row i w = pick (joins row ofSum i) (added (added weights (row .a) w) (row .b) w) weights
 
 -- the weight w of a row goes to its place, if it is a number or a symbol
 unfoldable pub gather : List ℕ → Row → ℕ → List ℕ
 gather numbers row w =
-    pick (eqb (row .op) 0) (added numbers 0 (w * row .a % 2 ^ 32)) (pick (isSymbol row) (added numbers (row .a + 1) w) numbers)
+    pick (eqb (row .op) ofNumber) (added numbers 0 (w * row .a % 2 ^ 32)) (pick (isSymbol row) (added numbers (row .a + 1) w) numbers)
 
 -- the numbers after the rows below i, from the last down
 unfoldable pub passed : List ℕ → ℕ → List ℕ → List ℕ → List ℕ

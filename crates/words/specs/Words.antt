@@ -8,8 +8,9 @@ use lib.Dec.{eqb}
 use lib.ListN.{length, getD}
 use Rattle.script.specs.Tests.{pick}
 use Rattle.terms.specs.Atoms.{foundOr}
+use Rattle.terms.specs.Places.{rowLimit, rowsEnd}
 use Rattle.terms.specs.Search.{firstOr}
-use Rattle.terms.specs.Terms.{rowIn, countIn, rowLimit, rowsEnd, Space, pushed, bitOf}
+use Rattle.terms.specs.Terms.{rowIn, countIn, Space, pushed, bitOf, ofConstant, ofDifference}
 use Rattle.words.specs.Sums.{joins, numbersOf, constantNumbers, alike, placeCount}
 
 -- the difference of the rows is the wanted one or its negation
@@ -18,7 +19,7 @@ isWanted ws wanted p q = alike (numbersOf ws p q) wanted
 
 -- row i is the atom of the wanted difference
 unfoldable pub isFound : List ℕ → List ℕ → ℕ → Bool
-isFound ws wanted i = joins (rowIn ws i) 10 i && isWanted ws wanted (rowIn ws i .a) (rowIn ws i .b)
+isFound ws wanted i = joins (rowIn ws i) ofDifference i && isWanted ws wanted (rowIn ws i .a) (rowIn ws i .b)
 
 -- its row, or the count if it has none
 abbrev pub differenceRowOf : List ℕ → List ℕ → ℕ
@@ -33,7 +34,7 @@ equalRow ws p q = pick (constantNumbers (numbersOf ws p q)) (countIn ws) (differ
 
 unfoldable pub equalLeft : List ℕ → ℕ → ℕ → List ℕ
 equalLeft ws p q =
-    pick (constantNumbers (numbersOf ws p q)) (pushed ws 3 (bitOf (eqb (getD (numbersOf ws p q) 0 0) 0)) 0)
+    pick (constantNumbers (numbersOf ws p q)) (pushed ws ofConstant (bitOf (eqb (getD (numbersOf ws p q) 0 0) 0)) 0)
     (differenceLeft ws (numbersOf ws p q) p q)
 
 -- ---- what the code asks

@@ -4,40 +4,43 @@ use mathlib.Core.List.{List}
 use mathlib.Core.Path.{_≡_}
 use Prim.Native.Nat.{ℕ, suc, _+_, _*_, _-_, _/_, _%_, _≤_, _<_}
 use lib.ListN.{length, getD, set}
+use Rattle.terms.specs.Places.{countAt, rowsEnd}
 use Rattle.terms.specs.Terms.{countIn}
-use Rattle.workspace.specs.Frames.{frameIn, topIn, upOf, firstOf, secondOf, framesEnd}
-use Rattle.workspace.specs.State.{nextIn, conditionIn, writesIn, startIn, depthIn, knownAt, spaceSize}
+use Rattle.workspace.specs.Frames.{frameIn, topIn, upOf, firstOf, secondOf}
+use Rattle.workspace.specs.Places.{forkAt, forkLimit, forkedAt, framesSize, knownAt, logAt, spaceSize}
+use Rattle.workspace.specs.State.{nextIn, conditionIn, writesIn, startIn, depthIn}
 
 abbrev pub forkedIn : List ℕ → ℕ
-forkedIn fs = getD fs 2 0
+forkedIn fs = getD fs forkedAt 0
 
-abbrev pub framesSize : ℕ
-framesSize = 640
+-- a fork's numbers are below this, those of rows below the other; this leaves room for more rows a node
+abbrev pub small : ℕ
+small = 256
 
-abbrev pub forkAt : ℕ → ℕ
-forkAt j = framesEnd + 2 * j
+abbrev pub manyRows : ℕ
+manyRows = 4096
 
--- what fork j has, each number below 256: the frame of the `if`, and the path's own numbers
-abbrev pub savedFrame : List ℕ → ℕ → ℕ
-savedFrame fs j = getD fs (forkAt j) 0 % 256
+-- what fork j has: the path's own numbers, and the frame of the `if`
+abbrev pub savedNext : List ℕ → ℕ → ℕ
+savedNext fs j = getD fs (forkAt j) 0 % small
 
 abbrev pub savedCount : List ℕ → ℕ → ℕ
-savedCount fs j = getD fs (forkAt j) 0 / 256 % 256
-
-abbrev pub savedNext : List ℕ → ℕ → ℕ
-savedNext fs j = getD fs (forkAt j) 0 / 65536 % 256
+savedCount fs j = getD fs (forkAt j) 0 / small % manyRows
 
 abbrev pub savedCondition : List ℕ → ℕ → ℕ
-savedCondition fs j = getD fs (forkAt j) 0 / 16777216
+savedCondition fs j = getD fs (forkAt j) 0 / small / manyRows
+
+abbrev pub savedFrame : List ℕ → ℕ → ℕ
+savedFrame fs j = getD fs (forkAt j + 1) 0 % small
 
 abbrev pub savedWrites : List ℕ → ℕ → ℕ
-savedWrites fs j = getD fs (forkAt j + 1) 0 % 256
+savedWrites fs j = getD fs (forkAt j + 1) 0 / small % small
 
 abbrev pub savedStart : List ℕ → ℕ → ℕ
-savedStart fs j = getD fs (forkAt j + 1) 0 / 256 % 256
+savedStart fs j = getD fs (forkAt j + 1) 0 / small / small % small
 
 abbrev pub savedDepth : List ℕ → ℕ → ℕ
-savedDepth fs j = getD fs (forkAt j + 1) 0 / 65536
+savedDepth fs j = getD fs (forkAt j + 1) 0 / small / small / small
 
 -- fork j has the numbers of this path
 pub record Forked (xs gs : List ℕ) (j : ℕ) (fs : List ℕ) : Type 0 where
@@ -53,14 +56,14 @@ pub record Forked (xs gs : List ℕ) (j : ℕ) (fs : List ℕ) : Type 0 where
 pub record Forkable (ws fs : List ℕ) : Type 0 where
   pub lent : spaceSize ≤ length ws
   pub framed : framesSize ≤ length fs
-  pub few : forkedIn fs < 64
-  pub frame : frameIn fs < 256
-  pub count : countIn ws < 256
-  pub next : nextIn ws < 256
-  pub condition : conditionIn ws < 256
-  pub writes : writesIn ws < 256
-  pub start : startIn ws < 256
-  pub depth : depthIn ws < 256
+  pub few : forkedIn fs < forkLimit
+  pub frame : frameIn fs < small
+  pub count : countIn ws < manyRows
+  pub next : nextIn ws < small
+  pub condition : conditionIn ws < manyRows
+  pub writes : writesIn ws < small
+  pub start : startIn ws < small
+  pub depth : depthIn ws < small
 
 -- the path is kept as a fork
 pub record Forks (ws fs gs : List ℕ) : Type 0 where
@@ -80,8 +83,8 @@ pub record Rewound (j : ℕ) (ws fs left gs : List ℕ) : Type 0 where
   pub writes : writesIn left ≡ savedWrites fs j
   pub start : startIn left ≡ savedStart fs j
   pub depth : depthIn left ≡ savedDepth fs j
-  pub before : (k : ℕ) → k < 724 → (k ≡ 288 → ⊥) → getD left k 0 ≡ getD ws k 0
-  pub beyond : (k : ℕ) → 729 ≤ k → (k ≡ knownAt → ⊥) → getD left k 0 ≡ getD ws k 0
+  pub before : (k : ℕ) → k < rowsEnd → (k ≡ countAt → ⊥) → getD left k 0 ≡ getD ws k 0
+  pub beyond : (k : ℕ) → logAt ≤ k → (k ≡ knownAt → ⊥) → getD left k 0 ≡ getD ws k 0
   pub known : getD left knownAt 0 ≡ 0
   pub frame : frameIn gs ≡ savedFrame fs j
   pub top : topIn gs ≡ savedFrame fs j

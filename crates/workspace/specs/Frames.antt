@@ -4,44 +4,56 @@ pub mod Laws
 use mathlib.Core.Bool.{Bool, true, false, not, _&&_}
 use mathlib.Core.List.{List}
 use mathlib.Core.Path.{_≡_}
-use Prim.Native.Nat.{ℕ, suc, _+_, _*_, _%_, _≤_, _<_}
+use Prim.Native.Nat.{ℕ, suc, _+_, _*_, _/_, _%_, _≤_, _<_}
 use lib.Dec.{leb, eqb}
 use lib.ListN.{length, getD}
 use Rattle.script.specs.Code.Forms.{nodeIn, treeIn}
 use Rattle.script.specs.Flat.{FormedNodes}
+use Rattle.script.specs.Limits.{nodeLimit}
 use Rattle.script.specs.Tree.{size}
+use Rattle.workspace.specs.Places.{frameWidth, framesEnd, goalAt, topAt}
 use Rattle.workspace.specs.declared.Frame.{Frame}
 
 -- ---- the places
 
 -- the frame that the next value goes to, and how many frames there are
 abbrev pub frameIn : List ℕ → ℕ
-frameIn fs = getD fs 0 0
+frameIn fs = getD fs goalAt 0
 
 abbrev pub topIn : List ℕ → ℕ
-topIn fs = getD fs 1 0
+topIn fs = getD fs topAt 0
 
 -- of frame f: the node, where its value goes to and what it waits for, and its first operand's value
 abbrev pub nodeOf : List ℕ → ℕ → ℕ
-nodeOf fs f = getD fs (4 * f) 0
+nodeOf fs f = getD fs (frameWidth * f) 0
 
 abbrev pub upOf : List ℕ → ℕ → ℕ
-upOf fs f = getD fs (4 * f + 1) 0
+upOf fs f = getD fs (frameWidth * f + 1) 0
 
 abbrev pub firstOf : List ℕ → ℕ → ℕ
-firstOf fs f = getD fs (4 * f + 2) 0
+firstOf fs f = getD fs (frameWidth * f + 2) 0
 
 abbrev pub secondOf : List ℕ → ℕ → ℕ
-secondOf fs f = getD fs (4 * f + 3) 0
+secondOf fs f = getD fs (frameWidth * f + 3) 0
 
-abbrev pub framesEnd : ℕ
-framesEnd = 512
+-- what a node waits for is below this
+abbrev pub awaitLimit : ℕ
+awaitLimit = 4
+
+abbrev pub upTo : ℕ → ℕ → ℕ
+upTo f awaits = awaitLimit * f + awaits
+
+abbrev pub goesTo : List ℕ → ℕ → ℕ
+goesTo fs f = upOf fs f / awaitLimit
+
+abbrev pub awaitsOf : List ℕ → ℕ → ℕ
+awaitsOf fs f = upOf fs f % awaitLimit
 
 -- ---- what the functions ask and promise
 
 pub record Waitable (fs : List ℕ) : Type 0 where
   pub lent : framesEnd ≤ length fs
-  pub few : topIn fs < 127
+  pub few : suc (topIn fs) < nodeLimit
   pub inside : frameIn fs ≤ topIn fs
 
 -- node n waits in a new frame
@@ -50,14 +62,14 @@ pub record Waits (n awaits x y : ℕ) (fs left : List ℕ) : Type 0 where
   pub frame : frameIn left ≡ suc (topIn fs)
   pub top : topIn left ≡ suc (topIn fs)
   pub node : nodeOf left (suc (topIn fs)) ≡ n
-  pub up : upOf left (suc (topIn fs)) ≡ 4 * frameIn fs + awaits
+  pub up : upOf left (suc (topIn fs)) ≡ upTo (frameIn fs) awaits
   pub first : firstOf left (suc (topIn fs)) ≡ x
   pub second : secondOf left (suc (topIn fs)) ≡ y
-  pub others : (k : ℕ) → 2 ≤ k → (4 * suc (topIn fs) ≤ k → k < 4 * suc (topIn fs) + 4 → ⊥) → getD left k 0 ≡ getD fs k 0
+  pub others : (k : ℕ) → 2 ≤ k → (frameWidth * suc (topIn fs) ≤ k → k < frameWidth * suc (topIn fs) + frameWidth → ⊥) → getD left k 0 ≡ getD fs k 0
 
 -- the frame that a value goes to
 abbrev pub frameAt : List ℕ → ℕ → Frame
-frameAt fs f = record { node = nodeOf fs f; awaits = upOf fs f % 4; x = firstOf fs f; y = secondOf fs f }
+frameAt fs f = record { node = nodeOf fs f; awaits = awaitsOf fs f; x = firstOf fs f; y = secondOf fs f }
 
 -- a node with a first operand that is a node, and no typed block
 abbrev pub waitsFor : ℕ → Bool
@@ -72,5 +84,5 @@ pub data Descends (table : List ℕ) : List ℕ → ℕ → ℕ → List ℕ →
 pub record Descendable (table fs : List ℕ) (m : ℕ) : Type 0 where
   pub formed : FormedNodes table (suc m)
   pub lent : framesEnd ≤ length fs
-  pub few : topIn fs + size (treeIn table m) ≤ 128
+  pub few : topIn fs + size (treeIn table m) ≤ nodeLimit
   pub inside : frameIn fs ≤ topIn fs

@@ -4,5 +4,6 @@ pub mod Log
 pub mod Notes
 pub mod Numbers
 pub mod Paths
+pub mod Places
 pub mod Rules
 pub mod State

@@ -9,16 +9,18 @@ use lib.Dec.{leb, eqb}
 use lib.ListN.{getD, set}
 use Rattle.script.specs.Tests.{pick}
 use Rattle.rules.specs.Symbolic.{Symbolic}
+use Rattle.terms.specs.References.{apartAt, symbolAt}
+use Rattle.workspace.specs.Places.{startAt, writeAt, writesAt}
 use Rattle.workspace.specs.State.{writesIn, Means}
 use Rattle.workspace.specs.declared.Found.{Found}
 use Rattle.workspace.specs.declared.Found.the-variants.{Value, Nothing}
 
 -- write i: the reference's type and symbol, and the value's type
 abbrev pub rightOn : List ℕ → ℕ → Bool
-rightOn ws i = leb 2 (getD ws (729 + 4 * i) 0) && eqb (getD ws (729 + 4 * i) 0 - 2) (getD ws (729 + 4 * i + 2) 0)
+rightOn ws i = leb 2 (getD ws (writeAt i) 0) && eqb (getD ws (writeAt i) 0 - 2) (getD ws (writeAt i + 2) 0)
 
 abbrev pub symbolOn : List ℕ → ℕ → ℕ
-symbolOn ws i = getD ws (729 + 4 * i + 1) 0 / 2
+symbolOn ws i = symbolAt (getD ws (writeAt i + 1) 0)
 
 -- write i is right and through the symbol
 abbrev pub mendsOn : List ℕ → ℕ → ℕ → Bool
@@ -38,15 +40,11 @@ unfoldable pub consistentOn : List ℕ → ℕ → ℕ → ℕ → Bool
 consistentOn ws begin more zero = true
 consistentOn ws begin more (suc i) = settledOn ws (begin + i) more && consistentOn ws begin (suc more) i
 
--- two places of different symbols that `ref` made
-abbrev pub apartOn : ℕ → ℕ → Bool
-apartOn p q = eqb (p % 2) 1 && eqb (q % 2) 1 && not (eqb (p / 2) (q / 2))
-
 -- what `get` finds through the reference at place q, seen from write i: what it found before, if the two are apart
 abbrev pub lookupAt : List ℕ → ℕ → ℕ → Found → Found
 lookupAt ws q i before =
-    let p = getD ws (729 + 4 * i + 1) 0 in
-    pick (apartOn p q) before (pick (eqb (p / 2) (q / 2)) (Value (getD ws (729 + 4 * i + 2) 0) (getD ws (729 + 4 * i + 3) 0)) Nothing)
+    let p = getD ws (writeAt i + 1) 0 in
+    pick (apartAt p q) before (pick (eqb (symbolAt p) (symbolAt q)) (Value (getD ws (writeAt i + 2) 0) (getD ws (writeAt i + 3) 0)) Nothing)
 
 -- what it finds among so many writes from the first that counts
 unfoldable pub lookupOn : List ℕ → ℕ → ℕ → ℕ → Found
@@ -61,9 +59,9 @@ pub data FoundAs (ws : List ℕ) : Found → Option Symbolic → Type 0 where
 -- one write more
 abbrev pub written : List ℕ → ℕ → ℕ → ℕ → ℕ → List ℕ
 written ws t p u q =
-    let at = 729 + 4 * writesIn ws in
-    set (set (set (set (set ws at t) (at + 1) p) (at + 2) u) (at + 3) q) 726 (writesIn ws + 1)
+    let at = writeAt (writesIn ws) in
+    set (set (set (set (set ws at t) (at + 1) p) (at + 2) u) (at + 3) q) writesAt (writesIn ws + 1)
 
 -- no write counts any more
 abbrev pub emptied : List ℕ → List ℕ
-emptied ws = set ws 727 (writesIn ws)
+emptied ws = set ws startAt (writesIn ws)

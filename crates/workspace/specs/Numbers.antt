@@ -4,13 +4,17 @@ use mathlib.Core.List.{List}
 use Prim.Native.Nat.{ℕ, zero, suc, _+_, _*_, _-_}
 use lib.Dec.{leb, ltb, eqb}
 use lib.ListN.{getD, set}
+use Rattle.script.specs.Limits.{deepest}
 use Rattle.script.specs.Rows.{Form, intForm, varForm, ifForm, letForm, typedForm, symForm, truthForm, unaryForm, binaryForm, UnaryOp, notOp, refOp, getOp, BinaryOp, addOp, eqOp, andOp, setOp}
 use Rattle.script.specs.Tests.{pick}
 use Rattle.script.specs.declared.Refusal.the-variants.{WrongType, UnknownVariable, TooManyReferences, InconsistentLog}
+use Rattle.rules.specs.Symbolic.{made, other}
 use Rattle.terms.specs.Atoms.{atomRowOf, atomLeft, referencesRow, referencesLeft}
-use Rattle.terms.specs.Terms.{countIn, pushed}
+use Rattle.terms.specs.References.{referenceAt}
+use Rattle.terms.specs.Terms.{countIn, pushed, ofConjunction, ofConstant, ofEquality, ofNegation, ofNumber, ofSum, ofSymbol, ofTruth}
 use Rattle.words.specs.Words.{equalRow, equalLeft}
 use Rattle.workspace.specs.Log.{consistentOn, lookupOn, written, emptied}
+use Rattle.workspace.specs.Places.{nextAt}
 use Rattle.workspace.specs.State.{nextIn, writesIn, startIn}
 use Rattle.workspace.specs.declared.Found.{Found}
 use Rattle.workspace.specs.declared.Found.the-variants.{Value, Nothing}
@@ -28,27 +32,27 @@ gives r ws = record { step = r; space = ws }
 
 -- the next number is taken
 abbrev pub numbered : List ℕ → List ℕ
-numbered ws = set ws 724 (nextIn ws + 1)
+numbered ws = set ws nextAt (nextIn ws + 1)
 
--- the place of a fresh symbol of a type: a row, or of a reference twice its number
+-- the place of a fresh symbol of a type: a row, or of a reference its place
 unfoldable pub freshPlace : ℕ → List ℕ → ℕ
 freshPlace zero ws = countIn (numbered ws)
-freshPlace (suc zero) ws = atomRowOf (numbered ws) 8 (nextIn ws) (nextIn ws)
-freshPlace (suc (suc t)) ws = 2 * nextIn ws
+freshPlace (suc zero) ws = atomRowOf (numbered ws) ofTruth (nextIn ws) (nextIn ws)
+freshPlace (suc (suc t)) ws = referenceAt other (nextIn ws)
 
 unfoldable pub freshLeft : ℕ → List ℕ → List ℕ
-freshLeft zero ws = pushed (numbered ws) 1 (nextIn ws) 0
-freshLeft (suc zero) ws = atomLeft (numbered ws) 8 (nextIn ws) (nextIn ws)
+freshLeft zero ws = pushed (numbered ws) ofSymbol (nextIn ws) 0
+freshLeft (suc zero) ws = atomLeft (numbered ws) ofTruth (nextIn ws) (nextIn ws)
 freshLeft (suc (suc t)) ws = numbered ws
 
 -- ---- leaves
 
 -- a row of a constant
 abbrev pub constant : ℕ → List ℕ → Outcome
-constant b ws = gives (Gave 1 (countIn ws)) (pushed ws 3 b 0)
+constant b ws = gives (Gave 1 (countIn ws)) (pushed ws ofConstant b 0)
 
 unfoldable pub leafGives : Form → ℕ → ℕ → ℕ → List ℕ → Outcome
-leafGives intForm n a depth ws = gives (Gave 0 (countIn ws)) (pushed ws 0 a 0)
+leafGives intForm n a depth ws = gives (Gave 0 (countIn ws)) (pushed ws ofNumber a 0)
 leafGives varForm n a depth ws = pick (ltb a depth) (gives (Gave (getD ws (2 * a) 0) (getD ws (2 * a + 1) 0)) ws) (gives (Stopped (UnknownVariable n)) ws)
 leafGives ifForm n a depth ws = constant 0 ws
 leafGives letForm n a depth ws = constant 0 ws
@@ -70,9 +74,9 @@ gotGives (Value u p) t ws = gives (Gave u p) ws
 gotGives Nothing t ws = gives (Gave (t - 2) (freshPlace (t - 2) ws)) (freshLeft (t - 2) ws)
 
 unfoldable pub unaryGives : UnaryOp → ℕ → ℕ → ℕ → List ℕ → Outcome
-unaryGives notOp n t q ws = pick (eqb t 1) (gives (Gave 1 (countIn ws)) (pushed ws 4 q 0)) (gives (Stopped (WrongType n)) ws)
+unaryGives notOp n t q ws = pick (eqb t 1) (gives (Gave 1 (countIn ws)) (pushed ws ofNegation q 0)) (gives (Stopped (WrongType n)) ws)
 unaryGives refOp n t q ws =
-    pick (ltb t 30) (gives (Gave (t + 2) (2 * nextIn ws + 1)) (written (numbered ws) (t + 2) (2 * nextIn ws + 1) t q)) (gives (Stopped (TooManyReferences n)) ws)
+    pick (ltb t deepest) (gives (Gave (t + 2) (referenceAt made (nextIn ws))) (written (numbered ws) (t + 2) (referenceAt made (nextIn ws)) t q)) (gives (Stopped (TooManyReferences n)) ws)
 unaryGives getOp n t q ws =
     pick (ltb t 2) (gives (Stopped (WrongType n)) ws)
     (pick (consistentIn ws) (gotGives (lookupOn ws (startIn ws) q (writesIn ws - startIn ws)) t ws) (gives (Stopped (InconsistentLog n)) ws))
@@ -98,7 +102,7 @@ equalPlace (suc (suc t)) q s ws = referencesRow ws q s
 
 unfoldable pub equalNumbers : ℕ → ℕ → ℕ → List ℕ → List ℕ
 equalNumbers zero q s ws = equalLeft ws q s
-equalNumbers (suc zero) q s ws = pushed ws 6 q s
+equalNumbers (suc zero) q s ws = pushed ws ofEquality q s
 equalNumbers (suc (suc t)) q s ws = referencesLeft ws q s
 
 -- both of type k, or a refusal
@@ -106,9 +110,9 @@ abbrev pub bothOf : ℕ → ℕ → ℕ → ℕ → List ℕ → Outcome → Out
 bothOf k n t u ws o = pick (eqb t k) (pick (eqb u k) o (gives (Stopped (WrongType n)) ws)) (gives (Stopped (WrongType n)) ws)
 
 unfoldable pub binaryGives : BinaryOp → ℕ → ℕ → ℕ → ℕ → ℕ → List ℕ → Outcome
-binaryGives addOp n t q u s ws = bothOf 0 n t u ws (gives (Gave 0 (countIn ws)) (pushed ws 2 q s))
+binaryGives addOp n t q u s ws = bothOf 0 n t u ws (gives (Gave 0 (countIn ws)) (pushed ws ofSum q s))
 binaryGives eqOp n t q u s ws = pick (eqb t u) (gives (Gave 1 (equalPlace t q s ws)) (equalNumbers t q s ws)) (gives (Stopped (WrongType n)) ws)
-binaryGives andOp n t q u s ws = bothOf 1 n t u ws (gives (Gave 1 (countIn ws)) (pushed ws 5 q s))
+binaryGives andOp n t q u s ws = bothOf 1 n t u ws (gives (Gave 1 (countIn ws)) (pushed ws ofConjunction q s))
 binaryGives setOp n t q u s ws = pick (ltb t 2) (gives (Stopped (WrongType n)) ws) (gives (Gave u s) (written ws t q u s))
 
 unfoldable pub twoGives : Form → ℕ → ℕ → ℕ → ℕ → ℕ → List ℕ → Outcome

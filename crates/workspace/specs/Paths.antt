@@ -12,8 +12,9 @@ use Rattle.rules.specs.Paths.{Path, taken, start}
 use Rattle.rules.specs.Symbolic.{symbol, symbols}
 use Rattle.terms.specs.Terms.{countIn, pushed, Distinct}
 use Rattle.workspace.specs.Numbers.{freshPlace, freshLeft}
+use Rattle.workspace.specs.Places.{baseAt, conditionAt, knownAt, spaceSize}
 use Rattle.workspace.specs.Rules.{Ruled}
-use Rattle.workspace.specs.State.{nextIn, conditionIn, writesIn, knownAt, spaceSize, typesOn, Means, Variables, PathIn}
+use Rattle.workspace.specs.State.{nextIn, conditionIn, writesIn, typesOn, Means, Variables, PathIn}
 
 -- a fresh symbol of type t
 pub record Fresh (t : ℕ) (ws : List ℕ) (q : ℕ) (left : List ℕ) : Type 0 where
@@ -28,7 +29,7 @@ pub record Fresh (t : ℕ) (ws : List ℕ) (q : ℕ) (left : List ℕ) : Type 0 
 
 -- the condition joined by a guard, with this operator
 abbrev pub assumed : List ℕ → ℕ → ℕ → List ℕ
-assumed ws op guard = set (pushed ws op (conditionIn ws) guard) 725 (countIn ws)
+assumed ws op guard = set (pushed ws op (conditionIn ws) guard) conditionAt (countIn ws)
 
 -- nothing is known of the condition any more
 abbrev pub forgotten : List ℕ → List ℕ
@@ -54,6 +55,6 @@ pub record Starting (types ws : List ℕ) (i : ℕ) : Type 0 where
   pub next : nextIn ws ≡ i
   pub condition : conditionIn ws ≡ 0
   pub writes : writesIn ws ≡ 0
-  pub bare : (k : ℕ) → 1241 ≤ k → k < 1371 → getD ws k 0 ≡ 0
+  pub bare : (k : ℕ) → baseAt ≤ k → k < knownAt → getD ws k 0 ≡ 0
   pub path : PathIn ws (start i)
   pub variables : Variables ws i (symbols 0 (typesOn types i))

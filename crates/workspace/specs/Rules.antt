@@ -25,10 +25,12 @@ use Rattle.rules.specs.Satisfiable.{satisfiable}
 use Rattle.rules.specs.Symbolic.{Formula, negation, conjunction, Symbolic, aWord, aTruth, number, constantly, symbols}
 use Rattle.rules.specs.SymbolicRules.{unaryExec, binaryExec, decide, typedResult, variable}
 use Rattle.rules.specs.TypedRules.{andThen, unaryType, binaryType, ifType}
-use Rattle.terms.specs.Terms.{countIn, symbolLimit, Distinct}
+use Rattle.terms.specs.Places.{symbolLimit, variablesEnd}
+use Rattle.terms.specs.Terms.{countIn, Distinct}
 use Rattle.workspace.specs.Notes.{Bare}
 use Rattle.workspace.specs.Numbers.{gives, leafGives, oneGives, twoGives, afterGives}
-use Rattle.workspace.specs.State.{variablesEnd, spaceSize, writesIn, depthIn, typesOn, Means, PathIn, State, Valued, Room, Went, Yields, Unnoted}
+use Rattle.workspace.specs.Places.{spaceSize}
+use Rattle.workspace.specs.State.{writesIn, depthIn, typesOn, Means, PathIn, State, Valued, Room, Went, Yields, Unnoted}
 use Rattle.workspace.specs.declared.Step.{Step}
 use Rattle.workspace.specs.declared.Branch.{Branch}
 use Rattle.workspace.specs.declared.Branch.the-variants.{First, Second, Both, Neither}

@@ -10,38 +10,31 @@ use Rattle.script.specs.Limits.{nodeLimit}
 use Rattle.script.specs.declared.Refusal.{Refusal}
 use Rattle.rules.specs.Paths.{Path, Paths, ends, stops, Write, writeOf}
 use Rattle.rules.specs.Satisfiable.{satisfiable}
-use Rattle.rules.specs.Symbolic.{Sum, Formula, Origin, made, other, Symbolic, aWord, aTruth, aReference}
-use Rattle.terms.specs.Terms.{countIn, SumRow, TruthRow, Distinct, Grown, rowLimit, symbolLimit}
+use Rattle.rules.specs.Symbolic.{Sum, Formula, Origin, Symbolic, aWord, aTruth, aReference}
+use Rattle.terms.specs.Places.{rowLimit, symbolLimit, rowsANode}
+use Rattle.terms.specs.References.{referenceAt}
+use Rattle.terms.specs.Terms.{countIn, SumRow, TruthRow, Distinct, Grown}
 use Rattle.rows.specs.Known.{Remembers}
+use Rattle.workspace.specs.Places.{baseAt, conditionAt, depthAt, knownAt, logAt, nextAt, spaceSize, startAt, writeAt, writesAt}
 use Rattle.workspace.specs.declared.Step.{Step}
 use Rattle.workspace.specs.declared.Step.the-variants.{Gave, Stopped}
 
 -- ---- the places of a workspace
 
 abbrev pub nextIn : List ℕ → ℕ
-nextIn ws = getD ws 724 0
+nextIn ws = getD ws nextAt 0
 
 abbrev pub conditionIn : List ℕ → ℕ
-conditionIn ws = getD ws 725 0
+conditionIn ws = getD ws conditionAt 0
 
 abbrev pub writesIn : List ℕ → ℕ
-writesIn ws = getD ws 726 0
+writesIn ws = getD ws writesAt 0
 
 abbrev pub startIn : List ℕ → ℕ
-startIn ws = getD ws 727 0
+startIn ws = getD ws startAt 0
 
 abbrev pub depthIn : List ℕ → ℕ
-depthIn ws = getD ws 728 0
-
-abbrev pub variablesEnd : ℕ
-variablesEnd = 288
-
--- from here on stands what is known of the condition
-abbrev pub knownAt : ℕ
-knownAt = 1371
-
-abbrev pub spaceSize : ℕ
-spaceSize = 1415
+depthIn ws = getD ws depthAt 0
 
 -- ---- the environment
 
@@ -54,8 +47,7 @@ typesOn ws (suc d) = typesOn ws d ++ (getD ws (2 * d) 0 ∷ [])
 pub data Means (ws : List ℕ) : ℕ → ℕ → Symbolic → Type 0 where
   wordRow : {i : ℕ} {p : Sum} → i < countIn ws → SumRow ws i p → Means ws 0 i (aWord p)
   truthRow : {i : ℕ} {f : Formula} → i < countIn ws → TruthRow ws i f → Means ws 1 i (aTruth f)
-  madeSymbol : {t s i : ℕ} → i ≡ 2 * s + 1 → Means ws (suc (suc t)) i (aReference made t s)
-  otherSymbol : {t s i : ℕ} → i ≡ 2 * s → Means ws (suc (suc t)) i (aReference other t s)
+  referencePlace : {o : Origin} {t s i : ℕ} → i ≡ referenceAt o s → Means ws (suc (suc t)) i (aReference o t s)
 
 -- the values of the first variables
 pub data Variables (ws : List ℕ) : ℕ → List Symbolic → Type 0 where
@@ -69,8 +61,8 @@ pub data Variables (ws : List ℕ) : ℕ → List Symbolic → Type 0 where
 pub data Log (ws : List ℕ) (begin : ℕ) : ℕ → List Write → Type 0 where
   noWrite : Log ws begin begin []
   aWrite : {k : ℕ} {o : Origin} {t s : ℕ} {v : Symbolic} {l : List Write} → Log ws begin k l
-      → Means ws (getD ws (729 + 4 * k) 0) (getD ws (729 + 4 * k + 1) 0) (aReference o t s)
-      → Means ws (getD ws (729 + 4 * k + 2) 0) (getD ws (729 + 4 * k + 3) 0) v → Log ws begin (suc k) (writeOf o t s v ∷ l)
+      → Means ws (getD ws (writeAt k) 0) (getD ws (writeAt k + 1) 0) (aReference o t s)
+      → Means ws (getD ws (writeAt k + 2) 0) (getD ws (writeAt k + 3) 0) v → Log ws begin (suc k) (writeOf o t s v ∷ l)
 
 -- the condition is satisfiable: a branch is taken only where it is; if something is known, it is the condition's
 pub record PathIn (ws : List ℕ) (p : Path) : Type 0 where
@@ -96,7 +88,7 @@ pub record Valued (ws : List ℕ) (t q : ℕ) : Type 0 where
 -- a whole workspace, with room for so many more nodes
 pub record Room (ws : List ℕ) (more : ℕ) : Type 0 where
   pub lent : spaceSize ≤ length ws
-  pub rows : countIn ws + more ≤ rowLimit
+  pub rows : countIn ws + rowsANode * more ≤ rowLimit
   pub symbols : nextIn ws + more ≤ symbolLimit
   pub writes : writesIn ws + more ≤ nodeLimit
 
@@ -105,11 +97,11 @@ pub record Went (ws left : List ℕ) (depth nodes : ℕ) : Type 0 where
   pub same : length left ≡ length ws
   pub before : (k : ℕ) → k < 2 * depth → getD left k 0 ≡ getD ws k 0
   pub grown : Grown ws left
-  pub rows : countIn left ≤ countIn ws + nodes
+  pub rows : countIn left ≤ countIn ws + rowsANode * nodes
   pub symbols : nextIn left ≤ nextIn ws + nodes
   pub writes : writesIn left ≤ writesIn ws + nodes
   pub logged : writesIn ws ≤ writesIn left
-  pub log : (k : ℕ) → 729 ≤ k → k < 729 + 4 * writesIn ws → getD left k 0 ≡ getD ws k 0
+  pub log : (k : ℕ) → logAt ≤ k → k < writeAt (writesIn ws) → getD left k 0 ≡ getD ws k 0
 
 -- ---- answers
 
@@ -120,4 +112,4 @@ pub data Yields (left : List ℕ) : Step → Paths → Type 0 where
 
 -- the notes are as before
 pub record Unnoted (ws left : List ℕ) : Type 0 where
-  pub each : (k : ℕ) → 1241 ≤ k → k < 1371 → getD left k 0 ≡ getD ws k 0
+  pub each : (k : ℕ) → baseAt ≤ k → k < knownAt → getD left k 0 ≡ getD ws k 0

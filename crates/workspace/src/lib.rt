@@ -21,11 +21,14 @@ pub const START: usize = END + 3;
 // Where the count of the variables stands.
 pub const DEPTH: usize = END + 4;
 
-// Where the log begins: four numbers a write, the reference's type and place and the value's.
+// Where the log begins.
 pub const LOG: usize = END + 5;
 
+// How many numbers a write has: the reference's type and place, and the value's.
+pub const WRITE: usize = 4;
+
 // Where the number of the variables stands that are there at the start of a path: these have the same types on every path.
-pub const BASE: usize = LOG + 4 * Script::NODES;
+pub const BASE: usize = LOG + WRITE * Script::NODES;
 
 // Where the number of the note stands that is made next.
 pub const TURN: usize = BASE + 1;
@@ -51,7 +54,7 @@ pub const SPACE: usize = KNOWN + rows::KNOWN;
 // ---- the frames and the forks
 
 // Where the number of the frame stands that the next value goes to, 0 if it goes to none.
-pub const FRAME: usize = 0;
+pub const GOAL: usize = 0;
 
 // Where the count of the frames stands.
 pub const TOP: usize = 1;
@@ -59,11 +62,19 @@ pub const TOP: usize = 1;
 // Where the count of the forks stands that are left.
 pub const FORKED: usize = 2;
 
+// How many numbers a frame has; the three counts stand where frame 0 would.
+pub const FRAME: usize = 4;
+
 // Where the forks begin, behind the frames.
-pub const FORKS: usize = 4 * Script::NODES;
+pub const FORKS: usize = FRAME * Script::NODES;
 
 // How many numbers a fork has.
 pub const FORK: usize = 2;
+
+// The numbers that a fork keeps are below this, those of rows below the other: so seven stand in two.
+pub const SMALL: u32 = 256;
+
+pub const MANY_ROWS: u32 = 4096;
 
 // How many numbers frames and forks have: each fork has two frames of its own.
 pub const FRAMES: usize = FORKS + FORK * (Script::NODES / 2);
@@ -74,6 +85,9 @@ pub const FOR_FIRST: u32 = 0;
 pub const FOR_NEXT: u32 = 1;
 
 pub const FOR_BODY: u32 = 2;
+
+// What a node waits for is below this.
+pub const AWAITS: u32 = 4;
 
 // ---- what the functions hand to each other
 

@@ -30,13 +30,15 @@ use Rattle.rules.specs.Paths.{Path, Paths, ends, bind, Leaf, stopped, leaves}
 use Rattle.rules.specs.Satisfiable.{satisfiable}
 use Rattle.rules.specs.Symbolic.{Formula, Symbolic, aTruth}
 use Rattle.rules.specs.SymbolicRules.{firstType, judge}
-use Rattle.terms.specs.Terms.{Grown, symbolLimit}
-use Rattle.workspace.specs.Forks.{forkedIn, framesSize, forkAt, Forked, Forks}
-use Rattle.workspace.specs.Frames.{frameIn, topIn, nodeOf, upOf, firstOf, secondOf, framesEnd, Waits}
+use Rattle.terms.specs.Places.{symbolLimit, variablesEnd}
+use Rattle.terms.specs.Terms.{Grown, ofConjunction}
+use Rattle.workspace.specs.Forks.{forkedIn, Forked, Forks}
+use Rattle.workspace.specs.Frames.{frameIn, topIn, nodeOf, upOf, firstOf, secondOf, Waits, upTo}
 use Rattle.workspace.specs.Notes.{baseIn, Kept}
 use Rattle.workspace.specs.Paths.{assumed, forgotten}
+use Rattle.workspace.specs.Places.{depthAt, forkAt, frameWidth, framesEnd, framesSize, logAt, spaceSize, writeAt}
 use Rattle.workspace.specs.Rules.{oneExec, twoExec, restExec, restSize, withoutGuard, Two, Chooses, Operable}
-use Rattle.workspace.specs.State.{writesIn, depthIn, variablesEnd, spaceSize, Means, Variables, State, Room}
+use Rattle.workspace.specs.State.{writesIn, depthIn, Means, Variables, State, Room}
 use Rattle.workspace.specs.declared.Step.{Step}
 use Rattle.workspace.specs.declared.Step.the-variants.{Gave}
 use Rattle.workspace.specs.declared.Step.the-variants as step
@@ -68,7 +70,7 @@ goOn limit table (second n w ∷ ks) v p = bind (twoExec (formOf (nodeIn table n
 -- in frame f node n waits, for its first operand, the next one or the body of a `let`; its value goes to frame g
 pub record Slot (fs : List ℕ) (f n g awaits : ℕ) : Type 0 where
   pub node : nodeOf fs f ≡ n
-  pub up : upOf fs f ≡ 4 * g + awaits
+  pub up : upOf fs f ≡ upTo g awaits
   pub earlier : g < f
 
 -- what waits from frame f on, where there are so many variables, with room for so many nodes that it takes and frames that it makes; `ground` are the
@@ -97,9 +99,9 @@ pub record Onward (base : ℕ) (xs gs ws fs : List ℕ) : Type 0 where
   pub first : (k : ℕ) → k < 2 * base → getD ws k 0 ≡ getD xs k 0
   pub grown : Grown xs ws
   pub logged : writesIn xs ≤ writesIn ws
-  pub log : (k : ℕ) → 729 ≤ k → k < 729 + 4 * writesIn xs → getD ws k 0 ≡ getD xs k 0
+  pub log : (k : ℕ) → logAt ≤ k → k < writeAt (writesIn xs) → getD ws k 0 ≡ getD xs k 0
   pub tops : topIn gs ≤ topIn fs
-  pub frames : (k : ℕ) → 4 ≤ k → k < 4 + 4 * topIn gs → getD fs k 0 ≡ getD gs k 0
+  pub frames : (k : ℕ) → frameWidth ≤ k → k < frameWidth + frameWidth * topIn gs → getD fs k 0 ≡ getD gs k 0
   pub forked : forkedIn gs ≤ forkedIn fs
   pub forks : (k : ℕ) → framesEnd ≤ k → k < forkAt (forkedIn gs) → getD fs k 0 ≡ getD gs k 0
 
@@ -188,10 +190,10 @@ pub record Returning (limit : ℕ) (table : List ℕ) (bound base : ℕ) (ground
 
 -- a value becomes a variable, and the last variable is none any more
 abbrev pub boundTo : List ℕ → ℕ → ℕ → List ℕ
-boundTo ws t q = set (set (set ws (2 * depthIn ws) t) (2 * depthIn ws + 1) q) 728 (depthIn ws + 1)
+boundTo ws t q = set (set (set ws (2 * depthIn ws) t) (2 * depthIn ws + 1) q) depthAt (depthIn ws + 1)
 
 abbrev pub unbound : List ℕ → List ℕ
-unbound ws = set ws 728 (depthIn ws - 1)
+unbound ws = set ws depthAt (depthIn ws - 1)
 
 -- the step of a rule
 abbrev pub movedBy : Step → Move
@@ -203,7 +205,7 @@ pub data Branched (b c n t q : ℕ) (ws fs left gs : List ℕ) : Move → Type 0
   to-first : Waits n 1 t q fs gs → Chooses n t q ws First left → Branched b c n t q ws fs left gs (Operand b)
   to-second : Waits n 1 t q fs gs → Chooses n t q ws Second left → Branched b c n t q ws fs left gs (Operand c)
   to-both : {between hs : List ℕ} → Waits n 1 t q fs hs → Chooses n t q ws Both between → Forks between hs gs
-      → left ≡ assumed (forgotten between) 5 q → Branched b c n t q ws fs left gs (Operand b)
+      → left ≡ assumed (forgotten between) ofConjunction q → Branched b c n t q ws fs left gs (Operand b)
   to-none : {x : Refusal} → Waits n 1 t q fs gs → Chooses n t q ws (Neither x) left → Branched b c n t q ws fs left gs (Stopped x)
 
 -- node n after its last operand: the body of a `let`, or another one

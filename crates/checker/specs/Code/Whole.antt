@@ -17,8 +17,9 @@ use Rattle.script.specs.Tree.{treeOf}
 use Rattle.script.specs.declared.Checked.{Checked}
 use Rattle.script.specs.declared.Refusal.{Refusal}
 use Rattle.rules.specs.Checking.{check, checkTable, CheckedBy}
+use Rattle.terms.specs.Places.{variablesEnd}
 use Rattle.workspace.specs.Rules.{Checkable, Judged}
-use Rattle.workspace.specs.State.{typesOn, variablesEnd}
+use Rattle.workspace.specs.State.{typesOn}
 use Rattle.workspace.specs.State.Laws.{types-kept}
 
 -- ---- the entries' types

@@ -5,6 +5,7 @@ use Prim.Native.Nat.{_-_}
 use native.Mathlib.Omega.{arith}
 use borrow.Author.Tests.{not-true, not-false}
 use Rattle.workspace.specs.Log.Loops.{Settling, settling-start, settling-wrong, settling-on, settling-end}
+use Rattle.workspace.specs.Places.{startAt}
 use Rattle.workspace.specs.State.{writesIn, startIn}
 use Rattle.log.proofs.consistent.Statement.{statement}
 use Rattle.log.proofs.consistent.Tie as tie
@@ -16,7 +17,7 @@ abbrev μ-loop : tie.MeasureT-loop
 μ-loop space first i₀ i = i
 
 cast-first : tie.Need-cast-first Inv-loop μ-loop
-cast-first c = omega (arith, c .shared-slice-known2 .given 727)
+cast-first c = omega (arith, c .shared-slice-known2 .given startAt)
 
 loop-holds : tie.Need-loop-holds Inv-loop μ-loop
 loop-holds c = let s = c .before .before .before .args .space .now in settling-start s (startIn s) (writesIn s)

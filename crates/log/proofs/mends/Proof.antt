@@ -9,7 +9,7 @@ returns : tie.Need-returns
 returns c = let r = c .before .is-right in rw (sym (r .ensures) ∙ not-true (r .result) (c .if1 .taken)) refl
 
 returns-2 : tie.Need-returns-2
-returns-2 c = let r = c .before .before .is-right in rw (sym (r .ensures) ∙ not-false (r .result) (c .before .if1 .left)) refl
+returns-2 c = let r = c .before .before .before .is-right in rw (sym (r .ensures) ∙ not-false (r .result) (c .before .before .if1 .left), c .symbol-of .ensures) refl
 
 pub mends-spec : {M : Type 1} → statement M
 mends-spec =
@@ -22,4 +22,5 @@ mends-spec =
     (λ c. search needs)
     (λ c. search needs)
     (λ c. search needs)
+    (λ c κs. search needs)
     returns-2)

@@ -8,7 +8,7 @@ returns : tie.Need-returns
 returns c = rw (sym (c .before .is-right .ensures) ∙ c .if1 .taken) refl
 
 returns-2 : tie.Need-returns-2
-returns-2 c = rw (sym (c .before .before .before .is-right .ensures) ∙ c .before .before .if1 .left) (c .mended .ensures)
+returns-2 c = rw (sym (c .before .before .before .before .is-right .ensures) ∙ c .before .before .before .if1 .left) (rw (c .before .symbol-of .ensures) at (c .mended .ensures))
 
 pub settled-spec : {M : Type 1} → statement M
 settled-spec =
@@ -21,5 +21,6 @@ settled-spec =
     (λ c. search needs)
     (λ c. search needs)
     (λ c. search needs)
+    (λ c κs. search needs)
     (λ c κs. search needs)
     returns-2)

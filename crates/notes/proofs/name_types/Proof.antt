@@ -9,6 +9,7 @@ use Rattle.script.specs.Code.Forms.{treeIn}
 use Rattle.workspace.specs.Notes.Making.{Upto, upto-start, upto-on, upto-named, upto-more, upto-full, upto-end}
 use Rattle.notes.proofs.name_types.Statement.{statement}
 use Rattle.notes.proofs.name_types.Tie as tie
+use Rattle.workspace.specs.Places.{baseAt}
 
 abbrev Inv-loop : tie.InvT-loop
 Inv-loop table space₀ depth a at count₀ k₀ space count k = Upto (treeIn table a) depth at space₀ k count space
@@ -23,7 +24,7 @@ loop-holds : tie.Need-loop-holds Inv-loop μ-loop
 loop-holds c = let a = c .before .before .before .args in upto-start (treeIn (a .table .now) (a .a)) (a .depth) (a .at) (a .space .now)
 
 cast-loop : tie.Need-cast-loop Inv-loop μ-loop
-cast-loop c = omega (arith, c .loop .inv .bounded, c .before .slice-known2 .given 1241, c .before .before .before .before .pre .1 .small)
+cast-loop c = omega (arith, c .loop .inv .bounded, c .before .slice-known2 .given baseAt, c .before .before .before .before .pre .1 .small)
 
 same-length : tie.Need-same-length Inv-loop μ-loop
 same-length c = c .before .before .before .before .loop .inv .naming .same

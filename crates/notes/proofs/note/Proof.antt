@@ -8,15 +8,16 @@ use lib.ListN.{getD, length-set}
 use Rattle.workspace.specs.Notes.Making.{cleared-nameable, noted-nothing, noted-all}
 use Rattle.notes.proofs.note.Statement.{statement}
 use Rattle.notes.proofs.note.Tie as tie
+use Rattle.workspace.specs.Places.{noteLimit, turnAt}
 
 cast-turn : tie.Need-cast-turn
-cast-turn c = omega (arith, c .slice-known2 .given 1242)
+cast-turn c = omega (arith, c .slice-known2 .given turnAt)
 
 name-types-requires : tie.Need-name-types-requires
 name-types-requires c κs =
     let a = c .before .before .before .before .args in
     let p = c .before .before .before .before .pre in
-    let w = getD (a .space .now) 1242 0 % 8 in
+    let w = getD (a .space .now) turnAt 0 % noteLimit in
     (p .0, cleared-nameable (a .space .now) (a .depth) w refl (omega arith) (p .1 .1) (p .1 .0))
 
 same-length : tie.Need-same-length
@@ -26,7 +27,7 @@ returns : tie.Need-returns
 returns c =
     let a = c .before .before .before .before .before .before .before .before .args in
     let p = c .before .before .before .before .before .before .before .before .pre in
-    let w = getD (a .space .now) 1242 0 % 8 in
+    let w = getD (a .space .now) turnAt 0 % noteLimit in
     noted-nothing (a .space .now) (a .depth) w refl (omega arith) (p .1 .1) (p .1 .0) (a .table .now) (a .a) (a .t)
     (c .before .before .before .name-types .ensures) (c .if1 .taken)
 
@@ -64,7 +65,7 @@ returns-2 : tie.Need-returns-2
 returns-2 c =
     let a = c .before .before .before .before .before .before .before .before .args in
     let p = c .before .before .before .before .before .before .before .before .pre in
-    let w = getD (a .space .now) 1242 0 % 8 in
+    let w = getD (a .space .now) turnAt 0 % noteLimit in
     noted-all (a .space .now) (a .depth) w refl (omega arith) (p .1 .1) (p .1 .0) (a .table .now) (a .a) (a .t)
     (c .before .before .before .name-types .ensures) (c .if1 .left)
 

@@ -10,7 +10,7 @@ use lib.Bits.{bitOr}
 use lib.Dec.{leb, ltb, eqb}
 use lib.ListN.{length, getD, take, set, length-set, length-append, length-take, List·getD-eq-default}
 use Rattle.script.specs.Tests.{pick}
-use Rattle.terms.specs.Terms.{rowIn}
+use Rattle.terms.specs.Terms.{rowIn, firstAtom, ofConjunction, ofExclusion, ofNegation}
 use Rattle.terms.specs.declared.Row.{Row}
 use Rattle.rows.specs.declared.Counts.{Counts}
 use Rattle.rows.specs.Code.{above, operandBelow, reached, markRow, marked, seenAfter, rank, tally, Visited, spreadOf, patternOf, wordOf, words}
@@ -49,7 +49,7 @@ pick-within false k n h = h
 
 pub below-within : (least op mark i : ℕ) → operandBelow least op mark i ≤ i
 unfolding operandBelow
-below-within least op mark i = pick-within (eqb mark 0) _ i (pick-within (ltb op least) _ i (pick-within (ltb 7 op) i i (omega arith)))
+below-within least op mark i = pick-within (eqb mark 0) _ i (pick-within (ltb op least) _ i (pick-within (ltb ofExclusion op) i i (omega arith)))
 
 pub reached-length : (ms : List ℕ) (a below mark : ℕ) → length (reached ms a below mark) ≡ length ms
 unfolding reached
@@ -68,9 +68,9 @@ below-unmarked : (least op i : ℕ) → operandBelow least op 0 i ≡ 0
 unfolding operandBelow
 below-unmarked least op i = refl
 
-below-atom : (least op mark i : ℕ) → 8 ≤ op → operandBelow least op mark i ≡ 0
+below-atom : (least op mark i : ℕ) → firstAtom ≤ op → operandBelow least op mark i ≡ 0
 unfolding operandBelow
-below-atom least op mark i h = rw (lt-ltb 7 op h) (go (eqb mark 0) (ltb op least))
+below-atom least op mark i h = rw (lt-ltb ofExclusion op h) (go (eqb mark 0) (ltb op least))
   where
     go : (a b : Bool) → pick a zero (pick b zero zero) ≡ 0
     go true b = refl
@@ -78,8 +78,8 @@ below-atom least op mark i h = rw (lt-ltb 7 op h) (go (eqb mark 0) (ltb op least
     go false false = refl
 
 -- both operands, one after the other
-pub mark-made : (ms mid last : List ℕ) (r : Row) (i f s : ℕ) → f ≡ operandBelow 4 (r .op) (getD ms i 0) i → mid ≡ reached ms (r .a) f (getD ms i 0)
-    → s ≡ operandBelow 5 (r .op) (getD ms i 0) i → last ≡ reached mid (r .b) s (getD ms i 0) → last ≡ markRow ms r i
+pub mark-made : (ms mid last : List ℕ) (r : Row) (i f s : ℕ) → f ≡ operandBelow ofNegation (r .op) (getD ms i 0) i → mid ≡ reached ms (r .a) f (getD ms i 0)
+    → s ≡ operandBelow ofConjunction (r .op) (getD ms i 0) i → last ≡ reached mid (r .b) s (getD ms i 0) → last ≡ markRow ms r i
 unfolding markRow
 mark-made ms mid last r i f s ef em es el = rw (el, em, ef, es)
 
@@ -91,13 +91,13 @@ markRow-length ms r i = reached-length _ (r .b) _ _ ∙ reached-length ms (r .a)
 mark-unmarked : (ms : List ℕ) (r : Row) (i : ℕ) → getD ms i 0 ≡ 0 → ms ≡ markRow ms r i
 unfolding markRow
 mark-unmarked ms r i e =
-    rw (e, below-unmarked 4 (r .op) i, below-unmarked 5 (r .op) i, reached-none ms (r .a) 0, reached-none ms (r .b) 0)
+    rw (e, below-unmarked ofNegation (r .op) i, below-unmarked ofConjunction (r .op) i, reached-none ms (r .a) 0, reached-none ms (r .b) 0)
 
-mark-atom : (ms : List ℕ) (r : Row) (i : ℕ) → 8 ≤ r .op → ms ≡ markRow ms r i
+mark-atom : (ms : List ℕ) (r : Row) (i : ℕ) → firstAtom ≤ r .op → ms ≡ markRow ms r i
 unfolding markRow
 mark-atom ms r i h =
     let m = getD ms i 0 in
-    rw (below-atom 4 (r .op) m i h, below-atom 5 (r .op) m i h, reached-none ms (r .a) m, reached-none ms (r .b) m)
+    rw (below-atom ofNegation (r .op) m i h, below-atom ofConjunction (r .op) m i h, reached-none ms (r .a) m, reached-none ms (r .b) m)
 
 pub marked-length : (ws : List ℕ) (n : ℕ) (ms : List ℕ) → length (marked ws n ms) ≡ length ms
 unfolding marked
@@ -123,7 +123,7 @@ module _ (op mark least : ℕ) where
   -- counted before or after is the same
   pub seen-sum : (a b : ℕ) → seenAfter op mark least a + b ≡ a + seenAfter op mark least b
   unfolding seenAfter
-  seen-sum a b = go (ltb mark least) (ltb op 8)
+  seen-sum a b = go (ltb mark least) (ltb op firstAtom)
     where
       go : (s t : Bool) → pick s a (pick t a (a + 1)) + b ≡ a + pick s b (pick t b (b + 1))
       go true t = refl
@@ -132,7 +132,7 @@ module _ (op mark least : ℕ) where
 
   pub seen-grows : (seen : ℕ) → seen ≤ seenAfter op mark least seen
   unfolding seenAfter
-  seen-grows seen = go (ltb mark least) (ltb op 8)
+  seen-grows seen = go (ltb mark least) (ltb op firstAtom)
     where
       go : (s t : Bool) → seen ≤ pick s seen (pick t seen (seen + 1))
       go true t = omega arith
@@ -141,7 +141,7 @@ module _ (op mark least : ℕ) where
 
   pub seen-most : (seen : ℕ) → seenAfter op mark least seen ≤ suc seen
   unfolding seenAfter
-  seen-most seen = go (ltb mark least) (ltb op 8)
+  seen-most seen = go (ltb mark least) (ltb op firstAtom)
     where
       go : (s t : Bool) → pick s seen (pick t seen (seen + 1)) ≤ suc seen
       go true t = omega arith
@@ -159,15 +159,15 @@ tally-unmarked op mark k e =
     rw (e, seen-unmarked op 1 (k .all) (omega arith), seen-unmarked op 2 (k .own) (omega arith), seen-unmarked op 3 (k .shared) (omega arith))
 
 -- nor is one that is no atom
-seen-other : (op mark least seen : ℕ) → op < 8 → seenAfter op mark least seen ≡ seen
+seen-other : (op mark least seen : ℕ) → op < firstAtom → seenAfter op mark least seen ≡ seen
 unfolding seenAfter
-seen-other op mark least seen h = rw (lt-ltb op 8 h) (go (ltb mark least))
+seen-other op mark least seen h = rw (lt-ltb op firstAtom h) (go (ltb mark least))
   where
     go : (s : Bool) → pick s seen seen ≡ seen
     go true = refl
     go false = refl
 
-tally-other : (op mark : ℕ) (k : Counts) → op < 8 → k ≡ tally op mark k
+tally-other : (op mark : ℕ) (k : Counts) → op < firstAtom → k ≡ tally op mark k
 unfolding tally
 tally-other op mark k h = rw (seen-other op mark 1 (k .all) h, seen-other op mark 2 (k .own) h, seen-other op mark 3 (k .shared) h)
 
@@ -183,7 +183,7 @@ module _ {ws ms : List ℕ} (i : ℕ) (k : Counts) where
   visited-unmarked e =
       record { counts = tally-unmarked (rowIn ws i .op) (getD ms i 0) k e; marks = mark-unmarked ms (rowIn ws i) i e }
 
-  pub visited-atom : (r : Row) (a b d : ℕ) → r ≡ rowIn ws i → 8 ≤ r .op → a ≡ seenAfter (r .op) (getD ms i 0) 1 (k .all)
+  pub visited-atom : (r : Row) (a b d : ℕ) → r ≡ rowIn ws i → firstAtom ≤ r .op → a ≡ seenAfter (r .op) (getD ms i 0) 1 (k .all)
       → b ≡ seenAfter (r .op) (getD ms i 0) 2 (k .own) → d ≡ seenAfter (r .op) (getD ms i 0) 3 (k .shared)
       → Visited ws ms i k (record { all = a; own = b; shared = d }) ms
   visited-atom r a b d e h ea eb ed =
@@ -192,7 +192,7 @@ module _ {ws ms : List ℕ} (i : ℕ) (k : Counts) where
         marks = mark-atom ms r i h ∙ ap (λ (q : Row). markRow ms q i) e;
       }
 
-  pub visited-other : (r : Row) (out : List ℕ) → r ≡ rowIn ws i → r .op < 8 → out ≡ markRow ms r i → Visited ws ms i k k out
+  pub visited-other : (r : Row) (out : List ℕ) → r ≡ rowIn ws i → r .op < firstAtom → out ≡ markRow ms r i → Visited ws ms i k k out
   visited-other r out e h eo =
       record {
         counts = tally-other (r .op) (getD ms i 0) k h ∙ ap (λ (q : Row). tally (q .op) (getD ms i 0) k) e;

@@ -11,7 +11,8 @@ use lib.Dec.{ltb}
 use lib.ListN.{length, getD, take, set, replicate, length-set, length-append, length-replicate}
 use lib.Seq.{take-suc-set, getD-set-other}
 use Rattle.script.specs.Tests.{pick}
-use Rattle.terms.specs.Terms.{rowIn, rowLimit, rowsEnd}
+use Rattle.terms.specs.Places.{rowLimit, rowsEnd, rowAt}
+use Rattle.terms.specs.Terms.{rowIn, firstAtom, ofTruth}
 use Rattle.terms.specs.declared.Row.{Row}
 use Rattle.rows.specs.Code.{Room, marked, seenAfter, rank, rowWord, countAfter, listedRow, rowsFrom, Lists, seenAt, numberRow, seenTo, numbersTo, isNumbered, numberedTo, evaluateRow, evaluatedTo, changeOf, changeRow, changedTo, changesOf, knownRow, knownNumbers, keepRow, keptRows, keepWord, keptWords, kept, Keepable, guardMarks, guardRows, GuardListed, guardedWords, guardedWord}
 use Rattle.rows.specs.Code.Laws.{seen-grows}
@@ -92,21 +93,21 @@ listing-end {ms} {n} {least} {os} {ls} {count} {i} k h =
 
 -- a row that is no atom has no number, and an atom has the next
 module _ (ws ns : List ℕ) (i : ℕ) (r : Row) (e : r ≡ rowIn ws i) where
-  pub number-other : (seen : ℕ) → r .op < 8 → (seen ≡ seenAt ws i seen) × (ns ≡ numberRow ws ns i seen)
+  pub number-other : (seen : ℕ) → r .op < firstAtom → (seen ≡ seenAt ws i seen) × (ns ≡ numberRow ws ns i seen)
   unfolding seenAt numberRow
-  number-other seen h = let t = lt-ltb (rowIn ws i .op) 8 (rw e at h) in (rw t, rw t)
+  number-other seen h = let t = lt-ltb (rowIn ws i .op) firstAtom (rw e at h) in (rw t, rw t)
 
-  pub number-atom : (seen : ℕ) → 8 ≤ r .op → (seen + 1 ≡ seenAt ws i seen) × (set ns i seen ≡ numberRow ws ns i seen)
+  pub number-atom : (seen : ℕ) → firstAtom ≤ r .op → (seen + 1 ≡ seenAt ws i seen) × (set ns i seen ≡ numberRow ws ns i seen)
   unfolding seenAt numberRow
-  number-atom seen h = let t = le-ltb (rowIn ws i .op) 8 (rw e at h) in (rw t, rw t)
+  number-atom seen h = let t = le-ltb (rowIn ws i .op) firstAtom (rw e at h) in (rw t, rw t)
 
-  pub numbered-other : r .op < 8 → true ≡ isNumbered ws ns i
+  pub numbered-other : r .op < firstAtom → true ≡ isNumbered ws ns i
   unfolding isNumbered
-  numbered-other h = rw (lt-ltb (rowIn ws i .op) 8 (rw e at h))
+  numbered-other h = rw (lt-ltb (rowIn ws i .op) firstAtom (rw e at h))
 
-  pub numbered-atom : 8 ≤ r .op → ltb (getD ns i 0) 10 ≡ isNumbered ws ns i
+  pub numbered-atom : firstAtom ≤ r .op → ltb (getD ns i 0) 10 ≡ isNumbered ws ns i
   unfolding isNumbered
-  numbered-atom h = rw (le-ltb (rowIn ws i .op) 8 (rw e at h))
+  numbered-atom h = rw (le-ltb (rowIn ws i .op) firstAtom (rw e at h))
 
 -- so many atoms are seen among the first j rows, and have their numbers
 pub record Numbering (ws os ns : List ℕ) (count : ℕ) (ls : List ℕ) (seen j : ℕ) : Type 0 where
@@ -124,7 +125,7 @@ pub numbering-on : {ws os ns : List ℕ} {count : ℕ} {ls : List ℕ} {seen j :
     → next ≡ seenAt ws (getD os j 0) seen → out ≡ numberRow ws ls (getD os j 0) seen → Numbering ws os ns count out next (j + 1)
 unfolding seenTo numbersTo seenAt numberRow
 numbering-on {ws} {os} {ns} {count} {ls} {seen} {j} next out k h en eo =
-    let t = ltb (rowIn ws (getD os j 0) .op) 8 in
+    let t = ltb (rowIn ws (getD os j 0) .op) ofTruth in
     record {
       within = omega arith;
       few = rw en (one-few t seen j (k .few));
@@ -283,29 +284,29 @@ pub keep-unmarked : (ws : List ℕ) (at mark i count : ℕ) → mark < 1
 unfolding seenAfter keepRow
 keep-unmarked ws at mark i count h = let t = lt-ltb mark 1 h in (rw t, rw t)
 
-pub keep-other : (ws : List ℕ) (at mark i count : ℕ) (r : Row) → r ≡ rowIn ws i → 1 ≤ mark → r .op < 8
+pub keep-other : (ws : List ℕ) (at mark i count : ℕ) (r : Row) → r ≡ rowIn ws i → 1 ≤ mark → r .op < firstAtom
     → (count ≡ seenAfter (rowIn ws i .op) mark 1 count) × (ws ≡ keepRow ws at mark i count)
 unfolding seenAfter keepRow
 keep-other ws at mark i count r e m h =
     let s = le-ltb mark 1 m in
-    let t = lt-ltb (rowIn ws i .op) 8 (rw e at h) in
+    let t = lt-ltb (rowIn ws i .op) firstAtom (rw e at h) in
     (rw (s, t), rw (s, t))
 
-pub keep-atom : (ws : List ℕ) (at mark i count : ℕ) (r : Row) → r ≡ rowIn ws i → 1 ≤ mark → 8 ≤ r .op
+pub keep-atom : (ws : List ℕ) (at mark i count : ℕ) (r : Row) → r ≡ rowIn ws i → 1 ≤ mark → firstAtom ≤ r .op
     → (count + 1 ≡ seenAfter (rowIn ws i .op) mark 1 count) × (set ws (at + 2 + count) i ≡ keepRow ws at mark i count)
 unfolding seenAfter keepRow
 keep-atom ws at mark i count r e m h =
     let s = le-ltb mark 1 m in
-    let t = le-ltb (rowIn ws i .op) 8 (rw e at h) in
+    let t = le-ltb (rowIn ws i .op) firstAtom (rw e at h) in
     (rw (s, t), rw (s, t))
 
 pub keepRow-length : (ws : List ℕ) (at mark i count : ℕ) → length (keepRow ws at mark i count) ≡ length ws
 unfolding keepRow
-keepRow-length ws at mark i count = two-same (ltb mark 1) (ltb (rowIn ws i .op) 8) ws (at + 2 + count) i
+keepRow-length ws at mark i count = two-same (ltb mark 1) (ltb (rowIn ws i .op) firstAtom) ws (at + 2 + count) i
 
 keepRow-low : (ws : List ℕ) (at mark i count j : ℕ) → j < at → getD (keepRow ws at mark i count) j 0 ≡ getD ws j 0
 unfolding keepRow
-keepRow-low ws at mark i count j h = two-low (ltb mark 1) (ltb (rowIn ws i .op) 8) ws (at + 2 + count) i j (omega arith)
+keepRow-low ws at mark i count j h = two-low (ltb mark 1) (ltb (rowIn ws i .op) firstAtom) ws (at + 2 + count) i j (omega arith)
 
 pub keptRows-length : (ws : List ℕ) (at : ℕ) (ms : List ℕ) (i : ℕ) → length (keptRows ws at ms i) ≡ length ws
 unfolding keptRows
@@ -337,7 +338,7 @@ unfolding rank keptRows
 keeping-on {ws} {at} {ms} {n} {ls} {count} {i} next out p k h en eo =
     let b = p .behind in
     let r = p .rows in
-    let o : getD ls (289 + 3 * i) 0 ≡ getD ws (289 + 3 * i) 0 = ap (λ (l : List ℕ). getD l (289 + 3 * i) 0) (k .rows) ∙ keptRows-low ws at ms i (289 + 3 * i) (omega arith) in
+    let o : getD ls (rowAt i) 0 ≡ getD ws (rowAt i) 0 = ap (λ (l : List ℕ). getD l (rowAt i) 0) (k .rows) ∙ keptRows-low ws at ms i (rowAt i) (omega arith) in
     let e : next ≡ rank ws ms 1 (i + 1) = rw (add-one i, en, o, k .atoms) in
     let m = rank-most ws ms 1 (i + 1) n (omega arith) in
     let f = p .few in

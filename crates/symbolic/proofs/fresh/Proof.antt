@@ -1,8 +1,18 @@
 -- `symbolic::fresh` meets its contract. Assumes nothing.
 use borrow.Author.Needs.{needs}
+use native.Mathlib.Omega.{arith}
 use Rattle.workspace.specs.Paths.Symbols.{numbered-space, fresh-word, fresh-truth, fresh-reference}
 use Rattle.symbolic.proofs.fresh.Statement.{statement}
 use Rattle.symbolic.proofs.fresh.Tie as tie
+
+push-requires : tie.Need-push-requires
+push-requires c κs = numbered-space (c .before .before .before .before .args .space .now) (c .before .before .before .before .pre)
+
+symbols-atom-requires : tie.Need-symbols-atom-requires
+symbols-atom-requires c κs = numbered-space (c .before .before .before .before .args .space .now) (c .before .before .before .before .pre)
+
+reference-requires : tie.Need-reference-requires
+reference-requires c κs = (omega (arith, c .before .before .before .pre .symbols), omega arith)
 
 same-length : tie.Need-same-length
 same-length c =
@@ -30,11 +40,11 @@ returns-2 c =
 
 returns-3 : tie.Need-returns-3
 returns-3 c =
-    let a = c .before .before .before .args in
-    let d = c .match .rest in
+    let a = c .before .before .before .before .args in
+    let d = c .before .match .rest in
     let m = d .0 .1 in
     let n = d .1 in
-    fresh-reference (a .space .now) (c .before .before .before .pre) (a .t) m n
+    rw (c .reference .ensures) (fresh-reference (a .space .now) (c .before .before .before .before .pre) (a .t) m n)
 
 pub fresh-spec : {M : Type 1} → statement M
 fresh-spec =
@@ -43,9 +53,9 @@ fresh-spec =
     (λ c. search needs)
     (λ c. search needs)
     (λ c. search needs)
-    (λ c κs. numbered-space (c .before .before .before .before .args .space .now) (c .before .before .before .before .pre))
-    (λ c κs. numbered-space (c .before .before .before .before .args .space .now) (c .before .before .before .before .pre))
-    (λ c. search needs)
+    push-requires
+    symbols-atom-requires
+    reference-requires
     same-length
     returns
     same-length-2

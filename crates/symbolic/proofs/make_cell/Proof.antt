@@ -1,6 +1,7 @@
 -- `symbolic::make_cell` meets its contract: a fresh symbol, and a write of the value. Assumes nothing.
 use borrow.Author.Needs.{needs}
 use Prim.Native.Nat.{_+_}
+use Rattle.workspace.specs.Places.{nextAt}
 use Rattle.workspace.specs.State.{nextIn}
 use native.Mathlib.Omega.{arith}
 use lib.ListN.{length-set}
@@ -14,35 +15,27 @@ returns c = ref-wrong (c .before .before .args .n) (c .before .before .args .t) 
 add-space : tie.Need-add-space
 add-space c = omega (arith, c .before .before .before .pre .symbols)
 
-mul-write : tie.Need-mul-write
-mul-write c = omega (arith, c .before .before .before .before .pre .symbols)
-
-add-write-2 : tie.Need-add-write-2
-add-write-2 c = omega (arith, c .before .before .before .before .pre .symbols)
+reference-requires : tie.Need-reference-requires
+reference-requires c κs = (omega (arith, c .before .before .before .pre .symbols), omega arith)
 
 write-requires : tie.Need-write-requires
 write-requires c κs =
-    let at-if1 = c .before .before in
+    let at-if1 = c .before .before .before in
     let at-start = at-if1 .before .before in (
       ref-few (at-start .args .n) (at-start .args .t) (at-start .args .p) (at-start .pre) (at-if1 .if1 .left),
       ref-lent (at-start .args .n) (at-start .args .t) (at-start .args .p) (at-start .pre) (at-if1 .if1 .left),
     )
 
-mul-t15 : tie.Need-mul-t15
-mul-t15 c = omega (arith, c .before .before .before .before .before .before .before .pre .symbols)
-
-add-t14 : tie.Need-add-t14
-add-t14 c = omega (arith, c .before .before .before .before .before .before .before .pre .symbols)
-
 same-length : tie.Need-same-length
-same-length c = omega (arith, c .before .space .given, length-set (c .before .before .before .before .before .before .before .args .space .now) 724 (nextIn (c .before .before .before .before .before .before .before .args .space .now) + 1))
+same-length c = omega (arith, c .before .space .given, length-set (c .before .before .before .before .before .before .before .before .args .space .now) nextAt (nextIn (c .before .before .before .before .before .before .before .before .args .space .now) + 1))
 
 returns-2 : tie.Need-returns-2
 returns-2 c =
     let at-write = c .before .before in
-    let at-if1 = at-write .before .before .before in
+    let at-if1 = at-write .before .before .before .before in
     let at-start = at-if1 .before .before in
-    ref-made (at-start .args .n) (at-start .args .t) (at-start .args .p) (at-start .pre) (at-if1 .if1 .left) (at-write .write .ensures)
+    rw (at-write .before .before .reference .ensures)
+    (ref-made (at-start .args .n) (at-start .args .t) (at-start .args .p) (at-start .pre) (at-if1 .if1 .left) (rw (at-write .before .before .reference .ensures) at (at-write .write .ensures)))
 
 pub make-cell-spec : {M : Type 1} → statement M
 make-cell-spec =
@@ -52,12 +45,9 @@ make-cell-spec =
     (λ c. search needs)
     add-space
     (λ c. search needs)
+    reference-requires
     (λ c. search needs)
-    mul-write
-    add-write-2
     write-requires
     (λ c. search needs)
-    mul-t15
-    add-t14
     same-length
     returns-2)

@@ -1,14 +1,15 @@
 -- What the code answers of atoms of symbols, case by case: each law is what one answer of the code cites. Assumes nothing.
 use mathlib.Core.Bool.{Bool, true, false}
 use mathlib.Core.List.{List}
-use mathlib.Core.Path.{_≡_, refl}
-use Prim.Native.Nat.{ℕ, _/_, _%_, _≤_, _<_}
+use mathlib.Core.Path.{_≡_, refl, sym, _∙_}
+use Prim.Native.Nat.{ℕ, _≤_, _<_}
 use lib.Dec.{eqb, ltb}
 use lib.ListN.{length, length-set}
 use borrow.Author.Tests.{eq-eqb, ne-eqb, lt-ltb, le-ltb}
 use Rattle.script.specs.Tests.{pick}
-use Rattle.terms.specs.Atoms.{foundOr, holds, isAtom, atomRowOf, atomLeft, bothMade, referencesRow, referencesLeft}
-use Rattle.terms.specs.Terms.{countIn, pushed}
+use Rattle.terms.specs.Atoms.{foundOr, holds, isAtom, atomRowOf, atomLeft, referencesRow, referencesLeft}
+use Rattle.terms.specs.References.{symbolAt, apartAt}
+use Rattle.terms.specs.Terms.{countIn, pushed, ofConstant, ofPair}
 use Rattle.terms.specs.declared.Row.{Row}
 
 module _ (row : Row) (a b : ℕ) where
@@ -52,46 +53,41 @@ found-length ws r op a b = go (ltb r (countIn ws))
     go true = refl
     go false = simp length-set
 
--- ---- references
+-- ---- references at places r and s, with symbols a and b
 
-pub made-one : (r s : ℕ) → (r % 2 ≡ 1 → ⊥) → false ≡ bothMade r s
-unfolding bothMade
-made-one r s n = rw (ne-eqb (r % 2) 1 n) refl
+module _ (ws : List ℕ) (r s : ℕ) {a b : ℕ} (first : a ≡ symbolAt r) (second : b ≡ symbolAt s) where
+  differ : (a ≡ b → ⊥) → symbolAt r ≡ symbolAt s → ⊥
+  differ n e = n (first ∙ e ∙ sym second)
 
-pub made-both : (r s : ℕ) → r % 2 ≡ 1 → eqb (s % 2) 1 ≡ bothMade r s
-unfolding bothMade
-made-both r s e = rw (eq-eqb (r % 2) 1 e) refl
-
-module _ (ws : List ℕ) (r s : ℕ) where
-  pub row-one : r / 2 ≡ s / 2 → countIn ws ≡ referencesRow ws r s
+  pub row-one : a ≡ b → countIn ws ≡ referencesRow ws r s
   unfolding referencesRow
-  row-one e = rw (eq-eqb (r / 2) (s / 2) e) refl
+  row-one e = rw (eq-eqb (symbolAt r) (symbolAt s) (sym first ∙ e ∙ second)) refl
 
-  pub left-one : r / 2 ≡ s / 2 → pushed ws 3 1 0 ≡ referencesLeft ws r s
+  pub left-one : a ≡ b → pushed ws ofConstant 1 0 ≡ referencesLeft ws r s
   unfolding referencesLeft
-  left-one e = rw (eq-eqb (r / 2) (s / 2) e) refl
+  left-one e = rw (eq-eqb (symbolAt r) (symbolAt s) (sym first ∙ e ∙ second)) refl
 
-  pub row-apart : (r / 2 ≡ s / 2 → ⊥) → bothMade r s ≡ true → countIn ws ≡ referencesRow ws r s
+  pub row-apart : (a ≡ b → ⊥) → apartAt r s ≡ true → countIn ws ≡ referencesRow ws r s
   unfolding referencesRow
-  row-apart n t = rw (ne-eqb (r / 2) (s / 2) n, t) refl
+  row-apart n t = rw (ne-eqb (symbolAt r) (symbolAt s) (differ n), t) refl
 
-  pub left-apart : (r / 2 ≡ s / 2 → ⊥) → bothMade r s ≡ true → pushed ws 3 0 0 ≡ referencesLeft ws r s
+  pub left-apart : (a ≡ b → ⊥) → apartAt r s ≡ true → pushed ws ofConstant 0 0 ≡ referencesLeft ws r s
   unfolding referencesLeft
-  left-apart n t = rw (ne-eqb (r / 2) (s / 2) n, t) refl
+  left-apart n t = rw (ne-eqb (symbolAt r) (symbolAt s) (differ n), t) refl
 
-  pub row-open : (r / 2 ≡ s / 2 → ⊥) → bothMade r s ≡ false → atomRowOf ws 9 (r / 2) (s / 2) ≡ referencesRow ws r s
+  pub row-open : (a ≡ b → ⊥) → apartAt r s ≡ false → atomRowOf ws ofPair a b ≡ referencesRow ws r s
   unfolding referencesRow
-  row-open n t = rw (ne-eqb (r / 2) (s / 2) n, t) refl
+  row-open n t = rw (first, second, ne-eqb (symbolAt r) (symbolAt s) (differ n), t) refl
 
-  pub left-open : (r / 2 ≡ s / 2 → ⊥) → bothMade r s ≡ false → atomLeft ws 9 (r / 2) (s / 2) ≡ referencesLeft ws r s
+  pub left-open : (a ≡ b → ⊥) → apartAt r s ≡ false → atomLeft ws ofPair a b ≡ referencesLeft ws r s
   unfolding referencesLeft
-  left-open n t = rw (ne-eqb (r / 2) (s / 2) n, t) refl
+  left-open n t = rw (first, second, ne-eqb (symbolAt r) (symbolAt s) (differ n), t) refl
 
-  pub references-length : length (referencesLeft ws r s) ≡ length ws
-  unfolding referencesLeft
-  references-length = go (eqb (r / 2) (s / 2)) (bothMade r s)
-    where
-      go : (t u : Bool) → length (pick t (pushed ws 3 1 0) (pick u (pushed ws 3 0 0) (atomLeft ws 9 (r / 2) (s / 2)))) ≡ length ws
-      go true u = simp length-set
-      go false true = simp length-set
-      go false false = found-length ws (atomRowOf ws 9 (r / 2) (s / 2)) 9 (r / 2) (s / 2)
+pub references-length : (ws : List ℕ) (r s : ℕ) → length (referencesLeft ws r s) ≡ length ws
+unfolding referencesLeft
+references-length ws r s = go (eqb (symbolAt r) (symbolAt s)) (apartAt r s)
+  where
+    go : (t u : Bool) → length (pick t (pushed ws ofConstant 1 0) (pick u (pushed ws ofConstant 0 0) (atomLeft ws ofPair (symbolAt r) (symbolAt s)))) ≡ length ws
+    go true u = simp length-set
+    go false true = simp length-set
+    go false false = found-length ws (atomRowOf ws ofPair (symbolAt r) (symbolAt s)) ofPair (symbolAt r) (symbolAt s)

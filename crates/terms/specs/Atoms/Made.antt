@@ -9,12 +9,14 @@ use native.Mathlib.Omega.{arith}
 use lib.Dec.{eqb}
 use borrow.Author.Tests.{eqb-true, eqb-false, eq-eqb, ne-eqb}
 use Rattle.script.specs.Tests.Laws.{both-true, true-both, or-cases, or-first, or-second}
-use Rattle.rules.specs.Symbolic.{Atom, truthSymbol, pair, sameAtom, atom, constantly, Origin, made, other, apart, equalReferences}
+use Rattle.rules.specs.Symbolic.{Atom, truthSymbol, pair, sameAtom, atom, constantly, Origin, apart, equalReferences}
 use Rattle.rules.specs.Symbolic.Laws.{SameAtoms, same-atoms, atoms-same, sameAtom-refl}
-use Rattle.terms.specs.Atoms.{holds, isAtom, atomAt, atomRowOf, atomLeft, placeOf, bothMade, referencesRow, referencesLeft}
+use Rattle.terms.specs.Atoms.{holds, isAtom, atomAt, atomRowOf, atomLeft, referencesRow, referencesLeft}
 use Rattle.terms.specs.Atoms.Laws.{left-found, left-made, row-one, left-one, row-apart, left-apart, row-open, left-open}
+use Rattle.terms.specs.References.{referenceAt, symbolAt, apartAt}
+use Rattle.terms.specs.References.Laws.{symbol-of, apart-of}
 use Rattle.terms.specs.Search.{first-cases}
-use Rattle.terms.specs.Terms.{countIn, rowIn, Space, pushed, AtomRow, TruthRow, Distinct, Made}
+use Rattle.terms.specs.Terms.{countIn, rowIn, Space, pushed, AtomRow, TruthRow, Distinct, Made, ofDifference, ofPair, ofTruth}
 use Rattle.terms.specs.Terms.Laws.{added-refl, pushed-op, pushed-a, pushed-b, pushed-added, pushed-inside, pushed-distinct, made-constant}
 use Rattle.terms.specs.declared.Row.{Row}
 
@@ -59,7 +61,7 @@ not-same x y n = go (sameAtom x y) refl
     go false e = refl
 
 -- the same atom of symbols has the same operator and operands, in either order
-same-row : {ws left : List ℕ} {i n : ℕ} {x y : Atom} → AtomRow ws i x → AtomRow left n y → SameAtoms x y → rowIn left n .op < 10
+same-row : {ws left : List ℕ} {i n : ℕ} {x y : Atom} → AtomRow ws i x → AtomRow left n y → SameAtoms x y → rowIn left n .op < ofDifference
     → Holds (rowIn left n .op) (rowIn left n .a) (rowIn left n .b) (rowIn ws i)
 same-row (AtomRow.truthSymbolRow e f g) (AtomRow.truthSymbolRow e′ f′ g′) (SameAtoms.oneTruth k) h =
     inOrder (e ∙ sym e′) (f ∙ k ∙ sym f′) (g ∙ k ∙ sym g′)
@@ -72,7 +74,7 @@ same-row u (AtomRow.differenceRow e′ f′ g′ l m p q) (SameAtoms.opposites k
 
 -- ---- found or made
 
-module _ {ws : List ℕ} (s : Space ws 1) (d : Distinct ws) (op a b : ℕ) (h : op < 10) (y : Atom)
+module _ {ws : List ℕ} (s : Space ws 1) (d : Distinct ws) (op a b : ℕ) (h : op < ofDifference) (y : Atom)
     (old : (left : List ℕ) (i : ℕ) → Holds op a b (rowIn left i) → TruthRow left i (atom y)) where
   new-row : ((i : ℕ) → i < countIn ws → atomAt ws op a b i ≡ false) → Distinct (pushed ws op a b)
   new-row none = pushed-distinct s d op a b (λ e. absurd (omega arith)) λ i x z l u v. not-same x z λ k.
@@ -98,43 +100,25 @@ module _ {ws : List ℕ} (s : Space ws 1) (d : Distinct ws) (op a b : ℕ) (h : 
             distinct = new-row n;
           })
 
-truth-row : (u : ℕ) (left : List ℕ) (i : ℕ) → Holds 8 u u (rowIn left i) → TruthRow left i (atom (truthSymbol u))
+truth-row : (u : ℕ) (left : List ℕ) (i : ℕ) → Holds ofTruth u u (rowIn left i) → TruthRow left i (atom (truthSymbol u))
 truth-row u left i (inOrder e f g) = TruthRow.atomRow (AtomRow.truthSymbolRow e f g) (sameAtom-refl (truthSymbol u))
 truth-row u left i (turned e f g) = TruthRow.atomRow (AtomRow.truthSymbolRow e f g) (sameAtom-refl (truthSymbol u))
 
-pair-row : (a b : ℕ) (left : List ℕ) (i : ℕ) → Holds 9 a b (rowIn left i) → TruthRow left i (atom (pair a b))
+pair-row : (a b : ℕ) (left : List ℕ) (i : ℕ) → Holds ofPair a b (rowIn left i) → TruthRow left i (atom (pair a b))
 pair-row a b left i (inOrder e f g) = TruthRow.atomRow (AtomRow.pairRow e f g) (sameAtom-refl (pair a b))
 pair-row a b left i (turned e f g) = TruthRow.atomRow (AtomRow.pairRow e f g) (atoms-same (SameAtoms.crossed refl refl))
 
 -- what `symbols_atom` gives of a truth symbol
-pub made-truth : {ws : List ℕ} → Space ws 1 → Distinct ws → (u r : ℕ) (left : List ℕ) → r ≡ atomRowOf ws 8 u u → left ≡ atomLeft ws 8 u u
+pub made-truth : {ws : List ℕ} → Space ws 1 → Distinct ws → (u r : ℕ) (left : List ℕ) → r ≡ atomRowOf ws ofTruth u u → left ≡ atomLeft ws ofTruth u u
     → Made ws left r (atom (truthSymbol u))
-made-truth s d u = made-by s d 8 u u (omega arith) (truthSymbol u) (truth-row u)
+made-truth s d u = made-by s d ofTruth u u (omega arith) (truthSymbol u) (truth-row u)
 
 -- what `symbols_atom` gives of a pair of reference symbols
-pub made-pair : {ws : List ℕ} → Space ws 1 → Distinct ws → (a b r : ℕ) (left : List ℕ) → r ≡ atomRowOf ws 9 a b → left ≡ atomLeft ws 9 a b
+pub made-pair : {ws : List ℕ} → Space ws 1 → Distinct ws → (a b r : ℕ) (left : List ℕ) → r ≡ atomRowOf ws ofPair a b → left ≡ atomLeft ws ofPair a b
     → Made ws left r (atom (pair a b))
-made-pair s d a b = made-by s d 9 a b (omega arith) (pair a b) (pair-row a b)
+made-pair s d a b = made-by s d ofPair a b (omega arith) (pair a b) (pair-row a b)
 
 -- ---- references
-
-half : (o : Origin) (s : ℕ) → placeOf o s / 2 ≡ s
-half made s = omega arith
-half other s = omega arith
-
-odd : (s : ℕ) → eqb ((2 * s + 1) % 2) 1 ≡ true
-odd s = eq-eqb ((2 * s + 1) % 2) 1 (omega arith)
-
-even : (s : ℕ) → eqb (2 * s % 2) 1 ≡ false
-even s = ne-eqb (2 * s % 2) 1 λ e. omega arith
-
--- two different symbols of this path's `ref`
-both-apart : (o : Origin) (s : ℕ) (p : Origin) (u : ℕ) → (s ≡ u → ⊥) → bothMade (placeOf o s) (placeOf p u) ≡ apart o s p u
-unfolding bothMade apart
-both-apart made s made u n = rw (odd s, odd u, ne-eqb s u n) refl
-both-apart made s other u n = rw (odd s, even u) refl
-both-apart other s made u n = rw (even s) refl
-both-apart other s other u n = rw (even s) refl
 
 equal-one : (o : Origin) (s : ℕ) (p : Origin) (u : ℕ) → eqb s u ≡ true → equalReferences o s p u ≡ constantly true
 unfolding equalReferences
@@ -150,25 +134,32 @@ equal-open o s p u t v = rw (t, v) refl
 
 -- what `equal_references` gives
 pub made-references : {ws : List ℕ} → Space ws 1 → Distinct ws → (o : Origin) (s : ℕ) (p : Origin) (u : ℕ) (r : ℕ) (left : List ℕ)
-    → r ≡ referencesRow ws (placeOf o s) (placeOf p u) → left ≡ referencesLeft ws (placeOf o s) (placeOf p u)
+    → r ≡ referencesRow ws (referenceAt o s) (referenceAt p u) → left ≡ referencesLeft ws (referenceAt o s) (referenceAt p u)
     → Made ws left r (equalReferences o s p u)
 made-references {ws} sp d o s p u r left e f = go (eqb s u) refl (apart o s p u) refl
   where
-    differ : eqb s u ≡ false → placeOf o s / 2 ≡ placeOf p u / 2 → ⊥
-    differ t k = eqb-false s u t (sym (half o s) ∙ k ∙ half p u)
+    first : s ≡ symbolAt (referenceAt o s)
+    first = sym (symbol-of o s)
 
-    both : eqb s u ≡ false → (v : Bool) → apart o s p u ≡ v → bothMade (placeOf o s) (placeOf p u) ≡ v
-    both t v k = both-apart o s p u (eqb-false s u t) ∙ k
+    second : u ≡ symbolAt (referenceAt p u)
+    second = sym (symbol-of p u)
+
+    known : (v : Bool) → apart o s p u ≡ v → apartAt (referenceAt o s) (referenceAt p u) ≡ v
+    known v k = apart-of o s p u ∙ k
 
     go : (t : Bool) → eqb s u ≡ t → (v : Bool) → apart o s p u ≡ v → Made ws left r (equalReferences o s p u)
     go true t v k =
-        let h : placeOf o s / 2 ≡ placeOf p u / 2 = half o s ∙ eqb-true s u t ∙ sym (half p u) in
-        rw (e, f, sym (row-one ws (placeOf o s) (placeOf p u) h), sym (left-one ws (placeOf o s) (placeOf p u) h), equal-one o s p u t)
+        let n = eqb-true s u t in
+        rw (e, f, sym (row-one ws (referenceAt o s) (referenceAt p u) first second n), sym (left-one ws (referenceAt o s) (referenceAt p u) first second n), equal-one o s p u t)
         (made-constant sp d true 0)
     go false t true k =
-        rw (e, f, sym (row-apart ws (placeOf o s) (placeOf p u) (differ t) (both t true k)), sym (left-apart ws (placeOf o s) (placeOf p u) (differ t) (both t true k)), equal-apart o s p u t k)
+        let n = eqb-false s u t in
+        let a = known true k in
+        rw (e, f, sym (row-apart ws (referenceAt o s) (referenceAt p u) first second n a), sym (left-apart ws (referenceAt o s) (referenceAt p u) first second n a), equal-apart o s p u t k)
         (made-constant sp d false 0)
     go false t false k =
+        let n = eqb-false s u t in
+        let a = known false k in
         rw (equal-open o s p u t k)
-        (made-pair sp d s u r left (e ∙ sym (row-open ws (placeOf o s) (placeOf p u) (differ t) (both t false k)) ∙ rw (half o s, half p u) refl)
-        (f ∙ sym (left-open ws (placeOf o s) (placeOf p u) (differ t) (both t false k)) ∙ rw (half o s, half p u) refl))
+        (made-pair sp d s u r left (e ∙ sym (row-open ws (referenceAt o s) (referenceAt p u) first second n a))
+        (f ∙ sym (left-open ws (referenceAt o s) (referenceAt p u) first second n a)))

@@ -11,7 +11,8 @@ use lib.Seq.{set-getD}
 use borrow.Author.Tests.{eqb-true, ltb-true, ltb-false, eq-eqb, ne-eqb, lt-ltb, le-ltb}
 use Rattle.script.specs.Tests.{pick}
 use Rattle.script.specs.Tests.Laws.{both-true, true-both}
-use Rattle.terms.specs.Terms.{rowIn, rowLimit, symbolLimit}
+use Rattle.terms.specs.Places.{rowLimit, symbolLimit}
+use Rattle.terms.specs.Terms.{rowIn, ofNumber, ofSum, ofSymbol}
 use Rattle.terms.specs.declared.Row.{Row}
 use Rattle.words.specs.Sums.{placeCount, added, joins, isSymbol, spread, gather, passed, rowsTo, startWeights, subtracted, noNumbers, numbersOf, alike, sameNumbers, oppositeNumbers, Room, Two}
 
@@ -64,29 +65,29 @@ pub other-joins : (row : Row) (op i : ℕ) → (row .op ≡ op → ⊥) → join
 other-joins row op i n = sym (joins-op row op i n)
 
 module _ (row : Row) where
-  pub symbol-op : (row .op ≡ 1 → ⊥) → false ≡ isSymbol row
+  pub symbol-op : (row .op ≡ ofSymbol → ⊥) → false ≡ isSymbol row
   unfolding isSymbol
-  symbol-op n = rw (ne-eqb (row .op) 1 n) refl
+  symbol-op n = rw (ne-eqb (row .op) ofSymbol n) refl
 
-  pub symbol-a : row .op ≡ 1 → ltb (row .a) symbolLimit ≡ isSymbol row
+  pub symbol-a : row .op ≡ ofSymbol → ltb (row .a) symbolLimit ≡ isSymbol row
   unfolding isSymbol
-  symbol-a e = rw (eq-eqb (row .op) 1 e) refl
+  symbol-a e = rw (eq-eqb (row .op) ofSymbol e) refl
 
 -- what the test tells
 pub record SymbolOf (row : Row) : Type 0 where
-  pub is : row .op ≡ 1
+  pub is : row .op ≡ ofSymbol
   pub below : row .a < symbolLimit
 
 pub symbol-of : (row : Row) → isSymbol row ≡ true → SymbolOf row
 unfolding isSymbol
 symbol-of row t =
-    let u = both-true (eqb (row .op) 1) (ltb (row .a) symbolLimit) t in
-    record { is = eqb-true (row .op) 1 (u .0); below = ltb-true (row .a) symbolLimit (u .1) }
+    let u = both-true (eqb (row .op) ofSymbol) (ltb (row .a) symbolLimit) t in
+    record { is = eqb-true (row .op) ofSymbol (u .0); below = ltb-true (row .a) symbolLimit (u .1) }
 
 pub of-symbol : (row : Row) → SymbolOf row → isSymbol row ≡ true
 unfolding isSymbol
 of-symbol row s =
-    true-both (eqb (row .op) 1) (ltb (row .a) symbolLimit) (eq-eqb (row .op) 1 (s .is)) (lt-ltb (row .a) symbolLimit (s .below))
+    true-both (eqb (row .op) ofSymbol) (ltb (row .a) symbolLimit) (eq-eqb (row .op) ofSymbol (s .is)) (lt-ltb (row .a) symbolLimit (s .below))
 
 -- ---- weights
 
@@ -94,38 +95,38 @@ pub added-length : (xs : List ℕ) (at v : ℕ) → length (added xs at v) ≡ l
 added-length xs at v = length-set xs at ((getD xs at 0 + v) % 2 ^ 32)
 
 module _ (xs : List ℕ) (row : Row) (i w : ℕ) where
-  pub spread-sum : (ys zs : List ℕ) → joins row 2 i ≡ true → ys ≡ added xs (row .a) w → zs ≡ added ys (row .b) w → zs ≡ spread xs row i w
+  pub spread-sum : (ys zs : List ℕ) → joins row ofSum i ≡ true → ys ≡ added xs (row .a) w → zs ≡ added ys (row .b) w → zs ≡ spread xs row i w
   unfolding spread
   spread-sum ys zs t e f = rw t (f ∙ ap (λ (l : List ℕ). added l (row .b) w) e)
 
-  pub spread-other : joins row 2 i ≡ false → xs ≡ spread xs row i w
+  pub spread-other : joins row ofSum i ≡ false → xs ≡ spread xs row i w
   unfolding spread
   spread-other t = rw t refl
 
   pub spread-length : length (spread xs row i w) ≡ length xs
   unfolding spread
-  spread-length = go (joins row 2 i)
+  spread-length = go (joins row ofSum i)
     where
       go : (t : Bool) → length (pick t (added (added xs (row .a) w) (row .b) w) xs) ≡ length xs
       go true = simp length-set
       go false = refl
 
 module _ (xs : List ℕ) (row : Row) (w : ℕ) where
-  pub gather-number : (t : ℕ) (ys : List ℕ) → row .op ≡ 0 → t ≡ w * row .a % 2 ^ 32 → ys ≡ added xs 0 t → ys ≡ gather xs row w
+  pub gather-number : (t : ℕ) (ys : List ℕ) → row .op ≡ ofNumber → t ≡ w * row .a % 2 ^ 32 → ys ≡ added xs 0 t → ys ≡ gather xs row w
   unfolding gather
-  gather-number t ys e f g = rw (eq-eqb (row .op) 0 e) (g ∙ ap (added xs 0) f)
+  gather-number t ys e f g = rw (eq-eqb (row .op) ofNumber e) (g ∙ ap (added xs 0) f)
 
-  pub gather-symbol : (ys : List ℕ) → (row .op ≡ 0 → ⊥) → isSymbol row ≡ true → ys ≡ added xs (row .a + 1) w → ys ≡ gather xs row w
+  pub gather-symbol : (ys : List ℕ) → (row .op ≡ ofNumber → ⊥) → isSymbol row ≡ true → ys ≡ added xs (row .a + 1) w → ys ≡ gather xs row w
   unfolding gather
-  gather-symbol ys n t e = rw (ne-eqb (row .op) 0 n, t) e
+  gather-symbol ys n t e = rw (ne-eqb (row .op) ofNumber n, t) e
 
-  pub gather-other : (row .op ≡ 0 → ⊥) → isSymbol row ≡ false → xs ≡ gather xs row w
+  pub gather-other : (row .op ≡ ofNumber → ⊥) → isSymbol row ≡ false → xs ≡ gather xs row w
   unfolding gather
-  gather-other n t = rw (ne-eqb (row .op) 0 n, t) refl
+  gather-other n t = rw (ne-eqb (row .op) ofNumber n, t) refl
 
   pub gather-length : length (gather xs row w) ≡ length xs
   unfolding gather
-  gather-length = go (eqb (row .op) 0) (isSymbol row)
+  gather-length = go (eqb (row .op) ofNumber) (isSymbol row)
     where
       go : (t u : Bool) → length (pick t (added xs 0 (w * row .a % 2 ^ 32)) (pick u (added xs (row .a + 1) w) xs)) ≡ length xs
       go true u = simp length-set
@@ -146,7 +147,7 @@ added-zero xs at h = ap (set xs at) (same (getD xs at 0) (h .below at)) ∙ set-
 
 pub spread-zero : (xs : List ℕ) (row : Row) (i : ℕ) → Reduced xs → spread xs row i 0 ≡ xs
 unfolding spread
-spread-zero xs row i h = go (joins row 2 i)
+spread-zero xs row i h = go (joins row ofSum i)
   where
     go : (t : Bool) → pick t (added (added xs (row .a) 0) (row .b) 0) xs ≡ xs
     go true = ap (λ (l : List ℕ). added l (row .b) 0) (added-zero xs (row .a) h) ∙ added-zero xs (row .b) h
@@ -154,7 +155,7 @@ spread-zero xs row i h = go (joins row 2 i)
 
 pub gather-zero : (xs : List ℕ) (row : Row) → Reduced xs → gather xs row 0 ≡ xs
 unfolding gather
-gather-zero xs row h = go (eqb (row .op) 0) (isSymbol row)
+gather-zero xs row h = go (eqb (row .op) ofNumber) (isSymbol row)
   where
     go : (t u : Bool) → pick t (added xs 0 (0 * row .a % 2 ^ 32)) (pick u (added xs (row .a + 1) 0) xs) ≡ xs
     go true u = rw (zero-mul (row .a)) (added-zero xs 0 h)

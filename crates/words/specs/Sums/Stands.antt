@@ -16,8 +16,9 @@ use Rattle.script.specs.Tests.Laws.{both-ways, or-cases, or-first, or-second}
 use Rattle.rules.specs.Demand3.Congruence.{Same, same-refl, same-eq, same-sym, same-trans, same-mod, same-plus, same-opposite}
 use Rattle.rules.specs.Symbolic.{Sum, plus, plusEach, opposite, oppositeEach, negated, minus, isZero, isConstant, difference}
 use Rattle.rules.specs.Symbolic.Laws.{Congruent, all-zero, zero-all, opposite-at, opposite-same, SameAtoms}
+use Rattle.terms.specs.Places.{rowLimit, symbolLimit}
 use Rattle.terms.specs.Search.{nowhere-each, each-nowhere}
-use Rattle.terms.specs.Terms.{rowIn, rowLimit, symbolLimit, SumRow}
+use Rattle.terms.specs.Terms.{rowIn, SumRow}
 use Rattle.words.specs.Sums.{placeCount, added, gather, spread, passed, numbersOf, noNumbers, rowsTo, startWeights, hasSymbol, constantNumbers, differsAt, sameNumbers, remainsAt, oppositeNumbers, alike}
 use Rattle.words.specs.Sums.Laws.{agrees, symbol-of, of-symbol, joined-joins, gather-number, gather-symbol, gather-other, gather-length, symbol-op}
 use Rattle.words.specs.Sums.Values.{modulus, unit, unit-here, unit-other, Kind, kindOf, value, value-number, value-symbol, value-sum, numbers-value}

@@ -13,7 +13,8 @@ use lib.Seq.{getD-set-same, getD-set-other, getD-at}
 use borrow.Author.Tests.{eqb-true, eqb-false, eq-eqb, ne-eqb}
 use Rattle.script.specs.Tests.{pick}
 use Rattle.rules.specs.Demand3.Congruence.{Same, same-refl, same-eq, same-trans, same-mod, same-plus, same-times}
-use Rattle.terms.specs.Terms.{rowIn, rowLimit}
+use Rattle.terms.specs.Places.{rowLimit}
+use Rattle.terms.specs.Terms.{rowIn, ofNumber, ofSum}
 use Rattle.terms.specs.declared.Row.{Row}
 use Rattle.words.specs.Sums.{placeCount, added, joins, isSymbol, spread, gather, passed, rowsTo, startWeights, noNumbers, numbersOf}
 use Rattle.words.specs.Sums.Laws.{joined, symbol-of, other-joins, spread-sum, spread-other, spread-length, gather-number, gather-symbol, gather-other, gather-length, added-length, rows-reach}
@@ -36,27 +37,27 @@ unit-other k at n = rw (ne-eqb k at n) refl
 -- ---- what a row is
 
 pub data Kind (row : Row) (i : ℕ) : Type 0 where
-  aNumber : row .op ≡ 0 → Kind row i
-  aSymbol : (row .op ≡ 0 → ⊥) → isSymbol row ≡ true → Kind row i
-  aSum : (row .op ≡ 0 → ⊥) → isSymbol row ≡ false → joins row 2 i ≡ true → Kind row i
-  noWord : (row .op ≡ 0 → ⊥) → isSymbol row ≡ false → joins row 2 i ≡ false → Kind row i
+  aNumber : row .op ≡ ofNumber → Kind row i
+  aSymbol : (row .op ≡ ofNumber → ⊥) → isSymbol row ≡ true → Kind row i
+  aSum : (row .op ≡ ofNumber → ⊥) → isSymbol row ≡ false → joins row ofSum i ≡ true → Kind row i
+  noWord : (row .op ≡ ofNumber → ⊥) → isSymbol row ≡ false → joins row ofSum i ≡ false → Kind row i
 
 pub kindOf : (row : Row) (i : ℕ) → Kind row i
-kindOf row i = go (eqb (row .op) 0) refl (isSymbol row) refl (joins row 2 i) refl
+kindOf row i = go (eqb (row .op) ofNumber) refl (isSymbol row) refl (joins row ofSum i) refl
   where
-    go : (t : Bool) → eqb (row .op) 0 ≡ t → (u : Bool) → isSymbol row ≡ u → (v : Bool) → joins row 2 i ≡ v → Kind row i
-    go true e u f v g = aNumber (eqb-true (row .op) 0 e)
-    go false e true f v g = aSymbol (eqb-false (row .op) 0 e) f
-    go false e false f true g = aSum (eqb-false (row .op) 0 e) f g
-    go false e false f false g = noWord (eqb-false (row .op) 0 e) f g
+    go : (t : Bool) → eqb (row .op) ofNumber ≡ t → (u : Bool) → isSymbol row ≡ u → (v : Bool) → joins row ofSum i ≡ v → Kind row i
+    go true e u f v g = aNumber (eqb-true (row .op) ofNumber e)
+    go false e true f v g = aSymbol (eqb-false (row .op) ofNumber e) f
+    go false e false f true g = aSum (eqb-false (row .op) ofNumber e) f g
+    go false e false f false g = noWord (eqb-false (row .op) ofNumber e) f g
 
 -- ---- values
 
 -- by the values of the earlier rows
 unfoldable pub rowValue : ℕ → Row → ℕ → List ℕ → ℕ
 rowValue k row i vs =
-    pick (eqb (row .op) 0) (row .a * unit k 0)
-    (pick (isSymbol row) (unit k (row .a + 1)) (pick (joins row 2 i) (getD vs (row .a) 0 + getD vs (row .b) 0) 0))
+    pick (eqb (row .op) ofNumber) (row .a * unit k 0)
+    (pick (isSymbol row) (unit k (row .a + 1)) (pick (joins row ofSum i) (getD vs (row .a) 0 + getD vs (row .b) 0) 0))
 
 -- the values of the rows below n
 unfoldable pub values : List ℕ → ℕ → ℕ → List ℕ
@@ -82,24 +83,24 @@ module _ (ws : List ℕ) (k : ℕ) where
       go (inl e) l f = rw e (getD-at (values ws k n) _ [] 0 n l)
       go (inr l) e f = List·getD-append (values ws k n) _ 0 a (omega arith) ∙ f l
 
-  pub value-number : (i : ℕ) → rowIn ws i .op ≡ 0 → value ws k i ≡ rowIn ws i .a * unit k 0
+  pub value-number : (i : ℕ) → rowIn ws i .op ≡ ofNumber → value ws k i ≡ rowIn ws i .a * unit k 0
   unfolding value rowValue
-  value-number i e = rw (eq-eqb (rowIn ws i .op) 0 e) refl
+  value-number i e = rw (eq-eqb (rowIn ws i .op) ofNumber e) refl
 
-  pub value-symbol : (i : ℕ) → (rowIn ws i .op ≡ 0 → ⊥) → isSymbol (rowIn ws i) ≡ true → value ws k i ≡ unit k (rowIn ws i .a + 1)
+  pub value-symbol : (i : ℕ) → (rowIn ws i .op ≡ ofNumber → ⊥) → isSymbol (rowIn ws i) ≡ true → value ws k i ≡ unit k (rowIn ws i .a + 1)
   unfolding value rowValue
-  value-symbol i n t = rw (ne-eqb (rowIn ws i .op) 0 n, t) refl
+  value-symbol i n t = rw (ne-eqb (rowIn ws i .op) ofNumber n, t) refl
 
-  pub value-sum : (i : ℕ) → (rowIn ws i .op ≡ 0 → ⊥) → isSymbol (rowIn ws i) ≡ false → joins (rowIn ws i) 2 i ≡ true
+  pub value-sum : (i : ℕ) → (rowIn ws i .op ≡ ofNumber → ⊥) → isSymbol (rowIn ws i) ≡ false → joins (rowIn ws i) ofSum i ≡ true
       → value ws k i ≡ value ws k (rowIn ws i .a) + value ws k (rowIn ws i .b)
   unfolding value rowValue
   value-sum i n t j =
       let w = joined (rowIn ws i) 2 i j in
-      rw (ne-eqb (rowIn ws i .op) 0 n, t, j, values-at i (rowIn ws i .a) (w .first), values-at i (rowIn ws i .b) (w .second)) refl
+      rw (ne-eqb (rowIn ws i .op) ofNumber n, t, j, values-at i (rowIn ws i .a) (w .first), values-at i (rowIn ws i .b) (w .second)) refl
 
-  pub value-none : (i : ℕ) → (rowIn ws i .op ≡ 0 → ⊥) → isSymbol (rowIn ws i) ≡ false → joins (rowIn ws i) 2 i ≡ false → value ws k i ≡ 0
+  pub value-none : (i : ℕ) → (rowIn ws i .op ≡ ofNumber → ⊥) → isSymbol (rowIn ws i) ≡ false → joins (rowIn ws i) ofSum i ≡ false → value ws k i ≡ 0
   unfolding value rowValue
-  value-none i n t j = rw (ne-eqb (rowIn ws i .op) 0 n, t, j) refl
+  value-none i n t j = rw (ne-eqb (rowIn ws i .op) ofNumber n, t, j) refl
 
 -- ---- weights times values
 
@@ -171,7 +172,7 @@ module _ (ws : List ℕ) (k i w : ℕ) (weights numbers : List ℕ) (h : i < len
   later : (d x y : ℕ) → d + (x + y) ≡ d + y + x
   later d x y = omega arith
 
-  pass-number : rowIn ws i .op ≡ 0 → Same modulus afterRow beforeRow
+  pass-number : rowIn ws i .op ≡ ofNumber → Same modulus afterRow beforeRow
   pass-number e =
       let j = other-joins (rowIn ws i) 2 i (λ f. omega arith) in
       let y = w * rowIn ws i .a in
@@ -179,14 +180,14 @@ module _ (ws : List ℕ) (k i w : ℕ) (weights numbers : List ℕ) (h : i < len
       (same-plus (same-refl (dot weights (value ws k) i))
       (same-trans (add-unit numbers 0 (y % 2 ^ 32) k (omega arith)) (same-plus (same-refl (getD numbers k 0)) (same-times (unit k 0) (same-mod y)))))
 
-  pass-symbol : (rowIn ws i .op ≡ 0 → ⊥) → isSymbol (rowIn ws i) ≡ true → Same modulus afterRow beforeRow
+  pass-symbol : (rowIn ws i .op ≡ ofNumber → ⊥) → isSymbol (rowIn ws i) ≡ true → Same modulus afterRow beforeRow
   pass-symbol n t =
       let u = symbol-of (rowIn ws i) t in
       let j = other-joins (rowIn ws i) 2 i (λ f. omega arith) in
       rw (sym (spread-other weights (rowIn ws i) i w j), sym (gather-symbol numbers (rowIn ws i) w _ n t refl), value-symbol ws k i n t, sym (later (dot weights (value ws k) i) (getD numbers k 0) (w * unit k (rowIn ws i .a + 1))))
       (same-plus (same-refl (dot weights (value ws k) i)) (add-unit numbers (rowIn ws i .a + 1) w k (omega arith)))
 
-  pass-sum : (rowIn ws i .op ≡ 0 → ⊥) → isSymbol (rowIn ws i) ≡ false → joins (rowIn ws i) 2 i ≡ true → Same modulus afterRow beforeRow
+  pass-sum : (rowIn ws i .op ≡ ofNumber → ⊥) → isSymbol (rowIn ws i) ≡ false → joins (rowIn ws i) ofSum i ≡ true → Same modulus afterRow beforeRow
   pass-sum n t j =
       let u = joined (rowIn ws i) 2 i j in
       let a = rowIn ws i .a in
@@ -197,7 +198,7 @@ module _ (ws : List ℕ) (k i w : ℕ) (weights numbers : List ℕ) (h : i < len
       rw (sym (spread-sum weights (rowIn ws i) i w _ _ j refl refl), sym (gather-other numbers (rowIn ws i) w n t), value-sum ws k i n t j, mul-add w (value ws k a) (value ws k b))
       (same-plus (same-trans two (same-trans (same-plus one (same-refl (w * value ws k b))) (same-eq (omega arith)))) (same-refl (getD numbers k 0)))
 
-  pass-none : (rowIn ws i .op ≡ 0 → ⊥) → isSymbol (rowIn ws i) ≡ false → joins (rowIn ws i) 2 i ≡ false → Same modulus afterRow beforeRow
+  pass-none : (rowIn ws i .op ≡ ofNumber → ⊥) → isSymbol (rowIn ws i) ≡ false → joins (rowIn ws i) ofSum i ≡ false → Same modulus afterRow beforeRow
   pass-none n t j =
       rw (sym (spread-other weights (rowIn ws i) i w j), sym (gather-other numbers (rowIn ws i) w n t), value-none ws k i n t j, mul-zero w)
       (same-eq (omega arith))

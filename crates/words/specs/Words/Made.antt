@@ -12,8 +12,9 @@ use Rattle.rules.specs.Symbolic.{Sum, minus, Atom, difference, atom, equalSums}
 use Rattle.rules.specs.Symbolic.Laws.{SameAtoms, atoms-same, sameAtom-refl}
 use Rattle.terms.specs.Atoms.Laws.{left-found, left-made}
 use Rattle.terms.specs.Atoms.Made.{not-same}
+use Rattle.terms.specs.Places.{rowLimit}
 use Rattle.terms.specs.Search.{first-cases}
-use Rattle.terms.specs.Terms.{countIn, rowIn, rowLimit, Space, pushed, SumRow, AtomRow, TruthRow, SomeAtom, Distinct, Made}
+use Rattle.terms.specs.Terms.{countIn, rowIn, Space, pushed, SumRow, AtomRow, TruthRow, SomeAtom, Distinct, Made, ofDifference}
 use Rattle.terms.specs.Terms.Laws.{added-refl, sum-from, sum-kept, pushed-op, pushed-a, pushed-b, pushed-grown, pushed-added, pushed-inside, pushed-distinct, made-constant}
 use Rattle.words.specs.Sums.{joins, numbersOf, constantNumbers}
 use Rattle.words.specs.Sums.Laws.{joined, joined-joins}
@@ -28,11 +29,11 @@ found-atom : {ws wanted : List ℕ} {d : Sum} (i : ℕ) → Distinct ws → i < 
     → TruthRow ws i (atom (difference d))
 unfolding isFound
 found-atom {ws} {wanted} {d} i c l h s t =
-    let u = both-true (joins (rowIn ws i) 10 i) _ t in
+    let u = both-true (joins (rowIn ws i) ofDifference i) _ t in
     let o = joined (rowIn ws i) 10 i (u .0) .is in
     go o (c .differences i l o) (u .1)
   where
-    go : rowIn ws i .op ≡ 10 → SomeAtom ws i → isWanted ws wanted (rowIn ws i .a) (rowIn ws i .b) ≡ true → TruthRow ws i (atom (difference d))
+    go : rowIn ws i .op ≡ ofDifference → SomeAtom ws i → isWanted ws wanted (rowIn ws i .a) (rowIn ws i .b) ≡ true → TruthRow ws i (atom (difference d))
     go o (SomeAtom.some-atom (AtomRow.truthSymbolRow e f g)) w = absurd (omega arith)
     go o (SomeAtom.some-atom (AtomRow.pairRow e f g)) w = absurd (omega arith)
     go o (SomeAtom.some-atom (AtomRow.differenceRow e f g m n a b)) w =
@@ -44,28 +45,28 @@ again : {ws : List ℕ} {i p q : ℕ} {x : Atom} {y z : Sum} → AtomRow ws i x 
     → SameAtoms x (difference (minus y z)) → isFound ws (numbersOf ws p q) i ≡ true
 unfolding isFound
 again {ws} {i} {p} {q} (AtomRow.differenceRow {j = j} {k = k} e f g l m a b) h u v c d same =
-    true-both (joins (rowIn ws i) 10 i) _ (joined-joins (rowIn ws i) 10 i (record { is = e; first = omega arith; second = omega arith }))
+    true-both (joins (rowIn ws i) ofDifference i) _ (joined-joins (rowIn ws i) 10 i (record { is = e; first = omega arith; second = omega arith }))
     (rw (f, g) (told-alike (numbers-stand a b (omega arith) (omega arith)) (numbers-stand u v c d) same))
 
 module _ {ws : List ℕ} (s : Space ws 1) (d : Distinct ws) {p q : ℕ} {x y : Sum} (u : SumRow ws p x) (v : SumRow ws q y)
     (h : p < countIn ws) (l : q < countIn ws) where
   -- the row that is pushed
-  new-atom : AtomRow (pushed ws 10 p q) (countIn ws) (difference (minus x y))
+  new-atom : AtomRow (pushed ws ofDifference p q) (countIn ws) (difference (minus x y))
   new-atom =
-      let g = pushed-grown s 10 p q in
-      AtomRow.differenceRow (pushed-op s 10 p q) (pushed-a s 10 p q) (pushed-b s 10 p q) h l (sum-kept g u h) (sum-kept g v l)
+      let g = pushed-grown s ofDifference p q in
+      AtomRow.differenceRow (pushed-op s ofDifference p q) (pushed-a s ofDifference p q) (pushed-b s ofDifference p q) h l (sum-kept g u h) (sum-kept g v l)
 
   -- no earlier row is the atom of the row that is pushed
-  new-difference : ((i : ℕ) → i < countIn ws → isFound ws (numbersOf ws p q) i ≡ false) → Distinct (pushed ws 10 p q)
-  new-difference none = pushed-distinct s d 10 p q (λ e. SomeAtom.some-atom new-atom) λ i a b m k n. not-same a b (go i a b m k n)
+  new-difference : ((i : ℕ) → i < countIn ws → isFound ws (numbersOf ws p q) i ≡ false) → Distinct (pushed ws ofDifference p q)
+  new-difference none = pushed-distinct s d ofDifference p q (λ e. SomeAtom.some-atom new-atom) λ i a b m k n. not-same a b (go i a b m k n)
     where
-      go : (i : ℕ) (a b : Atom) → i < countIn ws → AtomRow ws i a → AtomRow (pushed ws 10 p q) (countIn ws) b → SameAtoms a b → ⊥
-      go i a b m k (AtomRow.truthSymbolRow e f g) same = let o = pushed-op s 10 p q in omega arith
-      go i a b m k (AtomRow.pairRow e f g) same = let o = pushed-op s 10 p q in omega arith
+      go : (i : ℕ) (a b : Atom) → i < countIn ws → AtomRow ws i a → AtomRow (pushed ws ofDifference p q) (countIn ws) b → SameAtoms a b → ⊥
+      go i a b m k (AtomRow.truthSymbolRow e f g) same = let o = pushed-op s ofDifference p q in omega arith
+      go i a b m k (AtomRow.pairRow e f g) same = let o = pushed-op s ofDifference p q in omega arith
       go i a b m k (AtomRow.differenceRow {j = j} {k = o} e f g c w t z) same =
-          let left-p : p ≡ j = sym (pushed-a s 10 p q) ∙ f in
-          let left-q : q ≡ o = sym (pushed-b s 10 p q) ∙ g in
-          let grown = pushed-grown s 10 p q in
+          let left-p : p ≡ j = sym (pushed-a s ofDifference p q) ∙ f in
+          let left-q : q ≡ o = sym (pushed-b s ofDifference p q) ∙ g in
+          let grown = pushed-grown s ofDifference p q in
           false≢true (sym (none i m) ∙ rw (left-p, left-q) (again k (omega arith) (sum-from grown t (omega arith)) (sum-from grown z (omega arith)) (omega arith) (omega arith) same))
 
   made-atom : (r : ℕ) (left : List ℕ) → r ≡ differenceRowOf ws (numbersOf ws p q) → left ≡ differenceLeft ws (numbersOf ws p q) p q
@@ -81,8 +82,8 @@ module _ {ws : List ℕ} (s : Space ws 1) (d : Distinct ws) {p q : ℕ} {x y : S
       go (inr (m, n)) =
           rw (e, f, sym (left-made ws (differenceRowOf ws (numbersOf ws p q)) 10 p q (omega arith)), m)
           (record {
-            added = pushed-added s 10 p q;
-            inside = pushed-inside s 10 p q;
+            added = pushed-added s ofDifference p q;
+            inside = pushed-inside s ofDifference p q;
             is = TruthRow.atomRow new-atom (sameAtom-refl (difference (minus x y)));
             distinct = new-difference n;
           })

@@ -10,7 +10,8 @@ use lib.Seq.{getD-set-same, getD-set-other}
 use borrow.Author.Tests.{leb-true, leb-false, le-leb, lt-leb, eq-eqb, ne-eqb}
 use Rattle.script.specs.Code.Forms.{nodeIn, treeIn, some-operand, formed-less}
 use Rattle.script.specs.Tree.{Expr, int, truth, var, unary, binary, ifElse, letIn, typedBlock, symBlock, size}
-use Rattle.workspace.specs.Frames.{frameIn, topIn, waitsFor, Waitable, Waits, Descendable}
+use Rattle.workspace.specs.Frames.{frameIn, topIn, waitsFor, Waitable, Waits, Descendable, upTo}
+use Rattle.workspace.specs.Places.{frameWidth, goalAt, topAt}
 use Rattle.workspace.specs.Rules.Nodes.{First, shaped, first-of}
 
 -- ---- a new frame
@@ -29,23 +30,23 @@ module _ (fs : List ℕ) (at a b x y top : ℕ) where
   four = set three (at + 3) y
 
   abbrev five : List ℕ
-  five = set four 1 top
+  five = set four topAt top
 
   abbrev pub stored : List ℕ
-  stored = set five 0 top
+  stored = set five goalAt top
 
-  module _ (h : 4 ≤ at) (l : at + 3 < length fs) where
+  module _ (h : frameWidth ≤ at) (l : at + 3 < length fs) where
     pub stored-length : length stored ≡ length fs
     stored-length = simp length-set
 
-    pub stored-frame : getD stored 0 0 ≡ top
-    stored-frame = getD-set-same five 0 top 0 (simp length-set (omega arith))
+    pub stored-frame : getD stored goalAt 0 ≡ top
+    stored-frame = getD-set-same five goalAt top 0 (simp length-set (omega arith))
 
-    pub stored-top : getD stored 1 0 ≡ top
-    stored-top = getD-set-other five 0 1 top 0 (λ e. omega arith) ∙ getD-set-same four 1 top 0 (simp length-set (omega arith))
+    pub stored-top : getD stored topAt 0 ≡ top
+    stored-top = getD-set-other five goalAt topAt top 0 (λ e. omega arith) ∙ getD-set-same four topAt top 0 (simp length-set (omega arith))
 
     behind : (k : ℕ) → 2 ≤ k → getD stored k 0 ≡ getD four k 0
-    behind k i = getD-set-other five 0 k top 0 (λ e. omega arith) ∙ getD-set-other four 1 k top 0 (λ e. omega arith)
+    behind k i = getD-set-other five goalAt k top 0 (λ e. omega arith) ∙ getD-set-other four topAt k top 0 (λ e. omega arith)
 
     pub stored-third : getD stored (at + 3) 0 ≡ y
     stored-third = behind (at + 3) (omega arith) ∙ getD-set-same three (at + 3) y 0 (simp length-set (omega arith))
@@ -71,7 +72,7 @@ module _ (fs : List ℕ) (at a b x y top : ℕ) where
         ∙ getD-set-other one (at + 1) at b 0 (λ e. omega arith)
         ∙ getD-set-same fs at a 0 (omega arith)
 
-    pub stored-others : (k : ℕ) → 2 ≤ k → (at ≤ k → k < at + 4 → ⊥) → getD stored k 0 ≡ getD fs k 0
+    pub stored-others : (k : ℕ) → 2 ≤ k → (at ≤ k → k < at + frameWidth → ⊥) → getD stored k 0 ≡ getD fs k 0
     stored-others k i d =
         behind k i
         ∙ getD-set-other three (at + 3) k y 0 (λ e. d (omega arith) (omega arith))
@@ -82,25 +83,25 @@ module _ (fs : List ℕ) (at a b x y top : ℕ) where
 -- in a frame with number top
 module _ (n awaits x y : ℕ) (fs : List ℕ) (w : Waitable fs) (top : ℕ) (e : top ≡ suc (topIn fs)) where
   abbrev left : List ℕ
-  left = stored fs (4 * top) n (4 * frameIn fs + awaits) x y top
+  left = stored fs (frameWidth * top) n (upTo (frameIn fs) awaits) x y top
 
-  first-place : 4 ≤ 4 * top
+  first-place : frameWidth ≤ frameWidth * top
   first-place = omega arith
 
-  last-place : 4 * top + 3 < length fs
+  last-place : frameWidth * top + 3 < length fs
   last-place = omega (arith, w .lent, w .few)
 
   pub new-frame : Waits n awaits x y fs left
   new-frame =
       record {
-        same = stored-length fs (4 * top) n (4 * frameIn fs + awaits) x y top first-place last-place;
-        frame = stored-frame fs (4 * top) n (4 * frameIn fs + awaits) x y top first-place last-place ∙ e;
-        top = stored-top fs (4 * top) n (4 * frameIn fs + awaits) x y top first-place last-place ∙ e;
-        node = rw (sym e) (stored-node fs (4 * top) n (4 * frameIn fs + awaits) x y top first-place last-place);
-        up = rw (sym e) (stored-first fs (4 * top) n (4 * frameIn fs + awaits) x y top first-place last-place);
-        first = rw (sym e) (stored-second fs (4 * top) n (4 * frameIn fs + awaits) x y top first-place last-place);
-        second = rw (sym e) (stored-third fs (4 * top) n (4 * frameIn fs + awaits) x y top first-place last-place);
-        others = rw (sym e) (stored-others fs (4 * top) n (4 * frameIn fs + awaits) x y top first-place last-place);
+        same = stored-length fs (frameWidth * top) n (upTo (frameIn fs) awaits) x y top first-place last-place;
+        frame = stored-frame fs (frameWidth * top) n (upTo (frameIn fs) awaits) x y top first-place last-place ∙ e;
+        top = stored-top fs (frameWidth * top) n (upTo (frameIn fs) awaits) x y top first-place last-place ∙ e;
+        node = rw (sym e) (stored-node fs (frameWidth * top) n (upTo (frameIn fs) awaits) x y top first-place last-place);
+        up = rw (sym e) (stored-first fs (frameWidth * top) n (upTo (frameIn fs) awaits) x y top first-place last-place);
+        first = rw (sym e) (stored-second fs (frameWidth * top) n (upTo (frameIn fs) awaits) x y top first-place last-place);
+        second = rw (sym e) (stored-third fs (frameWidth * top) n (upTo (frameIn fs) awaits) x y top first-place last-place);
+        others = rw (sym e) (stored-others fs (frameWidth * top) n (upTo (frameIn fs) awaits) x y top first-place last-place);
       }
 
 -- ---- whether a node waits

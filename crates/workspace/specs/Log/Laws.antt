@@ -13,30 +13,31 @@ use borrow.Author.Tests.{eqb-true, eqb-false, le-leb, eq-eqb, ne-eqb}
 use Rattle.script.specs.Tests.{pick}
 use Rattle.script.specs.Limits.{nodeLimit}
 use Rattle.rules.specs.Paths.{Path, Write, writeOf, write, isRight, has, consistentAfter, lookup}
-use Rattle.rules.specs.Symbolic.{Origin, made, other, Symbolic, aReference, typeOf, apart}
-use Rattle.terms.specs.Terms.{countIn, Grown, rowLimit}
+use Rattle.rules.specs.Symbolic.{Origin, Symbolic, aReference, typeOf, apart}
+use Rattle.terms.specs.Places.{rowLimit, countAt}
+use Rattle.terms.specs.References.{apartAt, referenceAt, symbolAt}
+use Rattle.terms.specs.References.Laws.{apart-of, symbol-of}
+use Rattle.terms.specs.Terms.{countIn, Grown}
 use Rattle.terms.specs.Terms.Laws.{still-distinct}
-use Rattle.workspace.specs.Log.{rightOn, symbolOn, mendsOn, mendedOn, consistentOn, apartOn, lookupOn, FoundAs, found-none, found-some, written}
+use Rattle.workspace.specs.Log.{rightOn, symbolOn, mendsOn, mendedOn, consistentOn, lookupOn, FoundAs, found-none, found-some, written}
 use Rattle.workspace.specs.Log.Loops.{consistent-none, consistent-some, lookup-none, lookup-some}
+use Rattle.workspace.specs.Places.{baseAt, conditionAt, depthAt, nextAt, spaceSize, startAt, writeAt, writesAt}
 use Rattle.workspace.specs.Rules.{Ruled}
-use Rattle.workspace.specs.State.{writesIn, spaceSize, Means, madeSymbol, otherSymbol, Log, noWrite, aWrite, PathIn}
+use Rattle.workspace.specs.State.{writesIn, Means, referencePlace, Log, noWrite, aWrite, PathIn}
 use Rattle.workspace.specs.State.Laws.{still-known, path-moved, means-type, means-at, log-kept}
 use Rattle.workspace.specs.declared.Found.the-variants.{Value, Nothing}
 
 -- ---- a reference by its place
 
-abbrev isMade : Origin → Bool
-isMade made = true
-isMade other = false
-
-record PlaceOf (o : Origin) (c s t q : ℕ) : Type 0 where
+record Refers (o : Origin) (c s t q : ℕ) : Type 0 where
   type : t ≡ suc (suc c)
-  symbol : q / 2 ≡ s
-  origin : eqb (q % 2) 1 ≡ isMade o
+  place : q ≡ referenceAt o s
 
-place-of : {ws : List ℕ} {t q c s : ℕ} {o : Origin} → Means ws t q (aReference o c s) → PlaceOf o c s t q
-place-of {q = q} (madeSymbol e) = record { type = refl; symbol = omega arith; origin = eq-eqb (q % 2) 1 (omega arith) }
-place-of {q = q} (otherSymbol e) = record { type = refl; symbol = omega arith; origin = ne-eqb (q % 2) 1 λ h. omega arith }
+refer : {ws : List ℕ} {t q c s : ℕ} {o : Origin} → Means ws t q (aReference o c s) → Refers o c s t q
+refer (referencePlace e) = record { type = refl; place = e }
+
+symbol-is : {ws : List ℕ} {t q c s : ℕ} {o : Origin} → Means ws t q (aReference o c s) → symbolAt q ≡ s
+symbol-is {s = s} {o = o} m = ap symbolAt (refer m .place) ∙ symbol-of o s
 
 -- ---- consistency
 
@@ -50,10 +51,10 @@ eqb-turn a b = go (eqb a b) refl
 typed-right : (t c u : ℕ) → t ≡ suc (suc c) → (leb 2 t && eqb (t - 2) u) ≡ eqb u c
 typed-right t c u e = let f : t - 2 ≡ c = omega arith in rw (le-leb 2 t (omega arith), f) (eqb-turn c u)
 
-right-is : {ws : List ℕ} (k : ℕ) {c s : ℕ} {o : Origin} {v : Symbolic} → Means ws (getD ws (729 + 4 * k) 0) (getD ws (729 + 4 * k + 1) 0) (aReference o c s)
-    → {q : ℕ} → Means ws (getD ws (729 + 4 * k + 2) 0) q v → rightOn ws k ≡ eqb (typeOf v) c
+right-is : {ws : List ℕ} (k : ℕ) {c s : ℕ} {o : Origin} {v : Symbolic} → Means ws (getD ws (writeAt k) 0) (getD ws (writeAt k + 1) 0) (aReference o c s)
+    → {q : ℕ} → Means ws (getD ws (writeAt k + 2) 0) q v → rightOn ws k ≡ eqb (typeOf v) c
 right-is {ws} k {c = c} m n =
-    typed-right (getD ws (729 + 4 * k) 0) c (getD ws (729 + 4 * k + 2) 0) (place-of m .type) ∙ ap (λ (u : ℕ). eqb u c) (sym (means-type n))
+    typed-right (getD ws (writeAt k) 0) c (getD ws (writeAt k + 2) 0) (refer m .type) ∙ ap (λ (u : ℕ). eqb u c) (sym (means-type n))
 
 -- the writes end where they begin or behind it
 log-begins : {ws : List ℕ} {begin k : ℕ} {l : List Write} → Log ws begin k l → begin ≤ k
@@ -72,7 +73,7 @@ consistent-from {ws} {begin} (aWrite {k = k} {o = o} {t = t} {s = s} {v = v} {l 
     right = right-is k a b
 
     symbol : symbolOn ws k ≡ s
-    symbol = place-of a .symbol
+    symbol = symbol-is a
 
     go : (x : Bool) → isRight (writeOf o t s v) ≡ x
         → ((m : List ℕ) → ((u : ℕ) → (mendsOn ws u k || mendedOn ws u (suc k) more) ≡ has m u) → consistentOn ws begin (suc more) (k - begin) ≡ consistentAfter m l)
@@ -87,26 +88,17 @@ consistent-is r = consistent-from r 0 [] λ s. refl
 
 -- ---- what `get` finds
 
-apart-is : (o : Origin) (s : ℕ) (p : Origin) (u : ℕ) → apart o s p u ≡ (isMade o && isMade p && not (eqb s u))
-unfolding apart
-apart-is made s made u = refl
-apart-is made s other u = refl
-apart-is other s made u = refl
-apart-is other s other u = refl
-
 pub lookup-is : {ws : List ℕ} {begin k t q c s : ℕ} {o : Origin} {l : List Write} → Log ws begin k l → Means ws t q (aReference o c s)
     → FoundAs ws (lookupOn ws begin q (k - begin)) (lookup o s l)
 unfolding lookup
 lookup-is {ws} {begin} {q = q} noWrite m = rw (lookup-none ws begin q begin (omega arith)) found-none
 lookup-is {ws} {begin} {q = q} {s = s} {o = o} (aWrite {k = k} {o = p} {s = u} {v = v} {l = l} r a b) m =
-    let x = place-of a in
-    let y = place-of m in
-    let e : apartOn (getD ws (729 + 4 * k + 1) 0) q ≡ apart p u o s = rw (x .origin, y .origin, x .symbol, y .symbol) (sym (apart-is p u o s)) in
-    rw (lookup-some ws begin q k (log-begins r), e, x .symbol, y .symbol) (go (apart p u o s) (eqb u s) (lookup-is r m))
+    let e : apartAt (getD ws (writeAt k + 1) 0) q ≡ apart p u o s = rw (refer a .place, refer m .place) (apart-of p u o s) in
+    rw (lookup-some ws begin q k (log-begins r), e, symbol-is a, symbol-is m) (go (apart p u o s) (eqb u s) (lookup-is r m))
   where
     go : (d same : Bool) → FoundAs ws (lookupOn ws begin q (k - begin)) (lookup o s l)
         → FoundAs ws
-        (pick d (lookupOn ws begin q (k - begin)) (pick same (Value (getD ws (729 + 4 * k + 2) 0) (getD ws (729 + 4 * k + 3) 0)) Nothing))
+        (pick d (lookupOn ws begin q (k - begin)) (pick same (Value (getD ws (writeAt k + 2) 0) (getD ws (writeAt k + 3) 0)) Nothing))
         (pick d (lookup o s l) (pick same (some v) none))
     go true same f = f
     go false true f = found-some b
@@ -116,78 +108,78 @@ lookup-is {ws} {begin} {q = q} {s = s} {o = o} (aWrite {k = k} {o = p} {s = u} {
 
 module _ (ws : List ℕ) (t p u q : ℕ) (lent : spaceSize ≤ length ws) (few : writesIn ws < nodeLimit) (rows : countIn ws ≤ rowLimit) where
   abbrev one : List ℕ
-  one = set ws (729 + 4 * writesIn ws) t
+  one = set ws (writeAt (writesIn ws)) t
 
   abbrev two : List ℕ
-  two = set one (729 + 4 * writesIn ws + 1) p
+  two = set one (writeAt (writesIn ws) + 1) p
 
   abbrev three : List ℕ
-  three = set two (729 + 4 * writesIn ws + 2) u
+  three = set two (writeAt (writesIn ws) + 2) u
 
   abbrev four : List ℕ
-  four = set three (729 + 4 * writesIn ws + 3) q
+  four = set three (writeAt (writesIn ws) + 3) q
 
   pub written-length : length (written ws t p u q) ≡ length ws
   written-length = simp length-set
 
   pub written-writes : writesIn (written ws t p u q) ≡ writesIn ws + 1
-  written-writes = getD-set-same four 726 (writesIn ws + 1) 0 (simp length-set (omega arith))
+  written-writes = getD-set-same four writesAt (writesIn ws + 1) 0 (simp length-set (omega arith))
 
-  written-place : (k : ℕ) → (k ≡ 726 → ⊥) → (k ≡ 729 + 4 * writesIn ws → ⊥) → (k ≡ 729 + 4 * writesIn ws + 1 → ⊥) → (k ≡ 729 + 4 * writesIn ws + 2 → ⊥)
-      → (k ≡ 729 + 4 * writesIn ws + 3 → ⊥) → getD (written ws t p u q) k 0 ≡ getD ws k 0
+  written-place : (k : ℕ) → (k ≡ writesAt → ⊥) → (k ≡ writeAt (writesIn ws) → ⊥) → (k ≡ writeAt (writesIn ws) + 1 → ⊥) → (k ≡ writeAt (writesIn ws) + 2 → ⊥)
+      → (k ≡ writeAt (writesIn ws) + 3 → ⊥) → getD (written ws t p u q) k 0 ≡ getD ws k 0
   written-place k a b c d e =
-      getD-set-other four 726 k (writesIn ws + 1) 0 a
-      ∙ getD-set-other three (729 + 4 * writesIn ws + 3) k q 0 e
-      ∙ getD-set-other two (729 + 4 * writesIn ws + 2) k u 0 d
-      ∙ getD-set-other one (729 + 4 * writesIn ws + 1) k p 0 c
-      ∙ getD-set-other ws (729 + 4 * writesIn ws) k t 0 b
+      getD-set-other four writesAt k (writesIn ws + 1) 0 a
+      ∙ getD-set-other three (writeAt (writesIn ws) + 3) k q 0 e
+      ∙ getD-set-other two (writeAt (writesIn ws) + 2) k u 0 d
+      ∙ getD-set-other one (writeAt (writesIn ws) + 1) k p 0 c
+      ∙ getD-set-other ws (writeAt (writesIn ws)) k t 0 b
 
   -- every place but the count and the new write's is as it was
-  pub written-before : (k : ℕ) → (k ≡ 726 → ⊥) → k < 729 + 4 * writesIn ws → getD (written ws t p u q) k 0 ≡ getD ws k 0
+  pub written-before : (k : ℕ) → (k ≡ writesAt → ⊥) → k < writeAt (writesIn ws) → getD (written ws t p u q) k 0 ≡ getD ws k 0
   written-before k a l = written-place k a (λ e. omega arith) (λ e. omega arith) (λ e. omega arith) (λ e. omega arith)
 
-  pub written-behind : (k : ℕ) → 1241 ≤ k → getD (written ws t p u q) k 0 ≡ getD ws k 0
+  pub written-behind : (k : ℕ) → baseAt ≤ k → getD (written ws t p u q) k 0 ≡ getD ws k 0
   written-behind k l = written-place k (λ e. omega arith) (λ e. omega arith) (λ e. omega arith) (λ e. omega arith) (λ e. omega arith)
 
-  pub written-type : getD (written ws t p u q) (729 + 4 * writesIn ws) 0 ≡ t
+  pub written-type : getD (written ws t p u q) (writeAt (writesIn ws)) 0 ≡ t
   written-type =
       let n = writesIn ws in
-      getD-set-other four 726 (729 + 4 * n) (n + 1) 0 (λ e. omega arith)
-      ∙ getD-set-other three (729 + 4 * n + 3) (729 + 4 * n) q 0 (λ e. omega arith)
-      ∙ getD-set-other two (729 + 4 * n + 2) (729 + 4 * n) u 0 (λ e. omega arith)
-      ∙ getD-set-other one (729 + 4 * n + 1) (729 + 4 * n) p 0 (λ e. omega arith)
-      ∙ getD-set-same ws (729 + 4 * n) t 0 (omega arith)
+      getD-set-other four writesAt (writeAt n) (n + 1) 0 (λ e. omega arith)
+      ∙ getD-set-other three (writeAt n + 3) (writeAt n) q 0 (λ e. omega arith)
+      ∙ getD-set-other two (writeAt n + 2) (writeAt n) u 0 (λ e. omega arith)
+      ∙ getD-set-other one (writeAt n + 1) (writeAt n) p 0 (λ e. omega arith)
+      ∙ getD-set-same ws (writeAt n) t 0 (omega arith)
 
-  pub written-through : getD (written ws t p u q) (729 + 4 * writesIn ws + 1) 0 ≡ p
+  pub written-through : getD (written ws t p u q) (writeAt (writesIn ws) + 1) 0 ≡ p
   written-through =
       let n = writesIn ws in
-      getD-set-other four 726 (729 + 4 * n + 1) (n + 1) 0 (λ e. omega arith)
-      ∙ getD-set-other three (729 + 4 * n + 3) (729 + 4 * n + 1) q 0 (λ e. omega arith)
-      ∙ getD-set-other two (729 + 4 * n + 2) (729 + 4 * n + 1) u 0 (λ e. omega arith)
-      ∙ getD-set-same one (729 + 4 * n + 1) p 0 (simp length-set (omega arith))
+      getD-set-other four writesAt (writeAt n + 1) (n + 1) 0 (λ e. omega arith)
+      ∙ getD-set-other three (writeAt n + 3) (writeAt n + 1) q 0 (λ e. omega arith)
+      ∙ getD-set-other two (writeAt n + 2) (writeAt n + 1) u 0 (λ e. omega arith)
+      ∙ getD-set-same one (writeAt n + 1) p 0 (simp length-set (omega arith))
 
-  pub written-kind : getD (written ws t p u q) (729 + 4 * writesIn ws + 2) 0 ≡ u
+  pub written-kind : getD (written ws t p u q) (writeAt (writesIn ws) + 2) 0 ≡ u
   written-kind =
       let n = writesIn ws in
-      getD-set-other four 726 (729 + 4 * n + 2) (n + 1) 0 (λ e. omega arith)
-      ∙ getD-set-other three (729 + 4 * n + 3) (729 + 4 * n + 2) q 0 (λ e. omega arith)
-      ∙ getD-set-same two (729 + 4 * n + 2) u 0 (simp length-set (omega arith))
+      getD-set-other four writesAt (writeAt n + 2) (n + 1) 0 (λ e. omega arith)
+      ∙ getD-set-other three (writeAt n + 3) (writeAt n + 2) q 0 (λ e. omega arith)
+      ∙ getD-set-same two (writeAt n + 2) u 0 (simp length-set (omega arith))
 
-  pub written-value : getD (written ws t p u q) (729 + 4 * writesIn ws + 3) 0 ≡ q
+  pub written-value : getD (written ws t p u q) (writeAt (writesIn ws) + 3) 0 ≡ q
   written-value =
       let n = writesIn ws in
-      getD-set-other four 726 (729 + 4 * n + 3) (n + 1) 0 (λ e. omega arith)
-      ∙ getD-set-same three (729 + 4 * n + 3) q 0 (simp length-set (omega arith))
+      getD-set-other four writesAt (writeAt n + 3) (n + 1) 0 (λ e. omega arith)
+      ∙ getD-set-same three (writeAt n + 3) q 0 (simp length-set (omega arith))
 
   pub written-grown : Grown ws (written ws t p u q)
   written-grown =
-      let e = written-before 288 (λ h. omega arith) (omega arith) in
+      let e = written-before countAt (λ h. omega arith) (omega arith) in
       record { grows = omega arith; rows = λ k h l. written-before k (λ z. omega arith) (omega arith) }
 
   pub written-ruled : Ruled ws (written ws t p u q)
   written-ruled =
-      let c = written-before 288 (λ h. omega arith) (omega arith) in
-      let n = written-before 724 (λ h. omega arith) (omega arith) in
+      let c = written-before countAt (λ h. omega arith) (omega arith) in
+      let n = written-before nextAt (λ h. omega arith) (omega arith) in
       record {
         went = record {
           same = written-length;
@@ -199,17 +191,17 @@ module _ (ws : List ℕ) (t p u q : ℕ) (lent : spaceSize ≤ length ws) (few :
           logged = omega (arith, written-writes);
           log = λ k l h. written-before k (λ z. omega arith) h;
         };
-        depth = written-before 728 (λ h. omega arith) (omega arith);
+        depth = written-before depthAt (λ h. omega arith) (omega arith);
         notes = record { each = λ k l h. written-behind k l };
       }
 
   pub written-path : {o : Origin} {c s : ℕ} {v : Symbolic} (path : Path) → PathIn ws path → Means ws t p (aReference o c s) → Means ws u q v
       → PathIn (written ws t p u q) (write (writeOf o c s v) path)
   written-path path h m n =
-      let f = written-before 288 (λ z. omega arith) (omega arith) in
-      path-moved written-grown (still-distinct written-grown (omega (arith, f)) (h .distinct)) (written-before 725 (λ z. omega arith) (omega arith))
-      (written-before 724 (λ z. omega arith) (omega arith) ∙ h .next)
-      (rw (written-writes ∙ add-one (writesIn ws), written-before 727 (λ z. omega arith) (omega arith))
+      let f = written-before countAt (λ z. omega arith) (omega arith) in
+      path-moved written-grown (still-distinct written-grown (omega (arith, f)) (h .distinct)) (written-before conditionAt (λ z. omega arith) (omega arith))
+      (written-before nextAt (λ z. omega arith) (omega arith) ∙ h .next)
+      (rw (written-writes ∙ add-one (writesIn ws), written-before startAt (λ z. omega arith) (omega arith))
       (aWrite (log-kept (λ j i l. written-before j (λ z. omega arith) l) written-grown (h .log))
       (means-at written-grown written-type written-through m)
       (means-at written-grown written-kind written-value n)))

@@ -9,7 +9,9 @@ use lib.Dec.{leb, eqb}
 use lib.ListN.{getD}
 use borrow.Author.Tests.{le-leb, lt-leb, eq-eqb, ne-eqb}
 use Rattle.script.specs.Tests.{pick}
-use Rattle.workspace.specs.Log.{rightOn, mendsOn, mendedOn, settledOn, consistentOn, apartOn, lookupAt, lookupOn}
+use Rattle.terms.specs.References.{apartAt, symbolAt}
+use Rattle.workspace.specs.Log.{rightOn, mendsOn, mendedOn, settledOn, consistentOn, lookupAt, lookupOn}
+use Rattle.workspace.specs.Places.{writeAt}
 use Rattle.workspace.specs.declared.Found.{Found}
 use Rattle.workspace.specs.declared.Found.the-variants.{Value, Nothing}
 
@@ -96,27 +98,27 @@ pub record Looking (ws : List ℕ) (begin q count i : ℕ) : Type 0 where
 
 module _ (ws : List ℕ) (begin q count : ℕ) where
   abbrev throughOn : ℕ → ℕ
-  throughOn j = getD ws (729 + 4 * j + 1) 0
+  throughOn j = getD ws (writeAt j + 1) 0
 
   abbrev valueOn : ℕ → Found
-  valueOn j = Value (getD ws (729 + 4 * j + 2) 0) (getD ws (729 + 4 * j + 3) 0)
+  valueOn j = Value (getD ws (writeAt j + 2) 0) (getD ws (writeAt j + 3) 0)
 
   looking-by : (i j : ℕ) → i ≡ suc j → begin < i → lookupOn ws begin q (i - begin)
-      ≡ pick (apartOn (throughOn j) q) (lookupOn ws begin q (j - begin)) (pick (eqb (throughOn j / 2) (q / 2)) (valueOn j) Nothing)
+      ≡ pick (apartAt (throughOn j) q) (lookupOn ws begin q (j - begin)) (pick (eqb (symbolAt (throughOn j)) (symbolAt q)) (valueOn j) Nothing)
   looking-by i j e b = rw e (lookup-some ws begin q j (omega arith))
 
   pub looking-start : Looking ws begin q count count
   looking-start = record { within = omega arith; rest = refl }
 
-  pub looking-found : (i j : ℕ) → i ≡ suc j → begin < i → Looking ws begin q count i → apartOn (throughOn j) q ≡ false → throughOn j / 2 ≡ q / 2
+  pub looking-found : (i j : ℕ) → i ≡ suc j → begin < i → Looking ws begin q count i → apartAt (throughOn j) q ≡ false → symbolAt (throughOn j) ≡ symbolAt q
       → valueOn j ≡ lookupOn ws begin q (count - begin)
-  looking-found i j e b m f t = sym (m .rest ∙ looking-by i j e b ∙ rw (f, eq-eqb (throughOn j / 2) (q / 2) t) refl)
+  looking-found i j e b m f t = sym (m .rest ∙ looking-by i j e b ∙ rw (f, eq-eqb (symbolAt (throughOn j)) (symbolAt q) t) refl)
 
-  pub looking-none : (i j : ℕ) → i ≡ suc j → begin < i → Looking ws begin q count i → apartOn (throughOn j) q ≡ false → (throughOn j / 2 ≡ q / 2 → ⊥)
+  pub looking-none : (i j : ℕ) → i ≡ suc j → begin < i → Looking ws begin q count i → apartAt (throughOn j) q ≡ false → (symbolAt (throughOn j) ≡ symbolAt q → ⊥)
       → Nothing ≡ lookupOn ws begin q (count - begin)
-  looking-none i j e b m f t = sym (m .rest ∙ looking-by i j e b ∙ rw (f, ne-eqb (throughOn j / 2) (q / 2) t) refl)
+  looking-none i j e b m f t = sym (m .rest ∙ looking-by i j e b ∙ rw (f, ne-eqb (symbolAt (throughOn j)) (symbolAt q) t) refl)
 
-  pub looking-on : (i j : ℕ) → i ≡ suc j → begin < i → Looking ws begin q count i → apartOn (throughOn j) q ≡ true → Looking ws begin q count j
+  pub looking-on : (i j : ℕ) → i ≡ suc j → begin < i → Looking ws begin q count i → apartAt (throughOn j) q ≡ true → Looking ws begin q count j
   looking-on i j e b m t = record { within = omega (arith, e, m .within); rest = m .rest ∙ looking-by i j e b ∙ rw t refl }
 
   pub looking-end : (i : ℕ) → i ≤ begin → Looking ws begin q count i → Nothing ≡ lookupOn ws begin q (count - begin)
@@ -124,18 +126,8 @@ module _ (ws : List ℕ) (begin q count : ℕ) where
 
 -- ---- tests of a write
 
-pub right-typed : (ws : List ℕ) (i : ℕ) → 2 ≤ getD ws (729 + 4 * i) 0 → eqb (getD ws (729 + 4 * i) 0 - 2) (getD ws (729 + 4 * i + 2) 0) ≡ rightOn ws i
-right-typed ws i l = rw (le-leb 2 (getD ws (729 + 4 * i) 0) l) refl
+pub right-typed : (ws : List ℕ) (i : ℕ) → 2 ≤ getD ws (writeAt i) 0 → eqb (getD ws (writeAt i) 0 - 2) (getD ws (writeAt i + 2) 0) ≡ rightOn ws i
+right-typed ws i l = rw (le-leb 2 (getD ws (writeAt i) 0) l) refl
 
-pub right-untyped : (ws : List ℕ) (i : ℕ) → getD ws (729 + 4 * i) 0 < 2 → leb 2 (getD ws (729 + 4 * i) 0) ≡ rightOn ws i
-right-untyped ws i l = rw (lt-leb 2 (getD ws (729 + 4 * i) 0) l) refl
-
-module _ (p q : ℕ) where
-  pub apart-first : (p % 2 ≡ 1 → ⊥) → false ≡ apartOn p q
-  apart-first n = rw (ne-eqb (p % 2) 1 n) refl
-
-  pub apart-second : p % 2 ≡ 1 → (q % 2 ≡ 1 → ⊥) → false ≡ apartOn p q
-  apart-second e n = rw (eq-eqb (p % 2) 1 e, ne-eqb (q % 2) 1 n) refl
-
-  pub apart-both : p % 2 ≡ 1 → q % 2 ≡ 1 → not (eqb (p / 2) (q / 2)) ≡ apartOn p q
-  apart-both e f = rw (eq-eqb (p % 2) 1 e, eq-eqb (q % 2) 1 f) refl
+pub right-untyped : (ws : List ℕ) (i : ℕ) → getD ws (writeAt i) 0 < 2 → leb 2 (getD ws (writeAt i) 0) ≡ rightOn ws i
+right-untyped ws i l = rw (lt-leb 2 (getD ws (writeAt i) 0) l) refl

@@ -5,19 +5,20 @@ use mathlib.Core.Path.{_≡_, sym, ap, _∙_}
 use Prim.Native.Nat.{ℕ, _+_, _*_, _≤_, _<_}
 use native.Mathlib.Omega.{arith}
 use lib.ListN.{length, getD, getElem?}
-use Rattle.workspace.specs.Notes.{baseIn, noteAt, namesIn, nameIn, Agrees, NoteOf, Kept, Noting, Holding, Bare}
-use Rattle.workspace.specs.State.{spaceSize, Unnoted}
+use Rattle.workspace.specs.Notes.{baseIn, namesIn, nameIn, Agrees, NoteOf, Kept, Noting, Holding, Bare}
+use Rattle.workspace.specs.Places.{baseAt, nameLimit, noteAt, noteWidth, spaceSize}
+use Rattle.workspace.specs.State.{Unnoted}
 
 -- a note whose places are as they were, where the first variables have the types that they had
 module _ (ws left : List ℕ) (base : baseIn left ≡ baseIn ws) (first : (k : ℕ) → k < baseIn ws → getD left (2 * k) 0 ≡ getD ws (2 * k) 0) (i : ℕ)
-    (place : (k : ℕ) → noteAt i ≤ k → k < noteAt i + 16 → getD left k 0 ≡ getD ws k 0) where
+    (place : (k : ℕ) → noteAt i ≤ k → k < noteAt i + noteWidth → getD left k 0 ≡ getD ws k 0) where
   names-same : namesIn left (noteAt i) ≡ namesIn ws (noteAt i)
   names-same = place (noteAt i + 3) (omega arith) (omega arith)
 
-  name-same : (j : ℕ) → j < 6 → nameIn left (noteAt i) j ≡ nameIn ws (noteAt i) j
+  name-same : (j : ℕ) → j < nameLimit → nameIn left (noteAt i) j ≡ nameIn ws (noteAt i) j
   name-same j l = place (noteAt i + 4 + 2 * j) (omega arith) (omega arith)
 
-  agrees-same : {types : List ℕ} → namesIn ws (noteAt i) ≤ 6 → Agrees left (noteAt i) types → Agrees ws (noteAt i) types
+  agrees-same : {types : List ℕ} → namesIn ws (noteAt i) ≤ nameLimit → Agrees left (noteAt i) types → Agrees ws (noteAt i) types
   agrees-same {types} few a =
       record {
         first = λ k l. a .first k (omega (arith, l, base)) ∙ ap some (first k l);
@@ -42,7 +43,7 @@ kept-same : {limit : ℕ} {table ws left : List ℕ} → ((k : ℕ) → k < 2 * 
 kept-same {ws = ws} {left = left} first u k =
     record {
       notes = λ i h depth e.
-          note-same ws left (u .each 1241 (omega arith) (omega arith)) (λ j l. first (2 * j) (omega arith)) i (λ j l m. u .each j (omega arith) (omega arith))
+          note-same ws left (u .each baseAt (omega arith) (omega arith)) (λ j l. first (2 * j) (omega arith)) i (λ j l m. u .each j (omega arith) (omega arith))
           (k .notes i h depth (sym (u .each (noteAt i + 1) (omega arith) (omega arith)) ∙ e));
     }
 
@@ -53,7 +54,7 @@ module _ {limit : ℕ} {table ws : List ℕ} {depth : ℕ} (n : Noting limit tab
   pub still-holding : {left : List ℕ} → ((k : ℕ) → k < 2 * depth → getD left k 0 ≡ getD ws k 0) → Unnoted ws left → Holding limit table ws left
   still-holding b u =
       let d = n .based in
-      record { base = u .each 1241 (omega arith) (omega arith); kept = kept-same (λ k l. b k (omega arith)) u (n .kept) }
+      record { base = u .each baseAt (omega arith) (omega arith); kept = kept-same (λ k l. b k (omega arith)) u (n .kept) }
 
   -- what holds after it, perhaps with more variables
   pub noting-on : {left : List ℕ} (inner : ℕ) → depth ≤ inner → length left ≡ length ws → Holding limit table ws left → Noting limit table left inner

@@ -18,10 +18,11 @@ use Rattle.script.specs.Tree.{Expr}
 use Rattle.script.specs.declared.Checked.the-variants.{Accepted}
 use Rattle.rules.specs.Checking.{check}
 use Rattle.rules.specs.Checking.Mentions.{mentions, check-same}
-use Rattle.terms.specs.Terms.{symbolLimit}
-use Rattle.workspace.specs.Notes.{baseIn, noteAt, operandIn, depthIn, typeIn, namesIn, nameIn, namedType, Named, named, Nameable, namesFrom, namesTo, Naming, Names, notedAs, Agrees, NoteOf, Kept, Noted}
+use Rattle.terms.specs.Places.{symbolLimit}
+use Rattle.workspace.specs.Notes.{baseIn, operandIn, depthIn, typeIn, namesIn, nameIn, namedType, Named, named, Nameable, namesFrom, namesTo, Naming, Names, notedAs, Agrees, NoteOf, Kept, Noted}
 use Rattle.workspace.specs.Notes.Keeping.{note-same}
-use Rattle.workspace.specs.State.{spaceSize, typesOn}
+use Rattle.workspace.specs.Places.{baseAt, nameLimit, noteAt, noteLimit, noteWidth, notesAt, spaceSize, turnAt}
+use Rattle.workspace.specs.State.{typesOn}
 use Rattle.workspace.specs.State.Laws.{types-at, types-length, types-kept, none-at}
 
 -- ---- one variable more is named
@@ -38,7 +39,7 @@ module _ (at count k : ℕ) (xs : List ℕ) where
   named-length : length (named xs at count k) ≡ length xs
   named-length = simp length-set
 
-  module _ (lent : at + 16 ≤ length xs) (few : count < 6) where
+  module _ (lent : at + noteWidth ≤ length xs) (few : count < nameLimit) where
     named-name : nameIn (named xs at count k) at count ≡ k
     named-name =
         getD-set-other numbered (at + 5 + 2 * count) (at + 4 + 2 * count) (getD numbered (2 * k) 0) 0 (λ e. omega arith)
@@ -107,17 +108,17 @@ module _ (e : Expr) (depth at : ℕ) (ws : List ℕ) where
     pub upto-on : mentions e k ≡ false → {xs : List ℕ} {m : ℕ} → xs ≡ left → m ≡ count → Upto e depth at ws (k + 1) m xs
     upto-on f p q = rw (p, q) (upto-same f)
 
-    pub upto-named : count < 6 → Named left at count k
+    pub upto-named : count < nameLimit → Named left at count k
     upto-named few =
         let s = u .naming .same in
         record { lent = omega (arith, s, n .lent, n .high); wide = omega (arith, s, n .lent); few = few; inside = omega (arith, low, n .small) }
 
     -- k is mentioned, and there is room
-    module _ (few : count < 6) where
+    module _ (few : count < nameLimit) where
       abbrev more : List ℕ
       more = named left at count k
 
-      lent : at + 16 ≤ length left
+      lent : at + noteWidth ≤ length left
       lent = upto-named few .lent
 
       earlier-name : (i : ℕ) → i < count → nameIn more at i ≡ nameIn left at i
@@ -147,7 +148,7 @@ module _ (e : Expr) (depth at : ℕ) (ws : List ℕ) where
       unfolding namesFrom
       upto-one m =
           let s = u .naming in
-          let o : eqb count 6 ≡ false = ne-eqb count 6 (λ q. omega arith) in
+          let o : eqb count nameLimit ≡ false = ne-eqb count nameLimit (λ q. omega arith) in
           record {
             is = rw (add-one k, add-one count) (rw (left-on, m, o, add-one k) at (u .is));
             naming = record {
@@ -193,17 +194,17 @@ module _ (e : Expr) (depth at : ℕ) (ws : List ℕ) where
 
 -- every place is as it was, but those of the note at this place and of the turn
 record Elsewhere (at : ℕ) (ws left : List ℕ) : Type 0 where
-  each : (k : ℕ) → (k ≡ 1242 → ⊥) → (at ≤ k → k < at + 16 → ⊥) → getD left k 0 ≡ getD ws k 0
+  each : (k : ℕ) → (k ≡ turnAt → ⊥) → (at ≤ k → k < at + noteWidth → ⊥) → getD left k 0 ≡ getD ws k 0
 
 module _ {ws left : List ℕ} (turn : ℕ) (s : Elsewhere (noteAt turn) ws left) where
   base-same : baseIn left ≡ baseIn ws
-  base-same = s .each 1241 (λ e. omega arith) (λ a b. omega arith)
+  base-same = s .each baseAt (λ e. omega arith) (λ a b. omega arith)
 
   variable-same : (k : ℕ) → k < symbolLimit → getD left (2 * k) 0 ≡ getD ws (2 * k) 0
   variable-same k l = s .each (2 * k) (λ e. omega arith) (λ a b. omega arith)
 
   module _ (small : baseIn ws ≤ symbolLimit) (i : ℕ) (d : i ≡ turn → ⊥) where
-    place-same : (k : ℕ) → noteAt i ≤ k → k < noteAt i + 16 → getD left k 0 ≡ getD ws k 0
+    place-same : (k : ℕ) → noteAt i ≤ k → k < noteAt i + noteWidth → getD left k 0 ≡ getD ws k 0
     place-same k h l = s .each k (λ e. omega arith) (λ a b. omega arith)
 
     note-still : {limit depth : ℕ} {table : List ℕ} → NoteOf limit table ws (noteAt i) depth → NoteOf limit table left (noteAt i) depth
@@ -214,7 +215,7 @@ module _ {ws left : List ℕ} (turn : ℕ) (s : Elsewhere (noteAt turn) ws left)
       → ((depth : ℕ) → depthIn left (noteAt turn) ≡ suc depth → NoteOf limit table left (noteAt turn) depth) → Kept limit table left
   kept-still {limit} {table} small k new = record { notes = λ i l depth e. go i l depth e (eqb i turn) refl }
     where
-      go : (i : ℕ) → i < 8 → (depth : ℕ) → depthIn left (noteAt i) ≡ suc depth → (b : Bool) → eqb i turn ≡ b → NoteOf limit table left (noteAt i) depth
+      go : (i : ℕ) → i < noteLimit → (depth : ℕ) → depthIn left (noteAt i) ≡ suc depth → (b : Bool) → eqb i turn ≡ b → NoteOf limit table left (noteAt i) depth
       go i l depth e true q = let p = eqb-true i turn q in rw p (new depth (rw p at e))
       go i l depth e false q =
           let d = eqb-false i turn q in
@@ -235,9 +236,9 @@ record Put (at depth a t count : ℕ) (ws left : List ℕ) : Type 0 where
   variables : depthIn left at ≡ depth + 1
   type : typeIn left at ≡ t
   names : namesIn left at ≡ count
-  others : (k : ℕ) → (k ≡ 1242 → ⊥) → (at ≤ k → k < at + 4 → ⊥) → getD left k 0 ≡ getD ws k 0
+  others : (k : ℕ) → (k ≡ turnAt → ⊥) → (at ≤ k → k < at + 4 → ⊥) → getD left k 0 ≡ getD ws k 0
 
-module _ {e : Expr} {depth at a t count : ℕ} {ws middle left : List ℕ} (low : 1243 ≤ at) (small : depth ≤ symbolLimit) (base : baseIn ws ≤ depth)
+module _ {e : Expr} {depth at a t count : ℕ} {ws middle left : List ℕ} (low : notesAt ≤ at) (small : depth ≤ symbolLimit) (base : baseIn ws ≤ depth)
     (n : Naming e at ws depth count middle) (p : Put at depth a t count middle left) where
   put-name : (i : ℕ) → nameIn left at i ≡ nameIn middle at i
   put-name i = p .others (at + 4 + 2 * i) (λ q. omega arith) (λ x y. omega arith)
@@ -245,14 +246,14 @@ module _ {e : Expr} {depth at a t count : ℕ} {ws middle left : List ℕ} (low 
   put-named : (i : ℕ) → namedType left at i ≡ namedType middle at i
   put-named i = p .others (at + 5 + 2 * i) (λ q. omega arith) (λ x y. omega arith)
 
-  put-before : (k : ℕ) → k < 1242 → getD left k 0 ≡ getD ws k 0
+  put-before : (k : ℕ) → k < turnAt → getD left k 0 ≡ getD ws k 0
   put-before k l = p .others k (λ q. omega arith) (λ x y. omega arith) ∙ n .others k (λ x y. omega arith)
 
   -- agreeing types are those that there are, at each variable that the tree mentions
   module _ {types : List ℕ} (l : length types ≡ depth) (g : Agrees left at types) where
     first-at : (k : ℕ) → k < baseIn ws → getElem? types k ≡ getElem? (typesOn ws depth) k
     first-at k h =
-        let q = put-before 1241 (omega arith) in
+        let q = put-before baseAt (omega arith) in
         g .first k (omega arith) ∙ ap some (put-before (2 * k) (omega arith)) ∙ sym (types-at ws depth k (omega arith))
 
     named-at : (k : ℕ) → k < depth → (i : ℕ) × (i < count) × (nameIn middle at i ≡ k) → getElem? types k ≡ getElem? (typesOn ws depth) k
@@ -287,7 +288,7 @@ module _ {e : Expr} {depth at a t count : ℕ} {ws middle left : List ℕ} (low 
 
 -- ---- what becomes of the workspace
 
-module _ (ws : List ℕ) (depth turn : ℕ) (its : turn ≡ getD ws 1242 0 % 8) (low : turn < 8) (lent : spaceSize ≤ length ws) (small : depth ≤ symbolLimit) where
+module _ (ws : List ℕ) (depth turn : ℕ) (its : turn ≡ getD ws turnAt 0 % noteLimit) (low : turn < noteLimit) (lent : spaceSize ≤ length ws) (small : depth ≤ symbolLimit) where
   -- the note that is replaced says nothing from now on
   abbrev cleared : List ℕ
   cleared = set ws (noteAt turn + 1) 0
@@ -302,7 +303,7 @@ module _ (ws : List ℕ) (depth turn : ℕ) (its : turn ≡ getD ws 1242 0 % 8) 
   cleared-nameable = record { lent = omega (arith, lent, cleared-length); small = small; low = omega arith; high = omega arith }
 
   module _ (table : List ℕ) (a t : ℕ) {count : ℕ} {middle : List ℕ} (n : Names (treeIn table a) depth (noteAt turn) cleared count middle) where
-    middle-other : (k : ℕ) → (noteAt turn ≤ k → k < noteAt turn + 16 → ⊥) → getD middle k 0 ≡ getD ws k 0
+    middle-other : (k : ℕ) → (noteAt turn ≤ k → k < noteAt turn + noteWidth → ⊥) → getD middle k 0 ≡ getD ws k 0
     middle-other k d =
         n .others k (λ x y. d (omega arith) (omega arith)) ∙ cleared-other k (λ e. d (omega arith) (omega arith))
 
@@ -316,7 +317,7 @@ module _ (ws : List ℕ) (depth turn : ℕ) (its : turn ≡ getD ws 1242 0 % 8) 
     pub noted-nothing : 6 < count → Noted table depth a t ws middle
     unfolding notedAs
     noted-nothing many =
-        let o : leb count 6 ≡ false = lt-leb count 6 many in
+        let o : leb count nameLimit ≡ false = lt-leb count nameLimit many in
         record {
           is = rw (sym its, sym (n .is), o) refl;
           same = middle-length;
@@ -340,7 +341,7 @@ module _ (ws : List ℕ) (depth turn : ℕ) (its : turn ≡ getD ws 1242 0 % 8) 
     four = set three (noteAt turn + 3) count
 
     abbrev whole : List ℕ
-    whole = set four 1242 (turn + 1)
+    whole = set four turnAt (turn + 1)
 
     whole-put : Put (noteAt turn) depth a t count middle whole
     whole-put =
@@ -348,25 +349,25 @@ module _ (ws : List ℕ) (depth turn : ℕ) (its : turn ≡ getD ws 1242 0 % 8) 
         let l = middle-length in
         record {
           operand =
-              getD-set-other four 1242 at (turn + 1) 0 (λ e. omega arith)
+              getD-set-other four turnAt at (turn + 1) 0 (λ e. omega arith)
               ∙ getD-set-other three (at + 3) at count 0 (λ e. omega arith)
               ∙ getD-set-other two (at + 2) at t 0 (λ e. omega arith)
               ∙ getD-set-other one (at + 1) at (depth + 1) 0 (λ e. omega arith)
               ∙ getD-set-same middle at a 0 (omega arith);
           variables =
-              getD-set-other four 1242 (at + 1) (turn + 1) 0 (λ e. omega arith)
+              getD-set-other four turnAt (at + 1) (turn + 1) 0 (λ e. omega arith)
               ∙ getD-set-other three (at + 3) (at + 1) count 0 (λ e. omega arith)
               ∙ getD-set-other two (at + 2) (at + 1) t 0 (λ e. omega arith)
               ∙ getD-set-same one (at + 1) (depth + 1) 0 (simp length-set (omega arith));
           type =
-              getD-set-other four 1242 (at + 2) (turn + 1) 0 (λ e. omega arith)
+              getD-set-other four turnAt (at + 2) (turn + 1) 0 (λ e. omega arith)
               ∙ getD-set-other three (at + 3) (at + 2) count 0 (λ e. omega arith)
               ∙ getD-set-same two (at + 2) t 0 (simp length-set (omega arith));
           names =
-              getD-set-other four 1242 (at + 3) (turn + 1) 0 (λ e. omega arith)
+              getD-set-other four turnAt (at + 3) (turn + 1) 0 (λ e. omega arith)
               ∙ getD-set-same three (at + 3) count 0 (simp length-set (omega arith));
           others = λ k d e.
-              getD-set-other four 1242 k (turn + 1) 0 d
+              getD-set-other four turnAt k (turn + 1) 0 d
               ∙ getD-set-other three (at + 3) k count 0 (λ q. e (omega arith) (omega arith))
               ∙ getD-set-other two (at + 2) k t 0 (λ q. e (omega arith) (omega arith))
               ∙ getD-set-other one (at + 1) k (depth + 1) 0 (λ q. e (omega arith) (omega arith))
@@ -377,10 +378,10 @@ module _ (ws : List ℕ) (depth turn : ℕ) (its : turn ≡ getD ws 1242 0 % 8) 
     whole-elsewhere =
         record { each = λ k d e. whole-put .others k d (λ x y. e (omega arith) (omega arith)) ∙ middle-other k e }
 
-    pub noted-all : count ≤ 6 → Noted table depth a t ws whole
+    pub noted-all : count ≤ nameLimit → Noted table depth a t ws whole
     unfolding notedAs
     noted-all few =
-        let o : leb count 6 ≡ true = le-leb count 6 few in
+        let o : leb count nameLimit ≡ true = le-leb count nameLimit few in
         record {
           is = rw (sym its, sym (n .is), o) refl;
           same = simp length-set middle-length;
@@ -392,7 +393,7 @@ module _ (ws : List ℕ) (depth turn : ℕ) (its : turn ≡ getD ws 1242 0 % 8) 
         whole-right : (limit : ℕ) → baseIn ws ≤ depth → check limit (treeIn table a) (typesOn ws depth) ≡ Accepted t → (d : ℕ)
             → depthIn whole (noteAt turn) ≡ suc d → NoteOf limit table whole (noteAt turn) d
         whole-right limit base c d e =
-            let b : baseIn cleared ≤ depth = omega (arith, base, cleared-other 1241 (λ q. omega arith)) in
+            let b : baseIn cleared ≤ depth = omega (arith, base, cleared-other baseAt (λ q. omega arith)) in
             let f : typesOn cleared depth ≡ typesOn ws depth = types-kept ws cleared depth (λ k l. cleared-other k (λ q. omega arith)) in
             let q : d ≡ depth = omega (arith, e, whole-put .variables) in
             rw q (put-right (omega arith) small b (n .naming few b) whole-put refl (rw f c))

@@ -15,9 +15,10 @@ use Rattle.script.specs.Tests.{pick}
 use Rattle.script.specs.Tests.Laws.{both-true}
 use Rattle.script.specs.declared.Checked.the-variants.{Accepted}
 use Rattle.rules.specs.Checking.{check}
-use Rattle.terms.specs.Terms.{symbolLimit}
-use Rattle.workspace.specs.Notes.{baseIn, noteAt, operandIn, depthIn, typeIn, namesIn, nameIn, namedType, Recallables, agreesFrom, agreesOn, isOf, recalledOn, Agrees, NoteOf, Kept}
-use Rattle.workspace.specs.State.{spaceSize, typesOn}
+use Rattle.terms.specs.Places.{symbolLimit}
+use Rattle.workspace.specs.Notes.{baseIn, operandIn, depthIn, typeIn, namesIn, nameIn, namedType, Recallables, agreesFrom, agreesOn, isOf, recalledOn, Agrees, NoteOf, Kept}
+use Rattle.workspace.specs.Places.{noteAt, noteLimit, spaceSize}
+use Rattle.workspace.specs.State.{typesOn}
 use Rattle.workspace.specs.State.Laws.{types-at, types-length}
 use Rattle.workspace.specs.declared.Known.the-variants.{Typed, Nothing}
 
@@ -66,11 +67,11 @@ module _ (ws : List ℕ) (at depth a : ℕ) where
 
 -- none of the first i notes is one of node a
 pub record Recalling (ws : List ℕ) (depth a i : ℕ) : Type 0 where
-  pub within : i ≤ 8
-  pub rest : recalledOn ws depth a 0 8 ≡ recalledOn ws depth a i (8 - i)
+  pub within : i ≤ noteLimit
+  pub rest : recalledOn ws depth a 0 noteLimit ≡ recalledOn ws depth a i (noteLimit - i)
 
 module _ (ws : List ℕ) (depth a : ℕ) where
-  recalling-by : (i : ℕ) → i < 8 → recalledOn ws depth a i (8 - i)
+  recalling-by : (i : ℕ) → i < noteLimit → recalledOn ws depth a i (noteLimit - i)
       ≡ pick (isOf ws (noteAt i) depth a) (Typed (typeIn ws (noteAt i))) (recalledOn ws depth a (suc i) (8 - suc i))
   unfolding recalledOn
   recalling-by i l = let e : 8 - i ≡ suc (8 - suc i) = omega arith in rw e refl
@@ -79,13 +80,13 @@ module _ (ws : List ℕ) (depth a : ℕ) where
   recalling-start = record { within = omega arith; rest = refl }
 
   module _ (i : ℕ) (m : Recalling ws depth a i) where
-    pub recalling-found : i < 8 → isOf ws (noteAt i) depth a ≡ true → Typed (typeIn ws (noteAt i)) ≡ recalledOn ws depth a 0 8
+    pub recalling-found : i < noteLimit → isOf ws (noteAt i) depth a ≡ true → Typed (typeIn ws (noteAt i)) ≡ recalledOn ws depth a 0 noteLimit
     recalling-found l e = sym (m .rest ∙ recalling-by i l ∙ rw e refl)
 
-    pub recalling-on : i < 8 → isOf ws (noteAt i) depth a ≡ false → Recalling ws depth a (i + 1)
+    pub recalling-on : i < noteLimit → isOf ws (noteAt i) depth a ≡ false → Recalling ws depth a (i + 1)
     recalling-on l e = rw (add-one i) (record { within = omega arith; rest = m .rest ∙ recalling-by i l ∙ rw e refl })
 
-    pub recalling-end : 8 ≤ i → Nothing ≡ recalledOn ws depth a 0 8
+    pub recalling-end : 8 ≤ i → Nothing ≡ recalledOn ws depth a 0 noteLimit
     unfolding recalledOn
     recalling-end l = let e : 8 - i ≡ 0 = omega arith in sym (m .rest ∙ rw e refl)
 
@@ -113,14 +114,14 @@ module _ {limit : ℕ} {table ws : List ℕ} {depth : ℕ} (k : Kept limit table
         others = λ i l. types-at ws depth (nameIn ws at i) (n .inside i l) ∙ ap some (agrees-each ws at 0 (namesIn ws at) e i (omega arith) (omega arith));
       }
 
-  note-right : (i : ℕ) → i < 8 → isOf ws (noteAt i) depth a ≡ true → check limit (treeIn table a) (typesOn ws depth) ≡ Accepted (typeIn ws (noteAt i))
+  note-right : (i : ℕ) → i < noteLimit → isOf ws (noteAt i) depth a ≡ true → check limit (treeIn table a) (typesOn ws depth) ≡ Accepted (typeIn ws (noteAt i))
   note-right i l e =
       let p = both-true (eqb (operandIn ws (noteAt i)) a) _ e in
       let q = both-true (eqb (depthIn ws (noteAt i)) (depth + 1)) (agreesOn ws (noteAt i)) (p .1) in
       let n = k .notes i l depth (eqb-true _ _ (q .0) ∙ add-one depth) in
       rw (eqb-true (operandIn ws (noteAt i)) a (p .0)) at (n .right (typesOn ws depth) (types-length ws depth) (note-agrees (noteAt i) n (q .1)))
 
-  recalled-from : (i more t : ℕ) → i + more ≤ 8 → recalledOn ws depth a i more ≡ Typed t → check limit (treeIn table a) (typesOn ws depth) ≡ Accepted t
+  recalled-from : (i more t : ℕ) → i + more ≤ noteLimit → recalledOn ws depth a i more ≡ Typed t → check limit (treeIn table a) (typesOn ws depth) ≡ Accepted t
   unfolding recalledOn
   recalled-from i zero t l e = absurd (let z : _≡_ {A = ℕ} 0 1 = cc in omega arith)
   recalled-from i (suc more) t l e = go (isOf ws (noteAt i) depth a) refl e (recalled-from (suc i) more t (omega arith))
@@ -132,7 +133,7 @@ module _ {limit : ℕ} {table ws : List ℕ} {depth : ℕ} (k : Kept limit table
       go false q s f = f s
 
 -- what is recalled is the block's type
-pub recalled-right : {limit : ℕ} {table ws : List ℕ} {depth t : ℕ} (a : ℕ) → Kept limit table ws → baseIn ws ≤ depth → recalledOn ws depth a 0 8 ≡ Typed t
+pub recalled-right : {limit : ℕ} {table ws : List ℕ} {depth t : ℕ} (a : ℕ) → Kept limit table ws → baseIn ws ≤ depth → recalledOn ws depth a 0 noteLimit ≡ Typed t
     → check limit (treeIn table a) (typesOn ws depth) ≡ Accepted t
 recalled-right {t = t} a k low e = recalled-from k low a 0 8 t (omega arith) e
 

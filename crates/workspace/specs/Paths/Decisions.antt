@@ -13,7 +13,7 @@ use Rattle.rules.specs.Satisfiable.{satisfiable, differentAtoms}
 use Rattle.rules.specs.Satisfiable.Laws.{one-branch}
 use Rattle.rules.specs.Symbolic.{Formula, negation, conjunction, Symbolic, aTruth}
 use Rattle.rules.specs.SymbolicRules.{branches, decide, atomLimit}
-use Rattle.terms.specs.Terms.{countIn, Space, TruthRow}
+use Rattle.terms.specs.Terms.{countIn, Space, TruthRow, ofConjunction, ofExclusion}
 use Rattle.rows.specs.Decision.{branchesOf, decisionOf}
 use Rattle.rows.specs.declared.Decision.{Decision}
 use Rattle.rows.specs.declared.Decision.the-variants.{TooMany, Both, OnlyTrue, OnlyFalse}
@@ -21,8 +21,9 @@ use Rattle.rows.specs.Known.{remembers-sound}
 use Rattle.rows.specs.Promise.{Asked, Decides, Decidable as DecidableRows}
 use Rattle.workspace.specs.Paths.{assumed, Learns}
 use Rattle.workspace.specs.Paths.Conditions.{ruled-refl, learnt-room, assumed-ruled, assumed-with, assumed-without}
+use Rattle.workspace.specs.Places.{knownAt, spaceSize}
 use Rattle.workspace.specs.Rules.{Decidable, withGuard, withoutGuard, Chosen, first, second, both, neither, Chooses}
-use Rattle.workspace.specs.State.{conditionIn, knownAt, spaceSize, Means, wordRow, truthRow, madeSymbol, otherSymbol, PathIn, Room}
+use Rattle.workspace.specs.State.{conditionIn, Means, wordRow, truthRow, referencePlace, PathIn, Room}
 use Rattle.workspace.specs.State.Laws.{room-space}
 use Rattle.workspace.specs.declared.Branch.{Branch}
 use Rattle.workspace.specs.declared.Branch.the-variants.{First, Second, Neither}
@@ -95,8 +96,7 @@ no-truth : {ws : List ℕ} {n t q : ℕ} {v : Symbolic} {p : Path} → (t ≡ 1 
 unfolding decide
 no-truth d (wordRow l r) = neither λ e f. refl
 no-truth d (truthRow l r) = absurd (d refl)
-no-truth d (madeSymbol x) = neither λ e f. refl
-no-truth d (otherSymbol x) = neither λ e f. refl
+no-truth d (referencePlace x) = neither λ e f. refl
 
 pub chooses-no-truth : (n t q : ℕ) (ws : List ℕ) → (t ≡ 1 → ⊥) → Chooses n t q ws (Neither (WrongType n)) ws
 chooses-no-truth n t q ws d = record { ruled = ruled-refl ws; chosen = λ v p m h. no-truth d m }
@@ -154,22 +154,22 @@ module _ {q : ℕ} {ws xs : List ℕ} {D : Decision} (room : Room ws 1) (d : Dec
   decided-lent = learnt-room room learns .lent
 
   -- what is known then is the condition's with the guard, or without it
-  only-true : (n : ℕ) → D ≡ OnlyTrue → (v : Symbolic) (p : Path) → Means ws 1 q v → PathIn ws p → Chosen ws (assumed xs 5 q) n v p First
+  only-true : (n : ℕ) → D ≡ OnlyTrue → (v : Symbolic) (p : Path) → Means ws 1 q v → PathIn ws p → Chosen ws (assumed xs ofConjunction q) n v p First
   only-true n is v p (truthRow {f = g} l u) h =
       let a = true-allowed (p .condition) g (decision-is is u l h) in
       let k = d .with-guard (p .condition) g (asked room u l h) (h .remembers) is in
       first (assumed-with room learns (truthRow l u) a k h) λ e f. tree-is n is u l h e f
 
-  pub chooses-true : (n t : ℕ) → t ≡ 1 → D ≡ OnlyTrue → Chooses n t q ws First (assumed xs 5 q)
+  pub chooses-true : (n t : ℕ) → t ≡ 1 → D ≡ OnlyTrue → Chooses n t q ws First (assumed xs ofConjunction q)
   chooses-true n t x is = record { ruled = assumed-ruled room learns 5 q; chosen = λ v p m h. only-true n is v p (rw x at m) h }
 
-  only-false : (n : ℕ) → D ≡ OnlyFalse → (v : Symbolic) (p : Path) → Means ws 1 q v → PathIn ws p → Chosen ws (assumed xs 7 q) n v p Second
+  only-false : (n : ℕ) → D ≡ OnlyFalse → (v : Symbolic) (p : Path) → Means ws 1 q v → PathIn ws p → Chosen ws (assumed xs ofExclusion q) n v p Second
   only-false n is v p (truthRow {f = g} l u) h =
       let a = false-allowed (p .condition) g (h .allowed) (decision-is is u l h) in
       let k = d .without-guard (p .condition) g (asked room u l h) (h .remembers) is in
       second (assumed-without room learns (truthRow l u) a k h) λ e f. tree-is n is u l h e f
 
-  pub chooses-false : (n t : ℕ) → t ≡ 1 → D ≡ OnlyFalse → Chooses n t q ws Second (assumed xs 7 q)
+  pub chooses-false : (n t : ℕ) → t ≡ 1 → D ≡ OnlyFalse → Chooses n t q ws Second (assumed xs ofExclusion q)
   chooses-false n t x is = record { ruled = assumed-ruled room learns 7 q; chosen = λ v p m h. only-false n is v p (rw x at m) h }
 
 -- ---- as the code has it

@@ -10,12 +10,14 @@ use lib.Seq.{getD-set-same, getD-set-other}
 use Rattle.rules.specs.Paths.{start}
 use Rattle.rules.specs.Satisfiable.Laws.{true-satisfiable}
 use Rattle.rules.specs.Symbolic.{Symbolic, symbol, symbols}
-use Rattle.terms.specs.Terms.{Space, pushed, Distinct, Grown, symbolLimit}
+use Rattle.terms.specs.Places.{symbolLimit, countAt, variablesEnd, rowAt}
+use Rattle.terms.specs.Terms.{Space, pushed, Distinct, Grown, ofConstant}
 use Rattle.terms.specs.Terms.Laws.{pushed-length, pushed-count, pushed-above, made-constant}
-use Rattle.workspace.specs.Notes.{noteAt, Bare}
+use Rattle.workspace.specs.Notes.{Bare}
 use Rattle.workspace.specs.Paths.{Fresh, Blank, Starting}
+use Rattle.workspace.specs.Places.{baseAt, conditionAt, depthAt, knownAt, nextAt, noteAt, spaceSize, startAt, writesAt}
 use Rattle.workspace.specs.Rules.{Started}
-use Rattle.workspace.specs.State.{knownAt, spaceSize, typesOn, Means, Variables, noVariable, oneMore, noWrite, PathIn, Room}
+use Rattle.workspace.specs.State.{typesOn, Means, Variables, noVariable, oneMore, noWrite, PathIn, Room}
 use Rattle.workspace.specs.State.Laws.{nothing-known, still-known, types-length, variables-kept, means-at, path-kept, path-rewound, distinct-same, same-grown}
 
 -- one variable more is one symbol more
@@ -37,43 +39,43 @@ types-last types i =
 
 module _ {ws : List ℕ} (b : Blank ws) where
   pub blank-space : Space ws 1
-  blank-space = record { lent = omega (arith, b .lent); room = omega (arith, b .zeros 288) }
+  blank-space = record { lent = omega (arith, b .lent); room = omega (arith, b .zeros countAt) }
 
   blank-distinct : Distinct ws
   blank-distinct = record {
-    differences = λ i l e. absurd (omega (arith, l, b .zeros 288));
-    apart = λ i j x y h l u v. absurd (omega (arith, l, b .zeros 288));
+    differences = λ i l e. absurd (omega (arith, l, b .zeros countAt));
+    apart = λ i j x y h l u v. absurd (omega (arith, l, b .zeros countAt));
   }
 
   abbrev first-row : List ℕ
-  first-row = pushed ws 3 1 0
+  first-row = pushed ws ofConstant 1 0
 
-  first-beyond : (k : ℕ) → 292 ≤ k → getD first-row k 0 ≡ 0
-  first-beyond k l = pushed-above blank-space 3 1 0 k (omega (arith, l, b .zeros 288)) ∙ b .zeros k
+  first-beyond : (k : ℕ) → rowAt 1 ≤ k → getD first-row k 0 ≡ 0
+  first-beyond k l = pushed-above blank-space 3 1 0 k (omega (arith, l, b .zeros countAt)) ∙ b .zeros k
 
   pub first-started : (types left : List ℕ) → left ≡ first-row → Starting types left 0
   unfolding typesOn symbols
   first-started types left e =
       let m = made-constant blank-space blank-distinct true 0 in
       let c = pushed-count blank-space 3 1 0 in
-      let z = b .zeros 288 in
+      let z = b .zeros countAt in
       let l = pushed-length blank-space 3 1 0 in
-      let d = first-beyond 725 (omega arith) in
+      let d = first-beyond conditionAt (omega arith) in
       rw e
       (record {
         lent = omega (arith, l, b .lent);
         rows = omega arith;
         first = omega arith;
-        next = first-beyond 724 (omega arith);
+        next = first-beyond nextAt (omega arith);
         condition = d;
-        writes = first-beyond 726 (omega arith);
+        writes = first-beyond writesAt (omega arith);
         bare = λ k h l. first-beyond k (omega arith);
         path = record {
-          next = first-beyond 724 (omega arith);
+          next = first-beyond nextAt (omega arith);
           inside = omega arith;
           condition = rw (d ∙ sym z) (m .is);
           allowed = true-satisfiable;
-          log = rw (first-beyond 726 (omega arith), first-beyond 727 (omega arith)) noWrite;
+          log = rw (first-beyond writesAt (omega arith), first-beyond startAt (omega arith)) noWrite;
           distinct = m .distinct;
           remembers = nothing-known (first-beyond knownAt (omega arith));
         };
@@ -119,7 +121,7 @@ module _ {types ws : List ℕ} {i : ℕ} (l : i < symbolLimit) (s : Starting typ
     placed-before : (k : ℕ) → k < 2 * i → getD placed k 0 ≡ getD xs k 0
     placed-before k h = placed-other k (λ e. omega arith) (λ e. omega arith)
 
-    placed-behind : (k : ℕ) → 288 ≤ k → getD placed k 0 ≡ getD xs k 0
+    placed-behind : (k : ℕ) → variablesEnd ≤ k → getD placed k 0 ≡ getD xs k 0
     placed-behind k h = placed-other k (λ e. omega arith) (λ e. omega arith)
 
     placed-grown : Grown xs placed
@@ -141,15 +143,15 @@ module _ {types ws : List ℕ} {i : ℕ} (l : i < symbolLimit) (s : Starting typ
 
     pub variable-started : Starting types placed (suc i)
     variable-started =
-        let e = placed-behind 288 (omega arith) in
+        let e = placed-behind countAt (omega arith) in
         let g = f .ruled .went .grown .grows in
         record {
           lent = omega (arith, placed-length, fresh-lent);
           rows = omega (arith, e, f .most, s .rows);
           first = omega (arith, e, g, s .first);
           next = placed-path .next;
-          condition = placed-behind 725 (omega arith) ∙ f .condition ∙ s .condition;
-          writes = placed-behind 726 (omega arith) ∙ f .writes ∙ s .writes;
+          condition = placed-behind conditionAt (omega arith) ∙ f .condition ∙ s .condition;
+          writes = placed-behind writesAt (omega arith) ∙ f .writes ∙ s .writes;
           bare = λ k h m. placed-behind k (omega arith) ∙ f .ruled .notes .each k h m ∙ s .bare k h m;
           path = placed-path;
           variables = placed-variables;
@@ -165,32 +167,32 @@ starting-on i s = rw (add-one i) s
 -- the number of the variables is noted, for the notes and for the path
 module _ {types ws : List ℕ} {depth : ℕ} (l : depth ≤ symbolLimit) (s : Starting types ws depth) where
   abbrev based : List ℕ
-  based = set ws 1241 depth
+  based = set ws baseAt depth
 
   abbrev counted : List ℕ
-  counted = set based 728 depth
+  counted = set based depthAt depth
 
-  counted-other : (k : ℕ) → (k ≡ 728 → ⊥) → (k ≡ 1241 → ⊥) → getD counted k 0 ≡ getD ws k 0
-  counted-other k m n = getD-set-other based 728 k depth 0 m ∙ getD-set-other ws 1241 k depth 0 n
+  counted-other : (k : ℕ) → (k ≡ depthAt → ⊥) → (k ≡ baseAt → ⊥) → getD counted k 0 ≡ getD ws k 0
+  counted-other k m n = getD-set-other based depthAt k depth 0 m ∙ getD-set-other ws baseAt k depth 0 n
 
-  counted-before : (k : ℕ) → k < 728 → getD counted k 0 ≡ getD ws k 0
+  counted-before : (k : ℕ) → k < depthAt → getD counted k 0 ≡ getD ws k 0
   counted-before k h = counted-other k (λ e. omega arith) (λ e. omega arith)
 
   counted-grown : Grown ws counted
   counted-grown =
-      let e = counted-before 288 (omega arith) in
+      let e = counted-before countAt (omega arith) in
       record { grows = omega arith; rows = λ k h i. counted-before k (omega (arith, i, s .rows)) }
 
   counted-path : PathIn counted (start depth)
   counted-path =
-      path-rewound (counted-grown .rows) (λ k h i. absurd (omega (arith, h, i, s .writes))) (counted-before 288 (omega arith)) (counted-before 724 (omega arith))
-      (counted-before 725 (omega arith)) (counted-before 726 (omega arith)) (counted-before 727 (omega arith))
+      path-rewound (counted-grown .rows) (λ k h i. absurd (omega (arith, h, i, s .writes))) (counted-before countAt (omega arith)) (counted-before nextAt (omega arith))
+      (counted-before conditionAt (omega arith)) (counted-before writesAt (omega arith)) (counted-before startAt (omega arith))
       (still-known (λ k h. counted-other k (λ e. omega arith) (λ e. omega arith)) counted-grown (s .path .remembers)) (s .path)
 
   counted-bare : Bare depth counted
   counted-bare =
       record {
-        base = getD-set-other based 728 1241 depth 0 (λ e. omega arith) ∙ getD-set-same ws 1241 depth 0 (omega (arith, s .lent));
+        base = getD-set-other based depthAt baseAt depth 0 (λ e. omega arith) ∙ getD-set-same ws baseAt depth 0 (omega (arith, s .lent));
         none = λ i h. counted-other (noteAt i + 1) (λ e. omega arith) (λ e. omega arith) ∙ s .bare (noteAt i + 1) (omega arith) (omega arith);
       }
 
@@ -199,12 +201,12 @@ module _ {types ws : List ℕ} {depth : ℕ} (l : depth ≤ symbolLimit) (s : St
 
   counted-started : Started depth (typesOn types depth) counted
   counted-started =
-      let e = counted-before 288 (omega arith) in
+      let e = counted-before countAt (omega arith) in
       record {
         lent = omega (arith, counted-length, s .lent);
         rows = omega (arith, e, s .rows);
-        writes = counted-before 726 (omega arith) ∙ s .writes;
-        depth = getD-set-same based 728 depth 0 (simp length-set (omega (arith, s .lent)));
+        writes = counted-before writesAt (omega arith) ∙ s .writes;
+        depth = getD-set-same based depthAt depth 0 (simp length-set (omega (arith, s .lent)));
         state = record {
           variables = variables-kept depth (omega arith) (λ k h. counted-before k (omega arith)) counted-grown (s .variables);
           path = counted-path;
@@ -213,5 +215,5 @@ module _ {types ws : List ℕ} {depth : ℕ} (l : depth ≤ symbolLimit) (s : St
       }
 
 pub starting-end : {types ws : List ℕ} {i : ℕ} (depth : ℕ) → depth ≤ symbolLimit → i ≤ depth → depth ≤ i → Starting types ws i
-    → Started depth (typesOn types depth) (set (set ws 1241 depth) 728 depth)
+    → Started depth (typesOn types depth) (set (set ws baseAt depth) depthAt depth)
 starting-end {i = i} depth h l m s = let e : i ≡ depth = omega arith in counted-started h (rw e at s)

@@ -10,16 +10,19 @@ use lib.ListN.{length, getD, set, length-set}
 use lib.Seq.{getD-set-same, getD-set-other}
 use Rattle.script.specs.Tests.{pick}
 use Rattle.rules.specs.Paths.{Path, taken}
-use Rattle.rules.specs.Symbolic.{symbol}
+use Rattle.rules.specs.Symbolic.{symbol, other}
 use Rattle.terms.specs.Atoms.{foundOr, atomRowOf, atomLeft}
 use Rattle.terms.specs.Atoms.Made.{made-truth}
-use Rattle.terms.specs.Terms.{countIn, Space, pushed, Distinct, Grown, Added, symbolLimit}
+use Rattle.terms.specs.Places.{symbolLimit, countAt}
+use Rattle.terms.specs.References.{referenceAt}
+use Rattle.terms.specs.Terms.{countIn, Space, pushed, Distinct, Grown, Added, ofSymbol, ofTruth}
 use Rattle.terms.specs.Terms.Laws.{grown-trans, added-refl, still-distinct, pushed-length, pushed-added, made-symbol}
 use Rattle.workspace.specs.Numbers.{freshPlace, freshLeft}
 use Rattle.workspace.specs.Numbers as Numbers
 use Rattle.workspace.specs.Paths.{Fresh}
+use Rattle.workspace.specs.Places.{conditionAt, depthAt, nextAt, startAt, writesAt}
 use Rattle.workspace.specs.Rules.{Ruled}
-use Rattle.workspace.specs.State.{nextIn, Means, wordRow, truthRow, otherSymbol, PathIn, Room}
+use Rattle.workspace.specs.State.{nextIn, Means, wordRow, truthRow, referencePlace, PathIn, Room}
 use Rattle.workspace.specs.State.Laws.{still-known, path-moved, log-kept, path-added}
 
 -- ---- an atom that is found or made adds at most one row
@@ -48,16 +51,16 @@ module _ (ws : List ℕ) (room : Room ws 1) where
   numbered = Numbers.numbered ws
 
   numbered-length : length numbered ≡ length ws
-  numbered-length = length-set ws 724 (nextIn ws + 1)
+  numbered-length = length-set ws nextAt (nextIn ws + 1)
 
   numbered-next : nextIn numbered ≡ suc (nextIn ws)
-  numbered-next = getD-set-same ws 724 (nextIn ws + 1) 0 (omega (arith, room .lent)) ∙ add-one (nextIn ws)
+  numbered-next = getD-set-same ws nextAt (nextIn ws + 1) 0 (omega (arith, room .lent)) ∙ add-one (nextIn ws)
 
-  numbered-other : (k : ℕ) → (k ≡ 724 → ⊥) → getD numbered k 0 ≡ getD ws k 0
-  numbered-other k n = getD-set-other ws 724 k (nextIn ws + 1) 0 n
+  numbered-other : (k : ℕ) → (k ≡ nextAt → ⊥) → getD numbered k 0 ≡ getD ws k 0
+  numbered-other k n = getD-set-other ws nextAt k (nextIn ws + 1) 0 n
 
   numbered-count : countIn numbered ≡ countIn ws
-  numbered-count = numbered-other 288 λ e. omega arith
+  numbered-count = numbered-other countAt λ e. omega arith
 
   pub numbered-space : Space numbered 1
   numbered-space =
@@ -78,19 +81,19 @@ module _ (ws : List ℕ) (room : Room ws 1) where
 
   numbered-path : (p : Path) → PathIn ws p → PathIn numbered (taken p)
   numbered-path p h =
-      path-moved numbered-grown (numbered-distinct (h .distinct)) (numbered-other 725 λ e. omega arith) (numbered-next ∙ rw (h .next))
-      (rw (numbered-other 726 λ e. omega arith, numbered-other 727 λ e. omega arith) (log-kept (λ j i _. numbered-other j λ e. omega arith) numbered-grown (h .log)))
+      path-moved numbered-grown (numbered-distinct (h .distinct)) (numbered-other conditionAt λ e. omega arith) (numbered-next ∙ rw (h .next))
+      (rw (numbered-other writesAt λ e. omega arith, numbered-other startAt λ e. omega arith) (log-kept (λ j i _. numbered-other j λ e. omega arith) numbered-grown (h .log)))
       (still-known (λ j i. numbered-other j λ e. omega arith) numbered-grown (h .remembers)) h
 
   -- at most one row more
   module _ {left : List ℕ} (same : length left ≡ length numbered) (a : Added numbered left 1) where
-    behind : (k : ℕ) → 725 ≤ k → getD left k 0 ≡ getD ws k 0
+    behind : (k : ℕ) → conditionAt ≤ k → getD left k 0 ≡ getD ws k 0
     behind k l = a .beyond k (omega arith) ∙ numbered-other k λ e. omega arith
 
     numbered-ruled : Ruled ws left
     numbered-ruled =
-        let n = a .beyond 724 (omega arith) in
-        let w = behind 726 (omega arith) in
+        let n = a .beyond nextAt (omega arith) in
+        let w = behind writesAt (omega arith) in
         record {
           went = record {
             same = same ∙ numbered-length;
@@ -102,7 +105,7 @@ module _ (ws : List ℕ) (room : Room ws 1) where
             logged = omega arith;
             log = λ k l h. behind k (omega arith);
           };
-          depth = behind 728 (omega arith);
+          depth = behind depthAt (omega arith);
           notes = record { each = λ k l m. behind k (omega arith) };
         }
 
@@ -113,8 +116,8 @@ module _ (ws : List ℕ) (room : Room ws 1) where
           ruled = numbered-ruled;
           means = λ x. m (numbered-distinct x);
           path = λ p h. path-added a (d (numbered-distinct (h .distinct))) (numbered-path p h);
-          condition = behind 725 (omega arith);
-          writes = behind 726 (omega arith);
+          condition = behind conditionAt (omega arith);
+          writes = behind writesAt (omega arith);
           most = omega (arith, a .most, numbered-count);
           place-is = eq;
           left-is = el;
@@ -123,7 +126,7 @@ module _ (ws : List ℕ) (room : Room ws 1) where
   fresh-symbol : nextIn ws < symbolLimit
   fresh-symbol = omega (arith, room .symbols)
 
-  pub fresh-word : (t q : ℕ) (left : List ℕ) → t ≡ 0 → q ≡ countIn numbered → left ≡ pushed numbered 1 (nextIn ws) 0 → Fresh t ws q left
+  pub fresh-word : (t q : ℕ) (left : List ℕ) → t ≡ 0 → q ≡ countIn numbered → left ≡ pushed numbered ofSymbol (nextIn ws) 0 → Fresh t ws q left
   unfolding symbol freshPlace freshLeft
   fresh-word t q left e f g =
       rw (e, f, g)
@@ -131,21 +134,21 @@ module _ (ws : List ℕ) (room : Room ws 1) where
       (λ d. made-symbol numbered-space d (nextIn ws) 0 fresh-symbol .distinct)
       (λ d. let m = made-symbol numbered-space d (nextIn ws) 0 fresh-symbol in wordRow (m .inside) (m .is)) refl refl)
 
-  pub fresh-truth : (t q : ℕ) (left : List ℕ) → t ≡ 1 → q ≡ atomRowOf numbered 8 (nextIn ws) (nextIn ws) → left ≡ atomLeft numbered 8 (nextIn ws) (nextIn ws)
+  pub fresh-truth : (t q : ℕ) (left : List ℕ) → t ≡ 1 → q ≡ atomRowOf numbered ofTruth (nextIn ws) (nextIn ws) → left ≡ atomLeft numbered ofTruth (nextIn ws) (nextIn ws)
       → Fresh t ws q left
   unfolding symbol freshPlace freshLeft
   fresh-truth t q left e f g =
       let s = nextIn ws in
       rw (e, f, g)
-      (fresh-by (atom-length numbered-space 8 s s) (atom-added numbered-space 8 s s) 1 (atomRowOf numbered 8 s s)
-      (λ d. made-truth numbered-space d s (atomRowOf numbered 8 s s) (atomLeft numbered 8 s s) refl refl .distinct)
-      (λ d. let m = made-truth numbered-space d s (atomRowOf numbered 8 s s) (atomLeft numbered 8 s s) refl refl in truthRow (m .inside) (m .is)) refl refl)
+      (fresh-by (atom-length numbered-space ofTruth s s) (atom-added numbered-space ofTruth s s) 1 (atomRowOf numbered ofTruth s s)
+      (λ d. made-truth numbered-space d s (atomRowOf numbered ofTruth s s) (atomLeft numbered ofTruth s s) refl refl .distinct)
+      (λ d. let m = made-truth numbered-space d s (atomRowOf numbered ofTruth s s) (atomLeft numbered ofTruth s s) refl refl in truthRow (m .inside) (m .is)) refl refl)
 
-  fresh-at : (t : ℕ) → Fresh (suc (suc t)) ws (2 * nextIn ws) numbered
+  fresh-at : (t : ℕ) → Fresh (suc (suc t)) ws (referenceAt other (nextIn ws)) numbered
   unfolding symbol freshPlace freshLeft
-  fresh-at t = fresh-by refl (added-refl numbered 1) (suc (suc t)) (2 * nextIn ws) (λ d. d) (λ d. otherSymbol refl) refl refl
+  fresh-at t = fresh-by refl (added-refl numbered 1) (suc (suc t)) (referenceAt other (nextIn ws)) (λ d. d) (λ d. referencePlace refl) refl refl
 
-  pub fresh-reference : (t : ℕ) → (t ≡ 0 → ⊥) → (t ≡ 1 → ⊥) → Fresh t ws (2 * nextIn ws) numbered
+  pub fresh-reference : (t : ℕ) → (t ≡ 0 → ⊥) → (t ≡ 1 → ⊥) → Fresh t ws (referenceAt other (nextIn ws)) numbered
   fresh-reference zero m n = absurd (m refl)
   fresh-reference (suc zero) m n = absurd (n refl)
   fresh-reference (suc (suc t)) m n = fresh-at t

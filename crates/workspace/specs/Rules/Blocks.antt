@@ -8,12 +8,13 @@ use Rattle.script.specs.Code.Forms.{treeIn}
 use Rattle.script.specs.declared.Checked.{Checked}
 use Rattle.script.specs.declared.Checked.the-variants.{Accepted}
 use Rattle.rules.specs.Checking.{check}
-use Rattle.terms.specs.Terms.{symbolLimit}
+use Rattle.terms.specs.Places.{symbolLimit}
 use Rattle.workspace.specs.Notes.{Recallables, recalledOn, Kept, Noted, Noting, Blocked}
 use Rattle.workspace.specs.Notes.Keeping.{still-holding}
 use Rattle.workspace.specs.Notes.Recalling.{kept-recallables, recalled-right}
+use Rattle.workspace.specs.Places.{baseAt, spaceSize}
 use Rattle.workspace.specs.Rules.{Checkable, Judged}
-use Rattle.workspace.specs.State.{spaceSize, typesOn}
+use Rattle.workspace.specs.State.{typesOn}
 use Rattle.workspace.specs.State.Laws.{types-kept}
 use Rattle.workspace.specs.declared.Known.{Known}
 use Rattle.workspace.specs.declared.Known.the-variants.{Typed}
@@ -62,7 +63,7 @@ module _ {limit : ℕ} {table ws : List ℕ} {depth a : ℕ} (q : Checkable tabl
         → Blocked limit table (check limit (treeIn table a) (typesOn ws depth)) depth ws (Accepted t) left₂
     block-noted {t} e o =
         let b = block-judged e in
-        let base = b .between 1241 (omega arith) (omega arith) in
+        let base = b .between baseAt (omega arith) (omega arith) in
         let types : typesOn left depth ≡ typesOn ws depth = types-kept ws left depth (b .before) in
         let s = block-small in
         record {

@@ -8,11 +8,14 @@ use native.Mathlib.Omega.{arith}
 use lib.ListN.{length, getD, set, length-set}
 use lib.Seq.{getD-set-same, getD-set-other}
 use borrow.Author.Tests.{le-leb, lt-leb, lt-ltb, le-ltb}
+use Rattle.script.specs.Limits.{deepest, typeLimit, nodeLimit}
 use Rattle.script.specs.Rows.{unaryForm, binaryForm, refOp, getOp, setOp}
 use Rattle.script.specs.declared.Refusal.the-variants.{WrongType, TooManyReferences, InconsistentLog}
 use Rattle.rules.specs.Paths.{Path, ends, taken, forget, consistent, lookup}
-use Rattle.rules.specs.Symbolic.{Sum, Formula, Origin, made, Symbolic, aWord, aTruth, aReference, symbol}
+use Rattle.rules.specs.Symbolic.{Sum, Formula, Origin, made, Symbolic, aWord, aTruth, aReference, symbol, other}
 use Rattle.rules.specs.SymbolicRules.{got, unaryExec, binaryExec, typedResult}
+use Rattle.terms.specs.Places.{countAt, symbolLimit, rowLimit}
+use Rattle.terms.specs.References.{referenceAt}
 use Rattle.terms.specs.Terms.{countIn, Grown}
 use Rattle.terms.specs.Terms.Laws.{grown-trans, still-distinct}
 use Rattle.workspace.specs.Log.{consistentOn, lookupOn, written, FoundAs, found-none, found-some, emptied}
@@ -22,8 +25,9 @@ use Rattle.workspace.specs.Numbers as Numbers
 use Rattle.workspace.specs.Paths.{Fresh}
 use Rattle.workspace.specs.Paths.Conditions.{ruled-refl}
 use Rattle.workspace.specs.Paths.Symbols.{fresh-reference}
+use Rattle.workspace.specs.Places.{conditionAt, depthAt, nextAt, spaceSize, startAt, writesAt}
 use Rattle.workspace.specs.Rules.{oneExec, twoExec, Ruled, One, Two, After}
-use Rattle.workspace.specs.State.{nextIn, writesIn, startIn, depthIn, Means, wordRow, truthRow, madeSymbol, otherSymbol, noWrite, PathIn, Room, Went, Unnoted, Yields, ending, stopping}
+use Rattle.workspace.specs.State.{nextIn, writesIn, startIn, depthIn, Means, wordRow, truthRow, referencePlace, noWrite, PathIn, Room, Went, Unnoted, Yields, ending, stopping}
 use Rattle.workspace.specs.State.Laws.{still-known, path-moved, means-type, means-kept, went-trans, room-on, unnoted-trans}
 use Rattle.workspace.specs.declared.Found.{Found}
 use Rattle.workspace.specs.declared.Found.the-variants.{Value, Nothing}
@@ -38,8 +42,7 @@ pub data Refers : ℕ → Symbolic → Type 0 where
 pub refer : {ws : List ℕ} {t q : ℕ} {v : Symbolic} → 2 ≤ t → Means ws t q v → Refers t v
 refer l (wordRow i r) = absurd (omega arith)
 refer l (truthRow i r) = absurd (omega arith)
-refer l (madeSymbol e) = refers
-refer l (otherSymbol e) = refers
+refer l (referencePlace e) = refers
 
 -- one of a type below 2 is none
 pub data NoReference : Symbolic → Type 0 where
@@ -49,10 +52,9 @@ pub data NoReference : Symbolic → Type 0 where
 pub no-reference : {ws : List ℕ} {t q : ℕ} {v : Symbolic} → t < 2 → Means ws t q v → NoReference v
 no-reference l (wordRow i r) = a-word
 no-reference l (truthRow i r) = a-truth
-no-reference l (madeSymbol e) = absurd (omega arith)
-no-reference l (otherSymbol e) = absurd (omega arith)
+no-reference l (referencePlace e) = absurd (omega arith)
 
-ruled-then : {ws xs left : List ℕ} → depthIn xs ≡ depthIn ws → Unnoted ws xs → Ruled xs left → Went ws left 144 1 → Ruled ws left
+ruled-then : {ws xs left : List ℕ} → depthIn xs ≡ depthIn ws → Unnoted ws xs → Ruled xs left → Went ws left symbolLimit 1 → Ruled ws left
 ruled-then d k v w = record { went = w; depth = v .depth ∙ d; notes = unnoted-trans k (v .notes) }
 
 -- ---- `set`
@@ -88,41 +90,41 @@ module _ (n t q u s : ℕ) {ws : List ℕ} where
 -- ---- `ref`
 
 module _ (n t q : ℕ) {ws : List ℕ} where
-  pub ref-wrong : 30 ≤ t → One (unaryForm refOp) n t q ws (Stopped (TooManyReferences n)) ws
+  pub ref-wrong : deepest ≤ t → One (unaryForm refOp) n t q ws (Stopped (TooManyReferences n)) ws
   unfolding oneExec unaryExec oneGives unaryGives
   ref-wrong l =
       record {
         ruled = ruled-refl ws;
-        yields = λ v p m h. rw (means-type m, lt-leb (suc (suc t)) 31 (omega arith)) stopping;
-        exactly = rw (le-ltb t 30 l) refl;
+        yields = λ v p m h. rw (means-type m, lt-leb (suc (suc t)) typeLimit (omega arith)) stopping;
+        exactly = rw (le-ltb t deepest l) refl;
       }
 
-  module _ (x : Room ws 1) (l : t < 30) where
+  module _ (x : Room ws 1) (l : t < deepest) where
     abbrev numbered : List ℕ
     numbered = Numbers.numbered ws
 
-    fresh : Fresh (t + 2) ws (2 * nextIn ws) numbered
+    fresh : Fresh (t + 2) ws (referenceAt other (nextIn ws)) numbered
     fresh = fresh-reference ws x (t + 2) (λ e. omega arith) (λ e. omega arith)
 
-    pub ref-lent : 1415 ≤ length numbered
-    ref-lent = omega (arith, length-set ws 724 (nextIn ws + 1), x .lent)
+    pub ref-lent : spaceSize ≤ length numbered
+    ref-lent = omega (arith, length-set ws nextAt (nextIn ws + 1), x .lent)
 
-    pub ref-few : writesIn numbered < 128
-    ref-few = let e = getD-set-other ws 724 726 (nextIn ws + 1) 0 (λ e. omega arith) in omega (arith, e, x .writes)
+    pub ref-few : writesIn numbered < nodeLimit
+    ref-few = let e = getD-set-other ws nextAt writesAt (nextIn ws + 1) 0 (λ e. omega arith) in omega (arith, e, x .writes)
 
-    ref-rows : countIn numbered ≤ 145
-    ref-rows = let e = getD-set-other ws 724 288 (nextIn ws + 1) 0 (λ e. omega arith) in omega (arith, e, x .rows)
+    ref-rows : countIn numbered ≤ rowLimit
+    ref-rows = let e = getD-set-other ws nextAt countAt (nextIn ws + 1) 0 (λ e. omega arith) in omega (arith, e, x .rows)
 
     abbrev left : List ℕ
-    left = written numbered (t + 2) (2 * nextIn ws + 1) t q
+    left = written numbered (t + 2) (referenceAt made (nextIn ws)) t q
 
-    ref-went : Went ws left 144 1
+    ref-went : Went ws left symbolLimit 1
     ref-went =
         let a = fresh .ruled .went in
-        let b = written-ruled numbered (t + 2) (2 * nextIn ws + 1) t q ref-lent ref-few ref-rows .went in
-        let rows = getD-set-other ws 724 288 (nextIn ws + 1) 0 (λ e. omega arith) in
-        let writes = getD-set-other ws 724 726 (nextIn ws + 1) 0 (λ e. omega arith) in
-        let next = written-before numbered (t + 2) (2 * nextIn ws + 1) t q ref-lent ref-few ref-rows 724 (λ e. omega arith) (omega arith) in
+        let b = written-ruled numbered (t + 2) (referenceAt made (nextIn ws)) t q ref-lent ref-few ref-rows .went in
+        let rows = getD-set-other ws nextAt countAt (nextIn ws + 1) 0 (λ e. omega arith) in
+        let writes = getD-set-other ws nextAt writesAt (nextIn ws + 1) 0 (λ e. omega arith) in
+        let next = written-before numbered (t + 2) (referenceAt made (nextIn ws)) t q ref-lent ref-few ref-rows nextAt (λ e. omega arith) (omega arith) in
         record {
           same = b .same ∙ a .same;
           before = λ k i. b .before k i ∙ a .before k i;
@@ -134,26 +136,26 @@ module _ (n t q : ℕ) {ws : List ℕ} where
           log = λ k i h. b .log k i (omega (arith, h, writes)) ∙ a .log k i h;
         }
 
-    made-here : (zs : List ℕ) (u : ℕ) → nextIn ws ≡ u → Means zs (t + 2) (2 * nextIn ws + 1) (aReference made t u)
-    made-here zs u e = let f : t + 2 ≡ suc (suc t) = omega arith in rw (f, e) (madeSymbol refl)
+    made-here : (zs : List ℕ) (u : ℕ) → nextIn ws ≡ u → Means zs (t + 2) (referenceAt made (nextIn ws)) (aReference made t u)
+    made-here zs u e = let f : t + 2 ≡ suc (suc t) = omega arith in rw (f, e) (referencePlace refl)
 
-    ref-yields : (v : Symbolic) (p : Path) → Means ws t q v → PathIn ws p → Yields left (Gave (t + 2) (2 * nextIn ws + 1)) (unaryExec n refOp v p)
+    ref-yields : (v : Symbolic) (p : Path) → Means ws t q v → PathIn ws p → Yields left (Gave (t + 2) (referenceAt made (nextIn ws))) (unaryExec n refOp v p)
     unfolding unaryExec
     ref-yields v p m h =
-        rw (means-type m, le-leb (suc (suc t)) 31 (omega arith))
+        rw (means-type m, le-leb (suc (suc t)) typeLimit (omega arith))
         (ending (made-here left (p .next) (h .next))
-        (written-path numbered (t + 2) (2 * nextIn ws + 1) t q ref-lent ref-few ref-rows (taken p) (fresh .path p h) (made-here numbered (p .next) (h .next))
+        (written-path numbered (t + 2) (referenceAt made (nextIn ws)) t q ref-lent ref-few ref-rows (taken p) (fresh .path p h) (made-here numbered (p .next) (h .next))
         (means-kept (fresh .ruled .went .grown) m)))
 
-    pub ref-made : {zs : List ℕ} → zs ≡ left → One (unaryForm refOp) n t q ws (Gave (t + 2) (2 * nextIn ws + 1)) zs
+    pub ref-made : {zs : List ℕ} → zs ≡ left → One (unaryForm refOp) n t q ws (Gave (t + 2) (referenceAt made (nextIn ws))) zs
     unfolding oneExec oneGives unaryGives
     ref-made e =
         rw e
         (record {
           ruled = ruled-then (fresh .ruled .depth) (fresh .ruled .notes)
-              (written-ruled numbered (t + 2) (2 * nextIn ws + 1) t q ref-lent ref-few ref-rows) ref-went;
+              (written-ruled numbered (t + 2) (referenceAt made (nextIn ws)) t q ref-lent ref-few ref-rows) ref-went;
           yields = ref-yields;
-          exactly = rw (lt-ltb t 30 l) refl;
+          exactly = rw (lt-ltb t deepest l) refl;
         })
 
 -- ---- what is found, and fresh symbols
@@ -254,35 +256,35 @@ module _ (n t : ℕ) {ws : List ℕ} {b : Bool} (e : b ≡ consistentOn ws (star
 
   -- no write counts any more
   module _ (x : Room ws 1) where
-    emptied-other : (k : ℕ) → (k ≡ 727 → ⊥) → getD (emptied ws) k 0 ≡ getD ws k 0
-    emptied-other k d = getD-set-other ws 727 k (writesIn ws) 0 d
+    emptied-other : (k : ℕ) → (k ≡ startAt → ⊥) → getD (emptied ws) k 0 ≡ getD ws k 0
+    emptied-other k d = getD-set-other ws startAt k (writesIn ws) 0 d
 
     emptied-writes : writesIn (emptied ws) ≡ writesIn ws
-    emptied-writes = emptied-other 726 λ e. omega arith
+    emptied-writes = emptied-other writesAt λ e. omega arith
 
     emptied-start : startIn (emptied ws) ≡ writesIn ws
-    emptied-start = getD-set-same ws 727 (writesIn ws) 0 (omega (arith, x .lent))
+    emptied-start = getD-set-same ws startAt (writesIn ws) 0 (omega (arith, x .lent))
 
     emptied-grown : Grown ws (emptied ws)
     emptied-grown =
-        let c = emptied-other 288 (λ e. omega arith) in
+        let c = emptied-other countAt (λ e. omega arith) in
         record { grows = omega arith; rows = λ k h l. emptied-other k λ z. omega (arith, l, x .rows) }
 
     emptied-path : {p : Path} → PathIn ws p → PathIn (emptied ws) (forget p)
     emptied-path h =
-        let k = emptied-other 288 (λ e. omega arith) in
-        path-moved emptied-grown (still-distinct emptied-grown (omega (arith, k)) (h .distinct)) (emptied-other 725 (λ e. omega arith))
-        (emptied-other 724 (λ e. omega arith) ∙ h .next) (rw (emptied-writes, emptied-start) noWrite)
+        let k = emptied-other countAt (λ e. omega arith) in
+        path-moved emptied-grown (still-distinct emptied-grown (omega (arith, k)) (h .distinct)) (emptied-other conditionAt (λ e. omega arith))
+        (emptied-other nextAt (λ e. omega arith) ∙ h .next) (rw (emptied-writes, emptied-start) noWrite)
         (still-known (λ j l. emptied-other j λ e. omega arith) emptied-grown (h .remembers)) h
 
-    emptied-went : Went ws (emptied ws) 144 0
+    emptied-went : Went ws (emptied ws) symbolLimit 0
     emptied-went =
         record {
-          same = length-set ws 727 (writesIn ws);
+          same = length-set ws startAt (writesIn ws);
           before = λ k l. emptied-other k λ z. omega arith;
           grown = emptied-grown;
-          rows = omega (arith, emptied-other 288 (λ e. omega arith));
-          symbols = omega (arith, emptied-other 724 (λ e. omega arith));
+          rows = omega (arith, emptied-other countAt (λ e. omega arith));
+          symbols = omega (arith, emptied-other nextAt (λ e. omega arith));
           writes = omega (arith, emptied-writes);
           logged = omega (arith, emptied-writes);
           log = λ k l h. emptied-other k λ z. omega arith;
@@ -295,7 +297,7 @@ module _ (n t : ℕ) {ws : List ℕ} {b : Bool} (e : b ≡ consistentOn ws (star
     unfolding typedResult
     block-made z y =
         record {
-          ruled = ruled-then (emptied-other 728 λ e. omega arith) (record { each = λ k l h. emptied-other k λ z. omega arith }) (y .ruled)
+          ruled = ruled-then (emptied-other depthAt λ e. omega arith) (record { each = λ k l h. emptied-other k λ z. omega arith }) (y .ruled)
               (went-trans (omega arith) emptied-went (y .ruled .went));
           yields = λ p h. rw (sym (consistent-is (h .log)) ∙ sym e ∙ z) (fresh-yields t t refl y (emptied-path h));
           exactly = rw (sym e ∙ z, y .place-is, y .left-is) refl;

@@ -11,20 +11,22 @@ use Rattle.script.specs.Code.Forms.{formOf, form-plain, plain-but, plain-all}
 use Rattle.script.specs.Rows.{varForm, unaryForm, binaryForm, rows, rowOf, notOp, addOp, eqOp, andOp}
 use Rattle.script.specs.declared.Refusal.the-variants.{WrongType, UnknownVariable}
 use Rattle.rules.specs.Paths.{Path, ends}
-use Rattle.rules.specs.Symbolic.{Sum, Formula, Origin, made, other, Symbolic, aWord, aTruth, aReference}
+use Rattle.rules.specs.Symbolic.{Sum, Formula, Origin, Symbolic, aWord, aTruth, aReference}
 use Rattle.rules.specs.SymbolicRules.{unaryExec, binaryExec, variable}
-use Rattle.terms.specs.Atoms.{placeOf, referencesRow, referencesLeft}
+use Rattle.terms.specs.Atoms.{referencesRow, referencesLeft}
 use Rattle.terms.specs.Atoms.Laws.{references-length}
 use Rattle.terms.specs.Atoms.Made.{made-references}
-use Rattle.terms.specs.Terms.{countIn, Space, pushed, Distinct, Added, Made, MadeWord}
+use Rattle.terms.specs.References.{referenceAt}
+use Rattle.terms.specs.Terms.{countIn, Space, pushed, Distinct, Added, Made, MadeWord, ofConjunction, ofConstant, ofEquality, ofNegation, ofNumber, ofSum}
 use Rattle.terms.specs.Terms.Laws.{pushed-length, pushed-added, made-number, made-sum, made-constant, made-negation, made-conjunction, made-equality}
 use Rattle.words.specs.Words.{Words, equalRow, equalLeft}
 use Rattle.words.specs.Words.Laws.{equal-length, words-asked}
 use Rattle.words.specs.Words.Made.{made-equal}
 use Rattle.workspace.specs.Numbers.{Outcome, gives, leafGives, unaryGives, oneGives, equalPlace, equalNumbers, bothOf, binaryGives, twoGives}
 use Rattle.workspace.specs.Paths.Conditions.{ruled-refl}
+use Rattle.workspace.specs.Places.{depthAt, nextAt, writesAt}
 use Rattle.workspace.specs.Rules.{leafExec, oneExec, twoExec, Ruled, Leaf, One, Two, Operable}
-use Rattle.workspace.specs.State.{Means, wordRow, truthRow, madeSymbol, otherSymbol, PathIn, Room, Yields, ending, stopping}
+use Rattle.workspace.specs.State.{Means, wordRow, truthRow, referencePlace, PathIn, Room, Yields, ending, stopping}
 use Rattle.workspace.specs.State.Laws.{path-added, variables-at, variables-length, none-at, room-space}
 use Rattle.workspace.specs.declared.Step.the-variants.{Gave, Stopped}
 
@@ -32,8 +34,8 @@ use Rattle.workspace.specs.declared.Step.the-variants.{Gave, Stopped}
 
 pub added-ruled : {ws left : List ℕ} → length left ≡ length ws → Added ws left 1 → Ruled ws left
 added-ruled l a =
-    let next = a .beyond 724 (omega arith) in
-    let writes = a .beyond 726 (omega arith) in
+    let next = a .beyond nextAt (omega arith) in
+    let writes = a .beyond writesAt (omega arith) in
     record {
       went = record {
         same = l;
@@ -45,7 +47,7 @@ added-ruled l a =
         logged = omega arith;
         log = λ k i m. a .beyond k (omega arith);
       };
-      depth = a .beyond 728 (omega arith);
+      depth = a .beyond depthAt (omega arith);
       notes = record { each = λ k i m. a .beyond k (omega arith) };
     }
 
@@ -61,29 +63,29 @@ pushed-ruled s op a b e = rw e (added-ruled (pushed-length s op a b) (pushed-add
 -- ---- leaves
 
 module _ (n a depth : ℕ) {ws left : List ℕ} {r : ℕ} (q : Room ws 1) (er : r ≡ countIn ws) where
-  pub leaf-int : (k : ℕ) → k ≡ 0 → left ≡ pushed ws 0 a 0 → Leaf (formOf k) n a depth ws (Gave 0 r) left
+  pub leaf-int : (k : ℕ) → k ≡ 0 → left ≡ pushed ws ofNumber a 0 → Leaf (formOf k) n a depth ws (Gave 0 r) left
   unfolding leafExec leafGives formOf rowOf rows
   leaf-int k z e =
       record {
-        ruled = pushed-ruled (room-space q) 0 a 0 e;
+        ruled = pushed-ruled (room-space q) ofNumber a 0 e;
         yields = λ env p s. rw (z, er, e) (word-yields (made-number (room-space q) (s .path .distinct) a 0) (s .path));
         exactly = rw (z, er, e) refl;
       }
 
-  pub leaf-true : (k : ℕ) → k ≡ 1 → left ≡ pushed ws 3 1 0 → Leaf (formOf k) n a depth ws (Gave 1 r) left
+  pub leaf-true : (k : ℕ) → k ≡ 1 → left ≡ pushed ws ofConstant 1 0 → Leaf (formOf k) n a depth ws (Gave 1 r) left
   unfolding leafExec leafGives formOf rowOf rows
   leaf-true k z e =
       record {
-        ruled = pushed-ruled (room-space q) 3 1 0 e;
+        ruled = pushed-ruled (room-space q) ofConstant 1 0 e;
         yields = λ env p s. rw (z, er, e) (truth-yields (made-constant (room-space q) (s .path .distinct) true 0) (s .path));
         exactly = rw (z, er, e) refl;
       }
 
-  pub leaf-other : (k : ℕ) → (k ≡ 0 → ⊥) → (k ≡ 1 → ⊥) → (k ≡ 3 → ⊥) → left ≡ pushed ws 3 0 0 → Leaf (formOf k) n a depth ws (Gave 1 r) left
+  pub leaf-other : (k : ℕ) → (k ≡ 0 → ⊥) → (k ≡ 1 → ⊥) → (k ≡ 3 → ⊥) → left ≡ pushed ws ofConstant 0 0 → Leaf (formOf k) n a depth ws (Gave 1 r) left
   unfolding leafExec leafGives rows
   leaf-other k d₀ d₁ d₃ e =
       record {
-        ruled = pushed-ruled (room-space q) 3 0 0 e;
+        ruled = pushed-ruled (room-space q) ofConstant 0 0 e;
         yields = λ env p s.
             rw (
               form-plain (λ f. leafExec f n a env p) k
@@ -127,10 +129,9 @@ not-a-truth : (n : ℕ) {ws : List ℕ} {t q : ℕ} {v : Symbolic} (p : Path) �
 unfolding unaryExec
 not-a-truth n p d (wordRow l r) = stopping
 not-a-truth n p d (truthRow l r) = absurd (d refl)
-not-a-truth n p d (madeSymbol e) = stopping
-not-a-truth n p d (otherSymbol e) = stopping
+not-a-truth n p d (referencePlace e) = stopping
 
-a-truth : (n : ℕ) {ws left : List ℕ} {r q : ℕ} {v : Symbolic} {p : Path} → Space ws 1 → r ≡ countIn ws → left ≡ pushed ws 4 q 0 → PathIn ws p → Means ws 1 q v
+a-truth : (n : ℕ) {ws left : List ℕ} {r q : ℕ} {v : Symbolic} {p : Path} → Space ws 1 → r ≡ countIn ws → left ≡ pushed ws ofNegation q 0 → PathIn ws p → Means ws 1 q v
     → Yields left (Gave 1 r) (unaryExec n notOp v p)
 unfolding unaryExec
 a-truth n s er e h (truthRow l f) = rw (er, e) (truth-yields (made-negation s (h .distinct) 0 f l) h)
@@ -140,12 +141,12 @@ module _ (n t q : ℕ) {ws : List ℕ} where
   unfolding oneExec oneGives unaryGives
   negation-wrong d = record { ruled = ruled-refl ws; yields = λ v p m h. not-a-truth n p d m; exactly = rw (ne-eqb t 1 d) refl }
 
-  pub negation-made : t ≡ 1 → Room ws 1 → {left : List ℕ} {r : ℕ} → r ≡ countIn ws → left ≡ pushed ws 4 q 0
+  pub negation-made : t ≡ 1 → Room ws 1 → {left : List ℕ} {r : ℕ} → r ≡ countIn ws → left ≡ pushed ws ofNegation q 0
       → One (unaryForm notOp) n t q ws (Gave 1 r) left
   unfolding oneExec oneGives unaryGives
   negation-made z s er e =
       record {
-        ruled = pushed-ruled (room-space s) 4 q 0 e;
+        ruled = pushed-ruled (room-space s) ofNegation q 0 e;
         yields = λ v p m h. a-truth n (room-space s) er e h (rw z at m);
         exactly = rw (eq-eqb t 1 z, er, e) refl;
       }
@@ -157,11 +158,9 @@ no-word : (n : ℕ) {ws : List ℕ} {t q u s : ℕ} {v w : Symbolic} (p : Path) 
 unfolding binaryExec
 no-word n p d (wordRow l r) (wordRow k s) = absurd (d refl refl)
 no-word n p d (wordRow l r) (truthRow k s) = stopping
-no-word n p d (wordRow l r) (madeSymbol e) = stopping
-no-word n p d (wordRow l r) (otherSymbol e) = stopping
+no-word n p d (wordRow l r) (referencePlace e) = stopping
 no-word n p d (truthRow l r) m = stopping
-no-word n p d (madeSymbol e) m = stopping
-no-word n p d (otherSymbol e) m = stopping
+no-word n p d (referencePlace e) m = stopping
 
 no-truth : (n : ℕ) {ws : List ℕ} {t q u s : ℕ} {v w : Symbolic} (p : Path) → (t ≡ 1 → u ≡ 1 → ⊥) → Means ws t q v → Means ws u s w
     → Yields ws (Stopped (WrongType n)) (binaryExec n andOp v w p)
@@ -169,22 +168,20 @@ unfolding binaryExec
 no-truth n p d (wordRow l r) m = stopping
 no-truth n p d (truthRow l r) (wordRow k s) = stopping
 no-truth n p d (truthRow l r) (truthRow k s) = absurd (d refl refl)
-no-truth n p d (truthRow l r) (madeSymbol e) = stopping
-no-truth n p d (truthRow l r) (otherSymbol e) = stopping
-no-truth n p d (madeSymbol e) m = stopping
-no-truth n p d (otherSymbol e) m = stopping
+no-truth n p d (truthRow l r) (referencePlace e) = stopping
+no-truth n p d (referencePlace e) m = stopping
 
-two-words : (n : ℕ) {ws left : List ℕ} {r q s : ℕ} {v w : Symbolic} {p : Path} → Space ws 1 → r ≡ countIn ws → left ≡ pushed ws 2 q s → PathIn ws p
+two-words : (n : ℕ) {ws left : List ℕ} {r q s : ℕ} {v w : Symbolic} {p : Path} → Space ws 1 → r ≡ countIn ws → left ≡ pushed ws ofSum q s → PathIn ws p
     → Means ws 0 q v → Means ws 0 s w → Yields left (Gave 0 r) (binaryExec n addOp v w p)
 unfolding binaryExec
 two-words n x er e h (wordRow l f) (wordRow k g) = rw (er, e) (word-yields (made-sum x (h .distinct) f l g k) h)
 
-two-truths : (n : ℕ) {ws left : List ℕ} {r q s : ℕ} {v w : Symbolic} {p : Path} → Space ws 1 → r ≡ countIn ws → left ≡ pushed ws 5 q s → PathIn ws p
+two-truths : (n : ℕ) {ws left : List ℕ} {r q s : ℕ} {v w : Symbolic} {p : Path} → Space ws 1 → r ≡ countIn ws → left ≡ pushed ws ofConjunction q s → PathIn ws p
     → Means ws 1 q v → Means ws 1 s w → Yields left (Gave 1 r) (binaryExec n andOp v w p)
 unfolding binaryExec
 two-truths n x er e h (truthRow l f) (truthRow k g) = rw (er, e) (truth-yields (made-conjunction x (h .distinct) f l g k) h)
 
-same-truths : (n : ℕ) {ws left : List ℕ} {r q s : ℕ} {v w : Symbolic} {p : Path} → Space ws 1 → r ≡ countIn ws → left ≡ pushed ws 6 q s → PathIn ws p
+same-truths : (n : ℕ) {ws left : List ℕ} {r q s : ℕ} {v w : Symbolic} {p : Path} → Space ws 1 → r ≡ countIn ws → left ≡ pushed ws ofEquality q s → PathIn ws p
     → Means ws 1 q v → Means ws 1 s w → Yields left (Gave 1 r) (binaryExec n eqOp v w p)
 unfolding binaryExec
 same-truths n x er e h (truthRow l f) (truthRow k g) = rw (er, e) (truth-yields (made-equality x (h .distinct) f l g k) h)
@@ -196,13 +193,12 @@ same-words n x er e h (wordRow l f) (wordRow k g) = truth-yields (made-equal x (
 
 -- where a reference's place is
 data PlaceOf : ℕ → ℕ → Symbolic → Type 0 where
-  is-place : {t s i : ℕ} {o : Origin} → i ≡ placeOf o s → PlaceOf (suc (suc t)) i (aReference o t s)
+  is-place : {t s i : ℕ} {o : Origin} → i ≡ referenceAt o s → PlaceOf (suc (suc t)) i (aReference o t s)
 
 place-of : {ws : List ℕ} {t i : ℕ} {v : Symbolic} → 2 ≤ t → Means ws t i v → PlaceOf t i v
 place-of h (wordRow l r) = absurd (omega arith)
 place-of h (truthRow l r) = absurd (omega arith)
-place-of h (madeSymbol {s = s} e) = is-place {o = made} e
-place-of h (otherSymbol {s = s} e) = is-place {o = other} e
+place-of h (referencePlace e) = is-place e
 
 same-references : (n : ℕ) {ws left : List ℕ} {t r q s : ℕ} {v w : Symbolic} {p : Path} → Space ws 1 → r ≡ referencesRow ws q s → left ≡ referencesLeft ws q s
     → PathIn ws p → PlaceOf t q v → PlaceOf t s w → Yields left (Gave 1 r) (binaryExec n eqOp v w p)
@@ -215,20 +211,13 @@ other-types : (n : ℕ) {ws : List ℕ} {t q u s : ℕ} {v w : Symbolic} (p : Pa
 unfolding binaryExec
 other-types n p d (wordRow l r) (wordRow k s) = absurd (d refl)
 other-types n p d (wordRow l r) (truthRow k s) = stopping
-other-types n p d (wordRow l r) (madeSymbol e) = stopping
-other-types n p d (wordRow l r) (otherSymbol e) = stopping
+other-types n p d (wordRow l r) (referencePlace e) = stopping
 other-types n p d (truthRow l r) (wordRow k s) = stopping
 other-types n p d (truthRow l r) (truthRow k s) = absurd (d refl)
-other-types n p d (truthRow l r) (madeSymbol e) = stopping
-other-types n p d (truthRow l r) (otherSymbol e) = stopping
-other-types n p d (madeSymbol e) (wordRow k s) = stopping
-other-types n p d (madeSymbol e) (truthRow k s) = stopping
-other-types n p d (madeSymbol {t = t} e) (madeSymbol {t = u} f) = rw (ne-eqb t u λ z. d (ap (λ x. suc (suc x)) z)) stopping
-other-types n p d (madeSymbol {t = t} e) (otherSymbol {t = u} f) = rw (ne-eqb t u λ z. d (ap (λ x. suc (suc x)) z)) stopping
-other-types n p d (otherSymbol e) (wordRow k s) = stopping
-other-types n p d (otherSymbol e) (truthRow k s) = stopping
-other-types n p d (otherSymbol {t = t} e) (madeSymbol {t = u} f) = rw (ne-eqb t u λ z. d (ap (λ x. suc (suc x)) z)) stopping
-other-types n p d (otherSymbol {t = t} e) (otherSymbol {t = u} f) = rw (ne-eqb t u λ z. d (ap (λ x. suc (suc x)) z)) stopping
+other-types n p d (truthRow l r) (referencePlace e) = stopping
+other-types n p d (referencePlace e) (wordRow k s) = stopping
+other-types n p d (referencePlace e) (truthRow k s) = stopping
+other-types n p d (referencePlace {t = t} e) (referencePlace {t = u} f) = rw (ne-eqb t u λ z. d (ap (λ x. suc (suc x)) z)) stopping
 
 -- the rows that an equality adds
 words-added : {ws left : List ℕ} {q s : ℕ} {v w : Symbolic} → Space ws 1 → Distinct ws → left ≡ equalLeft ws q s → Means ws 0 q v → Means ws 0 s w → Added ws left 1
@@ -237,7 +226,7 @@ words-added x d e (wordRow l f) (wordRow k g) = made-equal x d f g l k _ _ refl 
 references-added : {ws left : List ℕ} {t q s : ℕ} {v w : Symbolic} → Space ws 1 → Distinct ws → left ≡ referencesLeft ws q s → PlaceOf t q v → PlaceOf t s w
     → Added ws left 1
 references-added {ws} x d e (is-place {s = a} {o = o} f) (is-place {s = b} {o = u} g) =
-    made-references x d o a u b (referencesRow ws (placeOf o a) (placeOf u b)) _ refl (rw (f, g) at e) .added
+    made-references x d o a u b (referencesRow ws (referenceAt o a) (referenceAt u b)) _ refl (rw (f, g) at e) .added
 
 -- one of the two is of another type
 not-both : (k n t u : ℕ) (ws : List ℕ) (o : Outcome) → (t ≡ k → u ≡ k → ⊥) → bothOf k n t u ws o ≡ gives (Stopped (WrongType n)) ws
@@ -272,29 +261,29 @@ module _ (n t q u s : ℕ) {ws : List ℕ} where
   equality-wrong d = record { ruled = ruled-refl ws; yields = λ v w p m k h. other-types n p d m k; exactly = rw (ne-eqb t u d) refl }
 
   module _ {left : List ℕ} {r : ℕ} (x : Room ws 1) where
-    pub sum-made : t ≡ 0 → u ≡ 0 → r ≡ countIn ws → left ≡ pushed ws 2 q s → Two (binaryForm addOp) n t q u s ws (Gave 0 r) left
+    pub sum-made : t ≡ 0 → u ≡ 0 → r ≡ countIn ws → left ≡ pushed ws ofSum q s → Two (binaryForm addOp) n t q u s ws (Gave 0 r) left
     unfolding twoExec twoGives binaryGives
     sum-made a b er e =
         record {
-          ruled = pushed-ruled (room-space x) 2 q s e;
+          ruled = pushed-ruled (room-space x) ofSum q s e;
           yields = λ v w p m k h. two-words n (room-space x) er e h (rw a at m) (rw b at k);
           exactly = rw (eq-eqb t 0 a, eq-eqb u 0 b, er, e) refl;
         }
 
-    pub conjunction-made : t ≡ 1 → u ≡ 1 → r ≡ countIn ws → left ≡ pushed ws 5 q s → Two (binaryForm andOp) n t q u s ws (Gave 1 r) left
+    pub conjunction-made : t ≡ 1 → u ≡ 1 → r ≡ countIn ws → left ≡ pushed ws ofConjunction q s → Two (binaryForm andOp) n t q u s ws (Gave 1 r) left
     unfolding twoExec twoGives binaryGives
     conjunction-made a b er e =
         record {
-          ruled = pushed-ruled (room-space x) 5 q s e;
+          ruled = pushed-ruled (room-space x) ofConjunction q s e;
           yields = λ v w p m k h. two-truths n (room-space x) er e h (rw a at m) (rw b at k);
           exactly = rw (eq-eqb t 1 a, eq-eqb u 1 b, er, e) refl;
         }
 
-    pub truths-equal : t ≡ 1 → t ≡ u → r ≡ countIn ws → left ≡ pushed ws 6 q s → Two (binaryForm eqOp) n t q u s ws (Gave 1 r) left
+    pub truths-equal : t ≡ 1 → t ≡ u → r ≡ countIn ws → left ≡ pushed ws ofEquality q s → Two (binaryForm eqOp) n t q u s ws (Gave 1 r) left
     unfolding twoExec twoGives binaryGives equalPlace equalNumbers
     truths-equal a b er e =
         record {
-          ruled = pushed-ruled (room-space x) 6 q s e;
+          ruled = pushed-ruled (room-space x) ofEquality q s e;
           yields = λ v w p m k h. same-truths n (room-space x) er e h (rw a at m) (rw (sym b ∙ a) at k);
           exactly = rw (eq-eqb t u b, a, er, e) refl;
         }

@@ -17,6 +17,7 @@ use Rattle.rules.specs.Paths.{start, leaves}
 use Rattle.rules.specs.Symbolic.{symbols}
 use Rattle.rules.specs.SymbolicRules.{verdict}
 use Rattle.rules.specs.TypedRules.{andThen, ifType}
+use Rattle.terms.specs.Places.{symbolLimit}
 use Rattle.workspace.specs.Rules.{leafType, oneType, twoType, boundOn, restType, Checkable, CheckableRest, Aside, Judged, BoundTypes}
 use Rattle.workspace.specs.Rules.Nodes.{shaped, first-of, rest-of, several-of, leaf-check, sym-check, one-check, rest-check, branches-of, if-rest-check, if-bound, two-rest-check}
 use Rattle.workspace.specs.State.{typesOn}
@@ -134,7 +135,7 @@ module _ {xs ws : List ℕ} {depth n : ℕ} (q : Checkable xs ws depth n) where
 -- ---- what is left of node n
 
 module _ {xs ws : List ℕ} {depth n : ℕ} (q : CheckableRest xs ws depth n) where
-  pub bind-room : depth < 144
+  pub bind-room : depth < symbolLimit
   bind-room = let f = rest-of (shaped 0 (q .formed)) (q .several) .second-fits in omega (arith, f, q .variables)
 
   pub second-earlier : nodeIn xs n .b < n

@@ -8,12 +8,14 @@ use lib.ListN.{length, set, length-set}
 use lib.Seq.{getD-set-same, getD-set-other}
 use borrow.Author.Tests.{eq-eqb, ne-eqb, le-leb, lt-leb}
 use Rattle.script.specs.Code.Forms.{formOf, form-plain, plain-but, plain-all}
+use Rattle.script.specs.Limits.{deepest, typeLimit}
 use Rattle.script.specs.Rows.{Form, rows, notOp, refOp, getOp, addOp, eqOp, andOp, setOp}
 use Rattle.script.specs.Tests.{pick}
 use Rattle.script.specs.declared.Checked.{Checked}
 use Rattle.script.specs.declared.Checked.the-variants.{Accepted, Refused}
 use Rattle.script.specs.declared.Refusal.the-variants.{TooManyReferences}
 use Rattle.rules.specs.TypedRules.{wrong, unaryType, binaryType, ifType, truthType, wordType}
+use Rattle.terms.specs.Places.{variablesEnd, symbolLimit}
 use Rattle.workspace.specs.Rules.{leafType, oneType, twoType, boundOn, BoundTypes}
 use Rattle.workspace.specs.Rules.Nodes.{let-form}
 use Rattle.workspace.specs.Rules.Typed.{aside-refl}
@@ -33,13 +35,13 @@ module _ (n : ℕ) where
   not-wrong (suc zero) d = absurd (d refl)
   not-wrong (suc (suc t)) d = refl
 
-  pub ref-right : (t : ℕ) → t < 30 → Accepted (t + 2) ≡ unaryType n refOp t
+  pub ref-right : (t : ℕ) → t < deepest → Accepted (t + 2) ≡ unaryType n refOp t
   unfolding unaryType
-  ref-right t l = let e : t + 2 ≡ suc (suc t) = omega arith in rw (e, le-leb (suc (suc t)) 31 (omega arith)) refl
+  ref-right t l = let e : t + 2 ≡ suc (suc t) = omega arith in rw (e, le-leb (suc (suc t)) typeLimit (omega arith)) refl
 
-  pub ref-wrong : (t : ℕ) → 30 ≤ t → Refused (TooManyReferences n) ≡ unaryType n refOp t
+  pub ref-wrong : (t : ℕ) → deepest ≤ t → Refused (TooManyReferences n) ≡ unaryType n refOp t
   unfolding unaryType
-  ref-wrong t l = rw (lt-leb (suc (suc t)) 31 (omega arith)) refl
+  ref-wrong t l = rw (lt-leb (suc (suc t)) typeLimit (omega arith)) refl
 
   pub get-right : (t : ℕ) → 2 ≤ t → Accepted (t - 2) ≡ unaryType n getOp t
   unfolding unaryType
@@ -143,7 +145,7 @@ let-bound v env k e = ap (λ (f : Form). boundOn f v env) (let-form k e)
 
 -- ---- the variables of the second operand
 
-module _ (k depth t : ℕ) (ws : List ℕ) (l : depth < 144) (h : 288 ≤ length ws) where
+module _ (k depth t : ℕ) (ws : List ℕ) (l : depth < symbolLimit) (h : variablesEnd ≤ length ws) where
   pub bind-type-let : k ≡ 9 → BoundTypes k depth t ws (depth + 1) (set ws (2 * depth) t)
   unfolding typesOn
   bind-type-let e =

@@ -11,24 +11,24 @@ use lib.ListN.{length, getD, getElem?, length-append}
 use borrow.Author.Tests.{eqb-true, eqb-false}
 use Rattle.rules.specs.Paths.{Path, Write}
 use Rattle.rules.specs.Symbolic.{Formula, Symbolic, typeOf}
+use Rattle.terms.specs.Places.{countAt, rowAt, rowsAt, rowsEnd, variablesEnd}
 use Rattle.terms.specs.Terms.{countIn, Space, Grown, Distinct, Added}
 use Rattle.terms.specs.Terms.Laws.{grown-refl, grown-trans, sum-kept, truth-kept, still-distinct}
 use Rattle.rows.specs.Known.{Remembers, remembers-kept}
-use Rattle.workspace.specs.State.{nextIn, conditionIn, writesIn, startIn, knownAt, typesOn, Means, wordRow, truthRow, madeSymbol, otherSymbol, Variables, noVariable, oneMore, Log, noWrite, aWrite, PathIn, Room, Went, Unnoted}
+use Rattle.workspace.specs.Places.{conditionAt, knownAt, logAt, nextAt, startAt, writeAt, writesAt}
+use Rattle.workspace.specs.State.{nextIn, conditionIn, writesIn, startIn, typesOn, Means, wordRow, truthRow, referencePlace, Variables, noVariable, oneMore, Log, noWrite, aWrite, PathIn, Room, Went, Unnoted}
 
 -- ---- values
 
 pub means-type : {ws : List ℕ} {t q : ℕ} {v : Symbolic} → Means ws t q v → typeOf v ≡ t
 means-type (wordRow l r) = refl
 means-type (truthRow l r) = refl
-means-type (madeSymbol e) = refl
-means-type (otherSymbol e) = refl
+means-type (referencePlace e) = refl
 
 pub means-kept : {ws left : List ℕ} {t q : ℕ} {v : Symbolic} → Grown ws left → Means ws t q v → Means left t q v
 means-kept g (wordRow {i = i} l r) = wordRow {i = i} (omega (arith, l, g .grows)) (sum-kept g r l)
 means-kept g (truthRow {i = i} l r) = truthRow {i = i} (omega (arith, l, g .grows)) (truth-kept g r l)
-means-kept g (madeSymbol e) = madeSymbol e
-means-kept g (otherSymbol e) = otherSymbol e
+means-kept g (referencePlace e) = referencePlace e
 
 -- at other places that hold the same numbers
 pub means-at : {ws left : List ℕ} {t q t′ q′ : ℕ} {v : Symbolic} → Grown ws left → t′ ≡ t → q′ ≡ q → Means ws t q v → Means left t′ q′ v
@@ -116,13 +116,13 @@ variables-at {ws} k l (oneMore {d = d} {env = env} {v = v} vs m) = go (below-or-
 
 -- ---- the log
 
-pub log-kept : {ws left : List ℕ} {begin k : ℕ} {l : List Write} → ((j : ℕ) → 729 ≤ j → j < 729 + 4 * k → getD left j 0 ≡ getD ws j 0) → Grown ws left
+pub log-kept : {ws left : List ℕ} {begin k : ℕ} {l : List Write} → ((j : ℕ) → logAt ≤ j → j < writeAt k → getD left j 0 ≡ getD ws j 0) → Grown ws left
     → Log ws begin k l → Log left begin k l
 log-kept b g noWrite = noWrite
 log-kept b g (aWrite {k = k} r m n) =
     aWrite (log-kept (λ j h i. b j h (omega arith)) g r)
-    (means-at g (b (729 + 4 * k) (omega arith) (omega arith)) (b (729 + 4 * k + 1) (omega arith) (omega arith)) m)
-    (means-at g (b (729 + 4 * k + 2) (omega arith) (omega arith)) (b (729 + 4 * k + 3) (omega arith) (omega arith)) n)
+    (means-at g (b (writeAt k) (omega arith) (omega arith)) (b (writeAt k + 1) (omega arith) (omega arith)) m)
+    (means-at g (b (writeAt k + 2) (omega arith) (omega arith)) (b (writeAt k + 3) (omega arith) (omega arith)) n)
 
 pub log-from : {ws : List ℕ} {begin k : ℕ} {l : List Write} → Log ws begin k l → begin ≤ k
 log-from noWrite = omega arith
@@ -155,25 +155,25 @@ path-moved g d c n l m h =
     }
 
 -- every place behind the rows is as before
-pub path-kept : {ws left : List ℕ} {p : Path} → ((j : ℕ) → 724 ≤ j → getD left j 0 ≡ getD ws j 0) → Grown ws left → Distinct left → PathIn ws p → PathIn left p
+pub path-kept : {ws left : List ℕ} {p : Path} → ((j : ℕ) → rowsEnd ≤ j → getD left j 0 ≡ getD ws j 0) → Grown ws left → Distinct left → PathIn ws p → PathIn left p
 path-kept b g d h =
-    path-moved g d (b 725 (omega arith)) (b 724 (omega arith) ∙ h .next)
-    (rw (b 726 (omega arith), b 727 (omega arith)) (log-kept (λ j i _. b j (omega arith)) g (h .log)))
+    path-moved g d (b conditionAt (omega arith)) (b nextAt (omega arith) ∙ h .next)
+    (rw (b writesAt (omega arith), b startAt (omega arith)) (log-kept (λ j i _. b j (omega arith)) g (h .log)))
     (still-known (λ j i. b j (omega arith)) g (h .remembers)) h
 
 pub path-added : {ws left : List ℕ} {m : ℕ} {p : Path} → Added ws left m → Distinct left → PathIn ws p → PathIn left p
 path-added a d h = path-kept (a .beyond) (a .grown) d h
 
-pub same-grown : {ws left : List ℕ} → ((j : ℕ) → 288 ≤ j → getD left j 0 ≡ getD ws j 0) → Grown ws left
-same-grown b = let e = b 288 (omega arith) in record { grows = omega arith; rows = λ k h i. b k (omega arith) }
+pub same-grown : {ws left : List ℕ} → ((j : ℕ) → variablesEnd ≤ j → getD left j 0 ≡ getD ws j 0) → Grown ws left
+same-grown b = let e = b countAt (omega arith) in record { grows = omega arith; rows = λ k h i. b k (omega arith) }
 
 -- where no row changes, different atoms stay different
-pub distinct-same : {ws left : List ℕ} → ((j : ℕ) → 288 ≤ j → getD left j 0 ≡ getD ws j 0) → Distinct ws → Distinct left
-distinct-same b d = let e = b 288 (omega arith) in still-distinct (same-grown b) (omega arith) d
+pub distinct-same : {ws left : List ℕ} → ((j : ℕ) → variablesEnd ≤ j → getD left j 0 ≡ getD ws j 0) → Distinct ws → Distinct left
+distinct-same b d = let e = b countAt (omega arith) in still-distinct (same-grown b) (omega arith) d
 
 -- back at the rows, the log and the numbers of a path; what is known is as said
-pub path-rewound : {xs ws : List ℕ} {p : Path} → ((k : ℕ) → 289 ≤ k → k < 289 + 3 * countIn xs → getD ws k 0 ≡ getD xs k 0)
-    → ((k : ℕ) → 729 ≤ k → k < 729 + 4 * writesIn xs → getD ws k 0 ≡ getD xs k 0) → countIn ws ≡ countIn xs → nextIn ws ≡ nextIn xs
+pub path-rewound : {xs ws : List ℕ} {p : Path} → ((k : ℕ) → rowsAt ≤ k → k < rowAt (countIn xs) → getD ws k 0 ≡ getD xs k 0)
+    → ((k : ℕ) → logAt ≤ k → k < writeAt (writesIn xs) → getD ws k 0 ≡ getD xs k 0) → countIn ws ≡ countIn xs → nextIn ws ≡ nextIn xs
     → conditionIn ws ≡ conditionIn xs → writesIn ws ≡ writesIn xs → startIn ws ≡ startIn xs → Remembers ws knownAt (p .condition) → PathIn xs p
     → PathIn ws p
 path-rewound {xs} {ws} b l count next condition writes start m h =

@@ -2,6 +2,7 @@
 use borrow.Author.Needs.{needs}
 use Prim.Native.Nat.{_+_, _*_}
 use native.Mathlib.Omega.{arith}
+use Rattle.workspace.specs.Places.{baseAt}
 use Rattle.checker.specs.Code.Going.Rewinding.{Restoring, restoring-start, restoring-less, restoring-on, restoring-end}
 use Rattle.checker.proofs.forks.restore.Statement.{statement}
 use Rattle.checker.proofs.forks.restore.Tie as tie
@@ -25,7 +26,7 @@ slice-read-if1 : tie.Need-slice-read-if1 Inv-loop μ-loop
 slice-read-if1 c = omega (arith, c .before .before .before .before .before .before .pre .lent, c .before .loop .inv .same)
 
 cast-if1 : tie.Need-cast-if1 Inv-loop μ-loop
-cast-if1 c = omega (arith, c .slice-known3 .given 1241)
+cast-if1 c = omega (arith, c .slice-known3 .given baseAt)
 
 restore-one-requires : tie.Need-restore-one-requires Inv-loop μ-loop
 restore-one-requires c κs =

@@ -5,6 +5,7 @@ use Prim.Native.Nat.{ℕ, suc, _+_, _*_, _≤_, _<_}
 use native.Mathlib.Omega.{arith}
 use lib.ListN.{length, getD}
 use Rattle.script.specs.Code.Forms.{formOf, leaf-kinds, nodeIn, treeIn, some-operand, formed-less}
+use Rattle.script.specs.Limits.{nodeLimit}
 use Rattle.script.specs.Rows.{nodeOperands}
 use Rattle.script.specs.declared.Checked.{Checked}
 use Rattle.script.specs.declared.Checked.the-variants.{Accepted, Refused}
@@ -13,11 +14,13 @@ use Rattle.rules.specs.Checking.{check, exec}
 use Rattle.rules.specs.Paths.{Paths, bind, Leaf, stopped, leaves}
 use Rattle.rules.specs.Symbolic.{Symbolic}
 use Rattle.rules.specs.SymbolicRules.{typedResult}
+use Rattle.terms.specs.Places.{countAt, variablesEnd}
 use Rattle.terms.specs.Terms.{Grown}
 use Rattle.workspace.specs.Frames.{topIn}
 use Rattle.workspace.specs.Frames.Laws.{size-some}
 use Rattle.workspace.specs.Forks.{forkedIn}
 use Rattle.workspace.specs.Notes.{Noting, Blocked}
+use Rattle.workspace.specs.Places.{baseAt, conditionAt, depthAt, nextAt, spaceSize, startAt, turnAt, writesAt}
 use Rattle.workspace.specs.Rules.{Checkable, Leaf as LeafRule, After}
 use Rattle.workspace.specs.Rules.Nodes.{shaped, first-of, leaf-exec, typed-exec}
 use Rattle.workspace.specs.State.{depthIn, typesOn, PathIn, Room}
@@ -57,7 +60,7 @@ module _ {limit : ℕ} {table : List ℕ} {bound base : ℕ} {ground : List Symb
   enters-room : Room ws (1 + q .owed)
   enters-room = let z = size-some (treeIn table n) in room-less (omega (arith, z)) (q .room)
 
-  enters-tops : topIn fs + forkedIn fs + suc (q .frames) ≤ 128
+  enters-tops : topIn fs + forkedIn fs + suc (q .frames) ≤ nodeLimit
   enters-tops = let z = size-some (treeIn table n) in omega (arith, z, q .tops)
 
   pub one-room : Room ws 1
@@ -107,12 +110,12 @@ module _ {limit : ℕ} {table : List ℕ} {bound base : ℕ} {ground : List Symb
       block-is : {d : Checked} → c ≡ d → ls ≡ leaves (bind (typedResult n (q .path) d) (goOn limit table (q .later))) ++ q .others
       block-is e = q .is ∙ ap (λ (x : Paths). leaves (bind x (goOn limit table (q .later))) ++ q .others) (block-exec e)
 
-      place : (j : ℕ) → 288 ≤ j → j < 1242 → getD left j 0 ≡ getD ws j 0
+      place : (j : ℕ) → variablesEnd ≤ j → j < turnAt → getD left j 0 ≡ getD ws j 0
       place = b .between
 
       block-grown : Grown ws left
       block-grown =
-          let e = place 288 (omega arith) (omega arith) in
+          let e = place countAt (omega arith) (omega arith) in
           let x = enters-room .rows in
           record { grows = omega arith; rows = λ j l h. place j (omega arith) (omega arith) }
 
@@ -120,20 +123,20 @@ module _ {limit : ℕ} {table : List ℕ} {bound base : ℕ} {ground : List Symb
       block-path =
           let x = enters-room in
           path-rewound (λ j l h. place j (omega arith) (omega (arith, h, x .rows))) (λ j l h. place j (omega arith) (omega (arith, h, x .writes)))
-          (place 288 (omega arith) (omega arith)) (place 724 (omega arith) (omega arith)) (place 725 (omega arith) (omega arith))
-          (place 726 (omega arith) (omega arith)) (place 727 (omega arith) (omega arith))
+          (place countAt (omega arith) (omega arith)) (place nextAt (omega arith) (omega arith)) (place conditionAt (omega arith) (omega arith))
+          (place writesAt (omega arith) (omega arith)) (place startAt (omega arith) (omega arith))
           (still-known (b .beyond) block-grown (q .stands .state .path .remembers)) (q .stands .state .path)
 
       block-room : {rows : ℕ} → Room ws rows → Room left rows
       block-room x =
-          room-same (b .same) (place 288 (omega arith) (omega arith)) (place 724 (omega arith) (omega arith)) (place 726 (omega arith) (omega arith)) x
+          room-same (b .same) (place countAt (omega arith) (omega arith)) (place nextAt (omega arith) (omega arith)) (place writesAt (omega arith) (omega arith)) x
 
       block-stands : Stands limit table bound base ground left fs (q .environment) (q .path) (q .later) (q .owed) (q .frames) (q .others)
       block-stands =
           let s = q .stands in
-          let d = place 728 (omega arith) (omega arith) in
+          let d = place depthAt (omega arith) (omega arith) in
           let h = stands-base s in
-          let w = place 726 (omega arith) (omega arith) in
+          let w = place writesAt (omega arith) (omega arith) in
           let x = enters-room in
           stands-by s
           (record {
@@ -148,7 +151,7 @@ module _ {limit : ℕ} {table : List ℕ} {bound base : ℕ} {ground : List Symb
             forked = omega arith;
             forks = λ j l i. refl;
           })
-          refl (s .inside) (omega (arith, d, s .narrow)) (record { base = place 1241 (omega arith) (omega arith); kept = b .kept })
+          refl (s .inside) (omega (arith, d, s .narrow)) (record { base = place baseAt (omega arith) (omega arith); kept = b .kept })
           (record { variables = rw d (variables-kept (depthIn ws) (omega arith) (b .before) block-grown (s .state .variables)); path = block-path })
           (rw d (awaits-kept (topIn fs) (s .inside) block-grown (λ j l i. refl) (s .awaits)))
 
@@ -196,7 +199,7 @@ module _ {table ws fs : List ℕ} {n : ℕ} (x : Leafable table ws fs n) where
   pub leaf-node : 4 * n + 3 < length table
   leaf-node = omega (arith, enters-formed e .room)
 
-  pub leaf-space : 1415 ≤ length ws
+  pub leaf-space : spaceSize ≤ length ws
   leaf-space = e .stands .lent
 
   pub leaf-room : Room ws 1
@@ -233,7 +236,7 @@ module _ {limit : ℕ} {table ws fs : List ℕ} {n : ℕ} (x : Enterable limit t
   pub up-node : 4 * n + 3 < length table
   up-node = omega (arith, enters-formed (x .entering) .room)
 
-  pub up-space : 1415 ≤ length ws
+  pub up-space : spaceSize ≤ length ws
   up-space = x .entering .stands .lent
 
   pub up-earlier : nodeIn table n .a < n

@@ -9,9 +9,12 @@ use lib.ListN.{length, set, length-set}
 use lib.Seq.{getD-set-same, getD-set-other}
 use borrow.Author.Tests.{eqb-true, eqb-false}
 use Rattle.script.specs.Code.Forms.{formOf, nodeIn}
+use Rattle.script.specs.Limits.{nodeLimit}
 use Rattle.script.specs.Rows.{nodeOperands}
-use Rattle.workspace.specs.Frames.{frameIn, topIn, nodeOf, upOf, firstOf, secondOf, Waitable, Waits}
+use Rattle.terms.specs.Places.{symbolLimit}
+use Rattle.workspace.specs.Frames.{frameIn, topIn, nodeOf, upOf, firstOf, secondOf, Waitable, Waits, awaitsOf, goesTo}
 use Rattle.workspace.specs.Forks.{forkedIn, Forks}
+use Rattle.workspace.specs.Places.{forkLimit, framesEnd, framesSize, goalAt, topAt}
 use Rattle.workspace.specs.Rules.{One, Decidable}
 use Rattle.workspace.specs.State.{depthIn, Room}
 use Rattle.workspace.specs.declared.Step.{Step}
@@ -38,55 +41,55 @@ module _ {table ws fs : List ℕ} {t q : ℕ} (x : Returnable table ws fs t q) (
   n = nodeOf fs (frameIn fs)
 
   abbrev fs₁ : List ℕ
-  fs₁ = set fs 0 (upOf fs (frameIn fs) / 4)
+  fs₁ = set fs goalAt (goesTo fs (frameIn fs))
 
-  pub back-inside : frameIn fs < 128
+  pub back-inside : frameIn fs < nodeLimit
   back-inside = let i = x .returning .stands .inside in omega (arith, i, x .returning .tops)
 
-  pub back-lent : 512 ≤ length fs
+  pub back-lent : framesEnd ≤ length fs
   back-lent = omega (arith, x .returning .stands .framed)
 
-  pub back-framed : 640 ≤ length fs₁
-  back-framed = omega (arith, x .returning .stands .framed, length-set fs 0 (upOf fs (frameIn fs) / 4))
+  pub back-framed : framesSize ≤ length fs₁
+  back-framed = omega (arith, x .returning .stands .framed, length-set fs goalAt (goesTo fs (frameIn fs)))
 
   pub back-node : 4 * n + 3 < length table
   back-node = let l = up (x .returning) some .low in omega (arith, l, x .returning .stands .formed .room)
 
   falls : frameIn fs₁ < frameIn fs
   falls =
-      let e = getD-set-same fs 0 (upOf fs (frameIn fs) / 4) 0 (omega (arith, x .returning .stands .framed)) in
+      let e = getD-set-same fs goalAt (goesTo fs (frameIn fs)) 0 (omega (arith, x .returning .stands .framed)) in
       let l = up (x .returning) some .falls in
       omega arith
 
   top-is : topIn fs₁ ≡ topIn fs
-  top-is = getD-set-other fs 0 1 (upOf fs (frameIn fs) / 4) 0 λ e. omega arith
+  top-is = getD-set-other fs goalAt topAt (goesTo fs (frameIn fs)) 0 λ e. omega arith
 
   -- ---- with its last operand
 
-  module _ (z : upOf fs f % 4 ≡ 0 → ⊥) where
-    pub back-lastable : Lastable (upOf fs f % 4) ws (firstOf fs f) (secondOf fs f) t q
+  module _ (z : awaitsOf fs f ≡ 0 → ⊥) where
+    pub back-lastable : Lastable (awaitsOf fs f) ws (firstOf fs f) (secondOf fs f) t q
     back-lastable = up-lastable (x .returning) some z
 
-    pub back-last : {m : Move} {left : List ℕ} → Lasts (nodeIn table n .kind) (upOf fs f % 4) n (firstOf fs f) (secondOf fs f) t q ws m left
+    pub back-last : {m : Move} {left : List ℕ} → Lasts (nodeIn table n .kind) (awaitsOf fs f) n (firstOf fs f) (secondOf fs f) t q ws m left
         → Backs table t q ws fs m left fs₁
     back-last {m} {left} l =
         record {
           came = λ limit bound base ground ls r. up-last r some z l;
           falls = λ e. falls;
-          rises = λ e. absurd (by (eqb (upOf fs f % 4) 2) refl e);
+          rises = λ e. absurd (by (eqb (awaitsOf fs f) 2) refl e);
           tops = omega (arith, top-is);
         }
       where
-        by : (b : Bool) → eqb (upOf fs f % 4) 2 ≡ b → {k : ℕ} → m ≡ Operand k → ⊥
-        by true i e = value-not-operand (sym (l .body (eqb-true (upOf fs f % 4) 2 i) .0) ∙ e)
-        by false i e = let a = l .other (eqb-false (upOf fs f % 4) 2 i) in moved-not-operand (a .0) (sym (a .1) ∙ e)
+        by : (b : Bool) → eqb (awaitsOf fs f) 2 ≡ b → {k : ℕ} → m ≡ Operand k → ⊥
+        by true i e = value-not-operand (sym (l .body (eqb-true (awaitsOf fs f) 2 i) .0) ∙ e)
+        by false i e = let a = l .other (eqb-false (awaitsOf fs f) 2 i) in moved-not-operand (a .0) (sym (a .1) ∙ e)
 
   -- ---- with its only operand
 
   pub back-room : Room ws 1
   back-room = up-room (x .returning) some
 
-  pub back-one : upOf fs f % 4 ≡ 0 → nodeOperands (nodeIn table n .kind) ≡ 1 → {a : Step} {left : List ℕ} → One (formOf (nodeIn table n .kind)) n t q ws a left
+  pub back-one : awaitsOf fs f ≡ 0 → nodeOperands (nodeIn table n .kind) ≡ 1 → {a : Step} {left : List ℕ} → One (formOf (nodeIn table n .kind)) n t q ws a left
       → Backs table t q ws fs (movedBy a) left fs₁
   back-one z o {a} l =
       record {
@@ -98,7 +101,7 @@ module _ {table ws fs : List ℕ} {t q : ℕ} (x : Returnable table ws fs t q) (
 
   -- ---- with the first of several
 
-  module _ (z : upOf fs f % 4 ≡ 0) (o : nodeOperands (nodeIn table n .kind) ≡ 1 → ⊥) where
+  module _ (z : awaitsOf fs f ≡ 0) (o : nodeOperands (nodeIn table n .kind) ≡ 1 → ⊥) where
     pub back-waitable : Waitable fs₁
     back-waitable = next-waitable (x .returning) some (up-next (x .returning) some z o)
 
@@ -117,7 +120,7 @@ module _ {table ws fs : List ℕ} {t q : ℕ} (x : Returnable table ws fs t q) (
         }
 
     -- of a `let`
-    pub back-deep : depthIn ws < 144
+    pub back-deep : depthIn ws < symbolLimit
     back-deep = next-deep (x .returning) some (up-next (x .returning) some z o)
 
     pub back-let : nodeIn table n .kind ≡ 9 → {gs : List ℕ} → Waits n 2 t q fs₁ gs → Backs table t q ws fs (Operand (nodeIn table n .b)) (boundTo ws t q) gs
@@ -134,7 +137,7 @@ module _ {table ws fs : List ℕ} {t q : ℕ} (x : Returnable table ws fs t q) (
       pub back-decidable : Decidable ws t q
       back-decidable = next-decidable (x .returning) some (up-next (x .returning) some z o) h
 
-      pub back-forked : forkedIn fs₁ < 64
+      pub back-forked : forkedIn fs₁ < forkLimit
       back-forked = next-forked (x .returning) some (up-next (x .returning) some z o) h
 
       forks-top : {ys hs gs : List ℕ} → Forks ys hs gs → topIn gs ≡ topIn hs

@@ -8,13 +8,15 @@ use Rattle.script.specs.Code.Forms.{formOf}
 use Rattle.script.specs.declared.Refusal.{Refusal}
 use Rattle.rules.specs.Paths.{Path}
 use Rattle.rules.specs.Symbolic.{Symbolic}
-use Rattle.terms.specs.Terms.{Space, symbolLimit}
+use Rattle.terms.specs.Places.{symbolLimit}
+use Rattle.terms.specs.Terms.{Space, ofConjunction}
 use Rattle.workspace.specs.Frames.{Waitable, Waits}
-use Rattle.workspace.specs.Forks.{forkedIn, framesSize, Forkable, Forks}
+use Rattle.workspace.specs.Forks.{forkedIn, Forkable, Forks}
 use Rattle.workspace.specs.Paths.{assumed, forgotten}
 use Rattle.workspace.specs.Paths.Conditions.{learns-set, learnt-room}
+use Rattle.workspace.specs.Places.{forkLimit, framesSize, knownAt, spaceSize}
 use Rattle.workspace.specs.Rules.{Two, Chosen, both, Chooses, Decidable}
-use Rattle.workspace.specs.State.{depthIn, knownAt, spaceSize, Room}
+use Rattle.workspace.specs.State.{depthIn, Room}
 use Rattle.workspace.specs.State.Laws.{room-space, log-from}
 use Rattle.workspace.specs.declared.Step.{Step}
 use Rattle.workspace.specs.declared.Branch.{Branch}
@@ -60,7 +62,7 @@ module _ {n t q : ℕ} {ws left : List ℕ} {r : Branch} (d : Decidable ws t q) 
 
 -- the path's numbers are small enough for a fork, and a new frame is none
 pub both-forkable : {n t q awaits x y : ℕ} {ws left fs gs : List ℕ} {r : Branch} → Decidable ws t q → r ≡ Both → Chooses n t q ws r left → depthIn ws ≤ symbolLimit
-    → Waits n awaits x y fs gs → Waitable fs → framesSize ≤ length fs → forkedIn fs < 64 → Forkable left gs
+    → Waits n awaits x y fs gs → Waitable fs → framesSize ≤ length fs → forkedIn fs < forkLimit → Forkable left gs
 both-forkable {ws = ws} {gs = gs} d e h narrow w can l f = rw (both-same d e h) now
   where
     now : Forkable ws gs
@@ -92,5 +94,5 @@ module _ {b c n t q : ℕ} {ws fs left gs : List ℕ} {r : Branch} (w : Waits n 
   pub branched-none : {x : Refusal} → r ≡ Neither x → Branched b c n t q ws fs left gs (Stopped x)
   branched-none e = to-none w (rw e at h)
 
-  pub branched-both : {end hs : List ℕ} → r ≡ Both → Forks left gs hs → end ≡ assumed (forgotten left) 5 q → Branched b c n t q ws fs end hs (Operand b)
+  pub branched-both : {end hs : List ℕ} → r ≡ Both → Forks left gs hs → end ≡ assumed (forgotten left) ofConjunction q → Branched b c n t q ws fs end hs (Operand b)
   branched-both e f a = to-both w (rw e at h) f a

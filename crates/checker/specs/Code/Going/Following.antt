@@ -9,6 +9,7 @@ use lib.ListN.{getD, set, length-set}
 use lib.Seq.{getD-set-same, getD-set-other}
 use Rattle.script.specs.Code.Forms.{formOf, nodeIn, treeIn, formed-less}
 use Rattle.script.specs.Flat.{FormedNodes}
+use Rattle.script.specs.Limits.{nodeLimit}
 use Rattle.script.specs.Tree.{size}
 use Rattle.script.specs.declared.Refusal.{Refusal}
 use Rattle.rules.specs.Checking.{exec}
@@ -17,13 +18,15 @@ use Rattle.rules.specs.Paths.{Path, Paths, stops, forks, bind, Leaf, stopped, l
 use Rattle.rules.specs.Symbolic.{Formula, Symbolic, aTruth}
 use Rattle.rules.specs.SymbolicRules.{decide}
 use Rattle.rules.specs.Satisfiable.{satisfiable}
-use Rattle.terms.specs.Terms.{Grown}
+use Rattle.terms.specs.Places.{symbolLimit}
+use Rattle.terms.specs.Terms.{Grown, ofConjunction}
 use Rattle.terms.specs.Terms.Laws.{grown-refl}
-use Rattle.workspace.specs.Frames.{frameIn, topIn, nodeOf, upOf, firstOf, secondOf, Waitable, Waits}
+use Rattle.workspace.specs.Frames.{frameIn, topIn, nodeOf, upOf, firstOf, secondOf, Waitable, Waits, goesTo}
 use Rattle.workspace.specs.Frames.Laws.{size-some}
 use Rattle.workspace.specs.Forks.{forkedIn, Forks}
 use Rattle.workspace.specs.Paths.{assumed, forgotten}
 use Rattle.workspace.specs.Paths.Conditions.{learns-set, forgets, assumed-ruled, assumed-with}
+use Rattle.workspace.specs.Places.{depthAt, forkLimit, goalAt}
 use Rattle.workspace.specs.Rules.{twoExec, restSize, withGuard, withoutGuard, Ruled, Chosen, Decidable}
 use Rattle.workspace.specs.Rules.Chosen.{first as chosen-first, second as chosen-second, both as chosen-both, neither as chosen-neither}
 use Rattle.workspace.specs.Rules.Nodes.{Rest, Branches, shaped, rest-of, several-of, branches-of, if-rest-exec, if-two, two-rest-exec}
@@ -47,7 +50,7 @@ module _ {limit : ℕ} {table : List ℕ} {bound base : ℕ} {ground : List Symb
   n = nodeOf fs (frameIn fs)
 
   abbrev g : ℕ
-  g = upOf fs (frameIn fs) / 4
+  g = goesTo fs (frameIn fs)
 
   module _ (x : Next r some) where
     abbrev b : ℕ
@@ -57,7 +60,7 @@ module _ {limit : ℕ} {table : List ℕ} {bound base : ℕ} {ground : List Symb
     c = nodeIn table n .c
 
     abbrev fs₁ : List ℕ
-    fs₁ = set fs 0 g
+    fs₁ = set fs goalAt g
 
     node-formed : FormedNodes table (suc n)
     node-formed = formed-less (suc n) (up r some .low) (r .stands .formed)
@@ -65,14 +68,14 @@ module _ {limit : ℕ} {table : List ℕ} {bound base : ℕ} {ground : List Symb
     after : Rest limit table n (treeIn table n)
     after = rest-of (shaped limit node-formed) (x .several)
 
-    pub next-few : topIn fs₁ < 127
+    pub next-few : suc (topIn fs₁) < nodeLimit
     next-few =
         let h = after .second-fits in
         let k = size-some (treeIn table b) in
         omega (arith, (left-top r some), r .tops, x .frames-is, x .size-is, h, k)
 
     pub next-waitable : Waitable fs₁
-    next-waitable = record { lent = omega (arith, r .stands .framed, length-set fs 0 g); few = next-few; inside = x .stands .inside }
+    next-waitable = record { lent = omega (arith, r .stands .framed, length-set fs goalAt g); few = next-few; inside = x .stands .inside }
 
     value-at : {awaits : ℕ} {gs : List ℕ} → Waits n awaits t q fs₁ gs → Means ws (firstOf gs (suc (topIn fs₁))) (secondOf gs (suc (topIn fs₁))) (r .value)
     value-at w = rw (w .first, w .second) (r .means)
@@ -113,15 +116,15 @@ module _ {limit : ℕ} {table : List ℕ} {bound base : ℕ} {ground : List Symb
         }
 
     -- of a `let`: its value becomes a variable
-    pub next-deep : depthIn ws < 144
+    pub next-deep : depthIn ws < symbolLimit
     next-deep = let h = after .second-fits in let k = size-some (treeIn table b) in omega (arith, h, k, x .size-is, x .narrow)
 
     abbrev ws₁ : List ℕ
     ws₁ = boundTo ws t q
 
-    bound-other-place : (k : ℕ) → (k ≡ 2 * depthIn ws → ⊥) → (k ≡ 2 * depthIn ws + 1 → ⊥) → (k ≡ 728 → ⊥) → getD ws₁ k 0 ≡ getD ws k 0
+    bound-other-place : (k : ℕ) → (k ≡ 2 * depthIn ws → ⊥) → (k ≡ 2 * depthIn ws + 1 → ⊥) → (k ≡ depthAt → ⊥) → getD ws₁ k 0 ≡ getD ws k 0
     bound-other-place k y z w =
-        getD-set-other (set (set ws (2 * depthIn ws) t) (2 * depthIn ws + 1) q) 728 k (depthIn ws + 1) 0 w
+        getD-set-other (set (set ws (2 * depthIn ws) t) (2 * depthIn ws + 1) q) depthAt k (depthIn ws + 1) 0 w
         ∙ getD-set-other (set ws (2 * depthIn ws) t) (2 * depthIn ws + 1) k q 0 z
         ∙ getD-set-other ws (2 * depthIn ws) k t 0 y
 
@@ -131,7 +134,7 @@ module _ {limit : ℕ} {table : List ℕ} {bound base : ℕ} {ground : List Symb
         let z = next-deep in
         record {
           same =
-              length-set (set (set ws (2 * depthIn ws) t) (2 * depthIn ws + 1) q) 728 (depthIn ws + 1)
+              length-set (set (set ws (2 * depthIn ws) t) (2 * depthIn ws + 1) q) depthAt (depthIn ws + 1)
               ∙ length-set (set ws (2 * depthIn ws) t) (2 * depthIn ws + 1) q
               ∙ length-set ws (2 * depthIn ws) t;
           first = λ k l. bound-other-place k (λ e. omega arith) (λ e. omega arith) (λ e. omega arith);
@@ -140,21 +143,21 @@ module _ {limit : ℕ} {table : List ℕ} {bound base : ℕ} {ground : List Symb
 
     bound-depth : depthIn ws₁ ≡ suc (depthIn ws)
     bound-depth =
-        getD-set-same (set (set ws (2 * depthIn ws) t) (2 * depthIn ws + 1) q) 728 (depthIn ws + 1) 0
+        getD-set-same (set (set ws (2 * depthIn ws) t) (2 * depthIn ws + 1) q) depthAt (depthIn ws + 1) 0
         (omega (arith, r .stands .lent, length-set (set ws (2 * depthIn ws) t) (2 * depthIn ws + 1) q, length-set ws (2 * depthIn ws) t))
         ∙ omega arith
 
     bound-type : getD ws₁ (2 * depthIn ws) 0 ≡ t
     bound-type =
         let z = next-deep in
-        getD-set-other (set (set ws (2 * depthIn ws) t) (2 * depthIn ws + 1) q) 728 (2 * depthIn ws) (depthIn ws + 1) 0 (λ e. omega arith)
+        getD-set-other (set (set ws (2 * depthIn ws) t) (2 * depthIn ws + 1) q) depthAt (2 * depthIn ws) (depthIn ws + 1) 0 (λ e. omega arith)
         ∙ getD-set-other (set ws (2 * depthIn ws) t) (2 * depthIn ws + 1) (2 * depthIn ws) q 0 (λ e. omega arith)
         ∙ getD-set-same ws (2 * depthIn ws) t 0 (omega (arith, r .stands .lent, z))
 
     bound-place : getD ws₁ (2 * depthIn ws + 1) 0 ≡ q
     bound-place =
         let z = next-deep in
-        getD-set-other (set (set ws (2 * depthIn ws) t) (2 * depthIn ws + 1) q) 728 (2 * depthIn ws + 1) (depthIn ws + 1) 0 (λ e. omega arith)
+        getD-set-other (set (set ws (2 * depthIn ws) t) (2 * depthIn ws + 1) q) depthAt (2 * depthIn ws + 1) (depthIn ws + 1) 0 (λ e. omega arith)
         ∙ getD-set-same (set ws (2 * depthIn ws) t) (2 * depthIn ws + 1) q 0 (omega (arith, r .stands .lent, z, length-set ws (2 * depthIn ws) t))
 
     bound-grown : Grown ws ws₁
@@ -317,7 +320,7 @@ module _ {limit : ℕ} {table : List ℕ} {bound base : ℕ} {ground : List Symb
         both-frame : frameIn gs ≡ frameIn hs
         both-frame = y .others 0 (λ e. omega arith) (omega arith)
 
-        hs-few : topIn hs < 128
+        hs-few : topIn hs < nodeLimit
         hs-few = let z = next-few in omega (arith, w .top, z)
 
         both-onward : Onward base ws hs ws gs
@@ -361,7 +364,7 @@ module _ {limit : ℕ} {table : List ℕ} {bound base : ℕ} {ground : List Symb
             }
 
         takes-both : ((e f : Path → Paths) → decide n (r .value) (r .path) e f ≡ forks (e (withGuard k (r .path))) (f (withoutGuard k (r .path))))
-            → Entering limit table bound base ground (assumed (forgotten ws) 5 q) gs b ls
+            → Entering limit table bound base ground (assumed (forgotten ws) ofConjunction q) gs b ls
         unfolding bind leaves
         takes-both e =
             let z = size-some (treeIn table c) in
@@ -389,7 +392,7 @@ module _ {limit : ℕ} {table : List ℕ} {bound base : ℕ} {ground : List Symb
             }
 
       takes-either : {between hs gs : List ℕ} → Waits n 1 t q fs₁ hs → Chosen ws between n (r .value) (r .path) Both → Forks between hs gs
-          → Entering limit table bound base ground (assumed (forgotten between) 5 q) gs b ls
+          → Entering limit table bound base ground (assumed (forgotten between) ofConjunction q) gs b ls
       takes-either {hs = hs} {gs = gs} w (chosen-both s v a d e) y =
           rw s (takes-both w (subst (λ (ws : List ℕ). Forks ws hs gs) s y) v a d e)
 
@@ -404,7 +407,7 @@ module _ {limit : ℕ} {table : List ℕ} {bound base : ℕ} {ground : List Symb
       pub next-decidable : Decidable ws t q
       next-decidable = record { room = (up-room r some); valued = (up-valued r some); path = r .path; holds = r .stands .state .path }
 
-      pub next-forked : forkedIn fs₁ < 64
+      pub next-forked : forkedIn fs₁ < forkLimit
       next-forked =
           let z = size-some (treeIn table b) in
           let o = sides .fits in

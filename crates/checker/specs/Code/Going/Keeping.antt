@@ -5,14 +5,17 @@ use Prim.Native.Nat.{ℕ, suc, _+_, _*_, _≤_, _<_}
 use native.Mathlib.Omega.{arith}
 use lib.ListN.{getD, set, length-set}
 use lib.Seq.{getD-set-same, getD-set-other}
+use Rattle.script.specs.Limits.{nodeLimit}
 use Rattle.rules.specs.Paths.{Path, Leaf}
 use Rattle.rules.specs.Symbolic.{Symbolic}
-use Rattle.terms.specs.Terms.{Grown, symbolLimit}
+use Rattle.terms.specs.Places.{symbolLimit}
+use Rattle.terms.specs.Terms.{Grown}
 use Rattle.terms.specs.Terms.Laws.{grown-refl, grown-trans}
 use Rattle.workspace.specs.Frames.{frameIn, topIn, Waits}
 use Rattle.workspace.specs.Forks.{forkedIn, Forked}
 use Rattle.workspace.specs.Notes.{Noting, Holding}
 use Rattle.workspace.specs.Notes.Keeping.{still-holding}
+use Rattle.workspace.specs.Places.{forkAt, forkedAt, frameWidth, framesEnd, goalAt, topAt}
 use Rattle.workspace.specs.Rules.{Ruled}
 use Rattle.workspace.specs.State.{depthIn, PathIn, State, Unnoted}
 use Rattle.workspace.specs.State.Laws.{means-at, variables-kept, unnoted-refl}
@@ -67,7 +70,7 @@ ruled-onward fs b r =
     }
 
 -- a new frame
-pub waits-onward : {base n awaits x y : ℕ} (ws : List ℕ) {fs gs : List ℕ} → topIn fs < 127 → Waits n awaits x y fs gs → Onward base ws fs ws gs
+pub waits-onward : {base n awaits x y : ℕ} (ws : List ℕ) {fs gs : List ℕ} → suc (topIn fs) < nodeLimit → Waits n awaits x y fs gs → Onward base ws fs ws gs
 waits-onward ws l w =
     let t = w .top in
     let j = w .others 2 (omega arith) λ h i. omega arith in
@@ -85,36 +88,36 @@ waits-onward ws l w =
     }
 
 -- another frame is the one that a value goes to
-pub leave-onward : {base : ℕ} (ws fs : List ℕ) (g : ℕ) → Onward base ws fs ws (set fs 0 g)
+pub leave-onward : {base : ℕ} (ws fs : List ℕ) (g : ℕ) → Onward base ws fs ws (set fs goalAt g)
 leave-onward ws fs g =
-    let t = getD-set-other fs 0 1 g 0 λ e. omega arith in
-    let j = getD-set-other fs 0 2 g 0 λ e. omega arith in
+    let t = getD-set-other fs goalAt topAt g 0 λ e. omega arith in
+    let j = getD-set-other fs goalAt forkedAt g 0 λ e. omega arith in
     record {
       same = refl;
-      framed = length-set fs 0 g;
+      framed = length-set fs goalAt g;
       first = λ k h. refl;
       grown = grown-refl ws;
       logged = omega arith;
       log = λ k h i. refl;
       tops = omega arith;
-      frames = λ k h i. getD-set-other fs 0 k g 0 λ e. omega arith;
+      frames = λ k h i. getD-set-other fs goalAt k g 0 λ e. omega arith;
       forked = omega arith;
-      forks = λ k h i. getD-set-other fs 0 k g 0 λ e. omega arith;
+      forks = λ k h i. getD-set-other fs goalAt k g 0 λ e. omega arith;
     }
 
 -- ---- what waits
 
-slot-kept : {fs gs : List ℕ} {f n g awaits : ℕ} → ((k : ℕ) → 4 ≤ k → k < 4 + 4 * f → getD gs k 0 ≡ getD fs k 0) → Slot fs f n g awaits → Slot gs f n g awaits
+slot-kept : {fs gs : List ℕ} {f n g awaits : ℕ} → ((k : ℕ) → frameWidth ≤ k → k < frameWidth + frameWidth * f → getD gs k 0 ≡ getD fs k 0) → Slot fs f n g awaits → Slot gs f n g awaits
 slot-kept {f = f} b s =
     let e = s .earlier in
     record {
-      node = b (4 * f) (omega arith) (omega arith) ∙ s .node;
-      up = b (4 * f + 1) (omega arith) (omega arith) ∙ s .up;
+      node = b (frameWidth * f) (omega arith) (omega arith) ∙ s .node;
+      up = b (frameWidth * f + 1) (omega arith) (omega arith) ∙ s .up;
       earlier = s .earlier;
     }
 
 pub awaits-kept : {table : List ℕ} {bound base : ℕ} {ground : List Symbolic} {ws fs left gs : List ℕ} {f depth owed frames : ℕ} {env : List Symbolic} {ks : List Later}
-    (top : ℕ) → f ≤ top → Grown ws left → ((k : ℕ) → 4 ≤ k → k < 4 + 4 * top → getD gs k 0 ≡ getD fs k 0)
+    (top : ℕ) → f ≤ top → Grown ws left → ((k : ℕ) → frameWidth ≤ k → k < frameWidth + frameWidth * top → getD gs k 0 ≡ getD fs k 0)
     → Awaits table bound base ground ws fs f depth env ks owed frames → Awaits table bound base ground left gs f depth env ks owed frames
 awaits-kept top h g b no-frame = no-frame
 awaits-kept top h g b (for-only s l o a) =
@@ -126,11 +129,11 @@ awaits-kept top h g b (for-first s l o r v a) =
 awaits-kept top h g b (for-second {f = f} s l m a) =
     let e = s .earlier in
     for-second (slot-kept (λ k i j. b k i (omega arith)) s) l
-    (means-at g (b (4 * f + 2) (omega arith) (omega arith)) (b (4 * f + 3) (omega arith) (omega arith)) m) (awaits-kept top (omega arith) g b a)
+    (means-at g (b (frameWidth * f + 2) (omega arith) (omega arith)) (b (frameWidth * f + 3) (omega arith) (omega arith)) m) (awaits-kept top (omega arith) g b a)
 awaits-kept top h g b (for-body {f = f} s l o m a) =
     let e = s .earlier in
     for-body (slot-kept (λ k i j. b k i (omega arith)) s) l o
-    (means-at g (b (4 * f + 2) (omega arith) (omega arith)) (b (4 * f + 3) (omega arith) (omega arith)) m) (awaits-kept top (omega arith) g b a)
+    (means-at g (b (frameWidth * f + 2) (omega arith) (omega arith)) (b (frameWidth * f + 3) (omega arith) (omega arith)) m) (awaits-kept top (omega arith) g b a)
 
 -- there are no fewer variables than at the start
 pub awaits-base : {table : List ℕ} {bound base : ℕ} {ground : List Symbolic} {ws fs : List ℕ} {f depth owed frames : ℕ} {env : List Symbolic} {ks : List Later}
@@ -143,12 +146,12 @@ awaits-base (for-body s l o m a) = let h = awaits-base a in omega arith
 
 -- ---- the forks left
 
-forked-kept : {xs gs fs hs : List ℕ} (j : ℕ) → ((k : ℕ) → 512 ≤ k → k < 512 + 2 * suc j → getD hs k 0 ≡ getD fs k 0) → Forked xs gs j fs → Forked xs gs j hs
+forked-kept : {xs gs fs hs : List ℕ} (j : ℕ) → ((k : ℕ) → framesEnd ≤ k → k < forkAt (suc j) → getD hs k 0 ≡ getD fs k 0) → Forked xs gs j fs → Forked xs gs j hs
 forked-kept j b f =
-    let x = b (512 + 2 * j) (omega arith) (omega arith) in
-    let y = b (512 + 2 * j + 1) (omega arith) (omega arith) in
+    let x = b (forkAt j) (omega arith) (omega arith) in
+    let y = b (forkAt j + 1) (omega arith) (omega arith) in
     record {
-      frame = rw x (f .frame);
+      frame = rw y (f .frame);
       count = rw x (f .count);
       next = rw x (f .next);
       condition = rw x (f .condition);
@@ -208,11 +211,11 @@ module _ {limit : ℕ} {table : List ℕ} {bound base : ℕ} {ground : List Symb
       let n = s .narrow in
       let b = stands-base in
       stands-on (ruled-onward fs (omega arith) r) refl (s .inside) (omega arith) (r .notes)
-      (record { variables = rw d (variables-kept 144 n (r .went .before) (r .went .grown) (s .state .variables)); path = h })
+      (record { variables = rw d (variables-kept symbolLimit n (r .went .before) (r .went .grown) (s .state .variables)); path = h })
       (rw d (awaits-kept (topIn fs) (s .inside) (r .went .grown) (λ k l i. refl) (s .awaits)))
 
   -- a node waits in a new frame
-  module _ {gs : List ℕ} {n awaits x y : ℕ} (few : topIn fs < 127) (w : Waits n awaits x y fs gs) where
+  module _ {gs : List ℕ} {n awaits x y : ℕ} (few : suc (topIn fs) < nodeLimit) (w : Waits n awaits x y fs gs) where
     -- what waited before
     pub waits-awaits : Awaits table bound base ground ws gs (frameIn fs) (depthIn ws) env ks owed frames
     waits-awaits = awaits-kept (topIn fs) (s .inside) (grown-refl ws) (λ k l h. w .others k (omega arith) λ i j. omega arith) (s .awaits)
@@ -233,10 +236,10 @@ module _ {limit : ℕ} {table : List ℕ} {bound base : ℕ} {ground : List Symb
 
   -- another frame is the one that the next value goes to
   pub leave-stands : {ks₂ : List Later} {owed₂ frames₂ : ℕ} (g : ℕ) → g < frameIn fs → Awaits table bound base ground ws fs g (depthIn ws) env ks₂ owed₂ frames₂
-      → Stands limit table bound base ground ws (set fs 0 g) env p ks₂ owed₂ frames₂ ls
+      → Stands limit table bound base ground ws (set fs goalAt g) env p ks₂ owed₂ frames₂ ls
   leave-stands g l a =
-      let f = getD-set-same fs 0 g 0 (omega (arith, s .framed)) in
-      let t = getD-set-other fs 0 1 g 0 λ e. omega arith in
+      let f = getD-set-same fs goalAt g 0 (omega (arith, s .framed)) in
+      let t = getD-set-other fs goalAt topAt g 0 λ e. omega arith in
       let i = s .inside in
-      stands-on (leave-onward ws fs g) (getD-set-other fs 0 2 g 0 λ e. omega arith) (omega arith) (s .narrow) (unnoted-refl ws) (s .state)
-      (rw f (awaits-kept (topIn fs) (omega arith) (grown-refl ws) (λ k o m. getD-set-other fs 0 k g 0 λ e. omega arith) a))
+      stands-on (leave-onward ws fs g) (getD-set-other fs goalAt forkedAt g 0 λ e. omega arith) (omega arith) (s .narrow) (unnoted-refl ws) (s .state)
+      (rw f (awaits-kept (topIn fs) (omega arith) (grown-refl ws) (λ k o m. getD-set-other fs goalAt k g 0 λ e. omega arith) a))

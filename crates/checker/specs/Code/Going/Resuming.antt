@@ -5,10 +5,12 @@ use Prim.Native.Nat.{ℕ, suc, _+_, _*_, _-_, _≤_, _<_}
 use native.Mathlib.Omega.{arith}
 use lib.ListN.{length, getD}
 use Rattle.script.specs.Code.Forms.{nodeIn, treeIn}
+use Rattle.script.specs.Limits.{nodeLimit}
 use Rattle.script.specs.Tree.{size}
 use Rattle.rules.specs.Paths.{Path, Leaf}
 use Rattle.rules.specs.Symbolic.{Symbolic, aTruth}
-use Rattle.terms.specs.Terms.{Space, Grown}
+use Rattle.terms.specs.Places.{countAt, rowAt, rowsAt, variablesEnd, symbolLimit}
+use Rattle.terms.specs.Terms.{Space, Grown, ofExclusion}
 use Rattle.workspace.specs.Frames.{frameIn, topIn, nodeOf, secondOf}
 use Rattle.workspace.specs.Frames.Laws.{size-some}
 use Rattle.workspace.specs.Forks.{forkedIn, Forked, Rewound}
@@ -16,8 +18,9 @@ use Rattle.workspace.specs.Notes.{baseIn, Kept, Noting}
 use Rattle.workspace.specs.Notes.Keeping.{still-holding}
 use Rattle.workspace.specs.Paths.{assumed}
 use Rattle.workspace.specs.Paths.Conditions.{learns-refl, assumed-ruled, assumed-without}
+use Rattle.workspace.specs.Places.{baseAt, depthAt, forkLimit, frameWidth, framesSize, knownAt, logAt, nextAt, spaceSize, writeAt, writesAt}
 use Rattle.workspace.specs.Rules.{withoutGuard}
-use Rattle.workspace.specs.State.{depthIn, knownAt, Means, Variables, PathIn, Room}
+use Rattle.workspace.specs.State.{depthIn, Means, Variables, PathIn, Room}
 use Rattle.workspace.specs.State.Laws.{nothing-known, room-same, means-kept, variables-kept, path-kept, path-rewound, distinct-same, room-less, room-on, room-space}
 use Rattle.checker.specs.Code.Going.{Later, Awaits, Onward, Forking, Left, none-left, one-left, Stands, Entering, Restorable, Restores, Resumable, Resumes}
 use Rattle.checker.specs.Code.Going.Keeping.{awaits-kept, left-kept, stands-base, stands-ruled}
@@ -72,13 +75,13 @@ module _ {limit : ℕ} {table : List ℕ} {bound base : ℕ} {ground : List Symb
   abbrev f : Forking limit table bound base ground (last .xs) (last .gs) (last .own)
   f = last .forking
 
-  few-base : base ≤ 144
+  few-base : base ≤ symbolLimit
   few-base = let h = stands-base s in omega (arith, h, s .narrow)
 
-  count-is : getD ws₁ 288 0 ≡ getD xs 288 0
+  count-is : getD ws₁ countAt 0 ≡ getD xs countAt 0
   count-is = w .count ∙ last .slot .count
 
-  writes-is : getD ws₁ 726 0 ≡ getD xs 726 0
+  writes-is : getD ws₁ writesAt 0 ≡ getD xs writesAt 0
   writes-is = w .writes ∙ last .slot .writes
 
   depth-is : depthIn ws₁ ≡ depthIn xs
@@ -90,16 +93,16 @@ module _ {limit : ℕ} {table : List ℕ} {bound base : ℕ} {ground : List Symb
   top-is : topIn hs ≡ topIn gs
   top-is = w .top ∙ last .slot .frame ∙ f .newest
 
-  row-is : (k : ℕ) → 289 ≤ k → k < 289 + 3 * getD xs 288 0 → getD ws₁ k 0 ≡ getD xs k 0
+  row-is : (k : ℕ) → rowsAt ≤ k → k < rowAt (getD xs countAt 0) → getD ws₁ k 0 ≡ getD xs k 0
   row-is k l h = w .before k (omega (arith, h, f .room .rows)) (λ e. omega arith) ∙ last .onward .grown .rows k l h
 
-  log-is : (k : ℕ) → 729 ≤ k → k < 729 + 4 * getD xs 726 0 → getD ws₁ k 0 ≡ getD xs k 0
+  log-is : (k : ℕ) → logAt ≤ k → k < writeAt (getD xs writesAt 0) → getD ws₁ k 0 ≡ getD xs k 0
   log-is k l h = w .beyond k l (λ e. omega (arith, h, e, f .room .writes)) ∙ last .onward .log k l h
 
   first-is : (k : ℕ) → k < 2 * base → getD ws₁ k 0 ≡ getD xs k 0
   first-is k l = let b = few-base in w .before k (omega arith) (λ e. omega arith) ∙ last .onward .first k l
 
-  frames-are : (k : ℕ) → 4 ≤ k → k < 4 + 4 * topIn gs → getD hs k 0 ≡ getD gs k 0
+  frames-are : (k : ℕ) → frameWidth ≤ k → k < frameWidth + frameWidth * topIn gs → getD hs k 0 ≡ getD gs k 0
   frames-are k l h = w .others k (omega arith) ∙ last .onward .frames k l h
 
   rewound-grown : Grown xs ws₁
@@ -114,14 +117,14 @@ module _ {limit : ℕ} {table : List ℕ} {bound base : ℕ} {ground : List Symb
   rewound-ground = variables-kept base (omega arith) first-is rewound-grown (f .ground-is)
 
   rewound-base : baseIn ws₁ ≡ base
-  rewound-base = w .beyond 1241 (omega arith) (λ e. omega arith) ∙ s .based
+  rewound-base = w .beyond baseAt (omega arith) (λ e. omega arith) ∙ s .based
 
   rewound-awaits : Awaits table bound base ground ws₁ hs (frameIn hs) (depthIn ws₁) (f .environment) (f .later) (f .owed) (f .frames)
   rewound-awaits =
       let n = f .newest in
       rw (frame-is, depth-is) (awaits-kept (topIn gs) (omega arith) rewound-grown frames-are (f .awaits))
 
-  few-frames : topIn gs < 128
+  few-frames : topIn gs < nodeLimit
   few-frames = let z = size-some (treeIn table (nodeIn table (nodeOf gs (frameIn gs)) .c)) in omega (arith, z, f .tops)
 
   last-low : nodeOf (last .gs) (frameIn (last .gs)) < bound
@@ -147,22 +150,22 @@ module _ {limit : ℕ} {table : List ℕ} {bound base : ℕ} {ground : List Symb
   -- ---- its variables
 
   module _ {ws₂ : List ℕ} (v : Restores ws₁ hs ws₂) where
-    place : (k : ℕ) → 288 ≤ k → getD ws₂ k 0 ≡ getD ws₁ k 0
+    place : (k : ℕ) → variablesEnd ≤ k → getD ws₂ k 0 ≡ getD ws₁ k 0
     place = v .beyond
 
     restored-grown : Grown ws₁ ws₂
     restored-grown =
-        let e = place 288 (omega arith) in
+        let e = place countAt (omega arith) in
         record { grows = omega arith; rows = λ k l h. place k (omega arith) }
 
     all-grown : Grown xs ws₂
     all-grown =
-        let e = place 288 (omega arith) in
+        let e = place countAt (omega arith) in
         record { grows = omega (arith, e, count-is); rows = λ k l h. place k (omega arith) ∙ row-is k l h }
 
     restored-onward : Onward base xs gs ws₂ hs
     restored-onward =
-        let e = place 726 (omega arith) in
+        let e = place writesAt (omega arith) in
         record {
           same = v .same ∙ w .same ∙ last .onward .same;
           framed = w .framed ∙ last .onward .framed;
@@ -181,7 +184,7 @@ module _ {limit : ℕ} {table : List ℕ} {bound base : ℕ} {ground : List Symb
         path-kept (λ k l. place k (omega arith)) restored-grown (distinct-same place (rewound-path .distinct)) rewound-path
 
     restored-depth : depthIn ws₂ ≡ depthIn ws₁
-    restored-depth = place 728 (omega arith)
+    restored-depth = place depthAt (omega arith)
 
     restored-notes : Kept limit table ws₂
     restored-notes =
@@ -206,7 +209,7 @@ module _ {limit : ℕ} {table : List ℕ} {bound base : ℕ} {ground : List Symb
             path = restored-path;
           };
           ground-is = variables-kept base (omega arith) (λ k l. v .first k (omega (arith, l, rewound-base))) restored-grown rewound-ground;
-          based = place 1241 (omega arith) ∙ rewound-base;
+          based = place baseAt (omega arith) ∙ rewound-base;
           notes = restored-notes;
           awaits = rw restored-depth (awaits-kept (topIn hs) (omega (arith, frame-is, top-is, f .newest)) restored-grown (λ k l h. refl) rewound-awaits);
           inside = omega (arith, frame-is, top-is, f .newest);
@@ -217,15 +220,15 @@ module _ {limit : ℕ} {table : List ℕ} {bound base : ℕ} {ground : List Symb
     -- ---- its false branch
 
     node-is : nodeOf hs (frameIn hs) ≡ nodeOf gs (frameIn gs)
-    node-is = ap (nodeOf hs) frame-is ∙ frames-are (4 * frameIn gs) (omega (arith, f .newest, f .few)) (omega (arith, f .newest))
+    node-is = ap (nodeOf hs) frame-is ∙ frames-are (frameWidth * frameIn gs) (omega (arith, f .newest, f .few)) (omega (arith, f .newest))
 
     guard-is : secondOf hs (frameIn hs) ≡ secondOf gs (frameIn gs)
-    guard-is = ap (secondOf hs) frame-is ∙ frames-are (4 * frameIn gs + 3) (omega (arith, f .newest, f .few)) (omega (arith, f .newest))
+    guard-is = ap (secondOf hs) frame-is ∙ frames-are (frameWidth * frameIn gs + 3) (omega (arith, f .newest, f .few)) (omega (arith, f .newest))
 
     resume-room : {rows : ℕ} → Room xs rows → Room ws₂ rows
     resume-room x =
-        room-same (v .same ∙ w .same ∙ last .onward .same) (place 288 (omega arith) ∙ count-is) (place 724 (omega arith) ∙ w .next ∙ last .slot .next)
-        (place 726 (omega arith) ∙ writes-is) x
+        room-same (v .same ∙ w .same ∙ last .onward .same) (place countAt (omega arith) ∙ count-is) (place nextAt (omega arith) ∙ w .next ∙ last .slot .next)
+        (place writesAt (omega arith) ∙ writes-is) x
 
     guard-room : Room ws₂ 1
     guard-room = resume-room (room-less (omega arith) (f .room))
@@ -233,7 +236,7 @@ module _ {limit : ℕ} {table : List ℕ} {bound base : ℕ} {ground : List Symb
     guard-means : Means ws₂ 1 (secondOf hs (frameIn hs)) (aTruth (f .guard))
     guard-means = rw guard-is (means-kept all-grown (f .means))
 
-    resume-enters : Entering limit table bound base ground (assumed ws₂ 7 (secondOf hs (frameIn hs))) hs (nodeIn table (nodeOf hs (frameIn hs)) .c) ls
+    resume-enters : Entering limit table bound base ground (assumed ws₂ ofExclusion (secondOf hs (frameIn hs))) hs (nodeIn table (nodeOf hs (frameIn hs)) .c) ls
     resume-enters =
         let u = assumed-ruled guard-room (learns-refl ws₂) 7 (secondOf hs (frameIn hs)) in
         record {
@@ -258,13 +261,13 @@ module _ {limit : ℕ} {table : List ℕ} {bound base : ℕ} {ground : List Symb
 -- ---- as the code goes back
 
 module _ {table ws fs : List ℕ} (x : Resumable table ws fs) where
-  pub resume-lent : 1415 ≤ length ws
+  pub resume-lent : spaceSize ≤ length ws
   resume-lent = x .stands .lent
 
-  pub resume-framed : 640 ≤ length fs
+  pub resume-framed : framesSize ≤ length fs
   resume-framed = x .stands .framed
 
-  pub resume-few : forkedIn fs ≤ 64
+  pub resume-few : forkedIn fs ≤ forkLimit
   resume-few = omega (arith, x .few, x .stands .few)
 
   some-is : forkedIn fs ≡ suc (forkedIn fs - 1)
@@ -278,7 +281,7 @@ module _ {table ws fs : List ℕ} (x : Resumable table ws fs) where
       pub guard-space : Space ws₂ 1
       guard-space = room-space (guard-room (x .stands) (forkedIn fs - 1) some-is w v)
 
-      pub guard-lent : 1415 ≤ length ws₂
+      pub guard-lent : spaceSize ≤ length ws₂
       guard-lent = guard-room (x .stands) (forkedIn fs - 1) some-is w v .lent
 
       pub branch-node : 4 * nodeOf hs (frameIn hs) + 3 < length table
@@ -287,13 +290,13 @@ module _ {table ws fs : List ℕ} (x : Resumable table ws fs) where
           let l = last-low (x .stands) (forkedIn fs - 1) some-is w in
           omega (arith, e, l, x .stands .formed .room)
 
-      pub branch-few : nodeOf hs (frameIn hs) < 128
+      pub branch-few : nodeOf hs (frameIn hs) < nodeLimit
       branch-few =
           let e = node-is (x .stands) (forkedIn fs - 1) some-is w v in
           let l = last-low (x .stands) (forkedIn fs - 1) some-is w in
           omega (arith, e, l, x .stands .formed .most)
 
-      pub resumed : {left : List ℕ} → left ≡ assumed ws₂ 7 (secondOf hs (frameIn hs)) → Resumes table ws fs (nodeIn table (nodeOf hs (frameIn hs)) .c) left hs
+      pub resumed : {left : List ℕ} → left ≡ assumed ws₂ ofExclusion (secondOf hs (frameIn hs)) → Resumes table ws fs (nodeIn table (nodeOf hs (frameIn hs)) .c) left hs
       resumed e =
           rw e
           (record {

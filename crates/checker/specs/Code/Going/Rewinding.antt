@@ -6,10 +6,12 @@ use native.Mathlib.Omega.{arith}
 use lib.ListN.{length, getD, set, length-set}
 use lib.Seq.{getD-set-same, getD-set-other}
 use Rattle.rules.specs.Symbolic.{Symbolic}
-use Rattle.terms.specs.Terms.{Grown, symbolLimit}
-use Rattle.workspace.specs.Frames.{frameIn, upOf, firstOf, secondOf}
+use Rattle.terms.specs.Places.{symbolLimit, variablesEnd}
+use Rattle.terms.specs.Terms.{Grown}
+use Rattle.workspace.specs.Frames.{frameIn, upOf, firstOf, secondOf, goesTo}
 use Rattle.workspace.specs.Forks.{RestoredOne}
 use Rattle.workspace.specs.Notes.{baseIn}
+use Rattle.workspace.specs.Places.{baseAt}
 use Rattle.workspace.specs.State.{depthIn, Means, Variables, oneMore}
 use Rattle.workspace.specs.State.Laws.{means-at, variables-kept, same-grown}
 use Rattle.checker.specs.Code.Going.{Later, Slot, Awaits, no-frame, for-only, for-first, for-second, for-body, Restorable, Restores}
@@ -74,9 +76,9 @@ record Upward (table : List ℕ) (bound base : ℕ) (ground : List Symbolic) (ws
   later : List Later
   owed : ℕ
   frames : ℕ
-  awaits : Awaits table bound base ground ws fs (upOf fs f / 4) r environment later owed frames
+  awaits : Awaits table bound base ground ws fs (goesTo fs f) r environment later owed frames
   extends : Extends left r environment d env
-  earlier : upOf fs f / 4 < f
+  earlier : goesTo fs f < f
   fewer : r ≤ d
   same : length left ≡ length xs
   before : (k : ℕ) → k < 2 * r → getD left k 0 ≡ getD xs k 0
@@ -90,7 +92,7 @@ module _ {table : List ℕ} {bound base : ℕ} {ground : List Symbolic} {ws fs x
       let u = s .up in
       let h = s .earlier in
       let e = o .other λ x. omega arith in
-      let p : upOf fs f / 4 ≡ g = omega arith in
+      let p : goesTo fs f ≡ g = omega arith in
       record {
         environment = env;
         later = ks;
@@ -107,13 +109,13 @@ module _ {table : List ℕ} {bound base : ℕ} {ground : List Symbolic} {ws fs x
 
   -- one that does
   upward-body : {f n g d owed frames : ℕ} {env : List Symbolic} {ks : List Later} {v : Symbolic} → RestoredOne fs f (suc d) xs r left → Slot fs f n g 2
-      → 2 * suc d ≤ length xs → suc d ≤ symbolLimit → ((k : ℕ) → 288 ≤ k → getD xs k 0 ≡ getD ws k 0) → Means ws (firstOf fs f) (secondOf fs f) v
+      → 2 * suc d ≤ length xs → suc d ≤ symbolLimit → ((k : ℕ) → variablesEnd ≤ k → getD xs k 0 ≡ getD ws k 0) → Means ws (firstOf fs f) (secondOf fs f) v
       → Awaits table bound base ground ws fs g d env ks owed frames → Upward table bound base ground ws fs f (suc d) (env ++ (v ∷ [])) xs r left
   upward-body {f = f} {g = g} {d = d} {owed = owed} {frames = frames} {env = env} {ks = ks} o s l n b m a =
       let u = s .up in
       let h = s .earlier in
       let e = o .body (omega arith) in
-      let p : upOf fs f / 4 ≡ g = omega arith in
+      let p : goesTo fs f ≡ g = omega arith in
       let i : r ≡ d = omega (arith, e .0) in
       let j : suc d - 1 ≡ d = omega arith in
       let q : Placed f fs d xs left = rw (e .1, j) (placed-by f fs d xs l) in
@@ -132,7 +134,7 @@ module _ {table : List ℕ} {bound base : ℕ} {ground : List Symbolic} {ws fs x
       }
 
   upward : {f d owed frames : ℕ} {env : List Symbolic} {ks : List Later} → base < d → 2 * d ≤ length xs → d ≤ symbolLimit
-      → ((k : ℕ) → 288 ≤ k → getD xs k 0 ≡ getD ws k 0) → RestoredOne fs f d xs r left → Awaits table bound base ground ws fs f d env ks owed frames
+      → ((k : ℕ) → variablesEnd ≤ k → getD xs k 0 ≡ getD ws k 0) → RestoredOne fs f d xs r left → Awaits table bound base ground ws fs f d env ks owed frames
       → Upward table bound base ground ws fs f d env xs r left
   upward h l n b o no-frame = absurd (omega arith)
   upward h l n b o (for-only s i p a) = upward-same o s (omega arith) a
@@ -153,7 +155,7 @@ pub record Reached (table : List ℕ) (bound : ℕ) (ground : List Symbolic) (ws
 pub record Restoring (ws fs : List ℕ) (f d : ℕ) (xs : List ℕ) : Type 0 where
   pub same : length xs ≡ length ws
   pub first : (k : ℕ) → k < 2 * baseIn ws → getD xs k 0 ≡ getD ws k 0
-  pub beyond : (k : ℕ) → 288 ≤ k → getD xs k 0 ≡ getD ws k 0
+  pub beyond : (k : ℕ) → variablesEnd ≤ k → getD xs k 0 ≡ getD ws k 0
   pub inside : f ≤ frameIn fs
   pub fewer : d ≤ depthIn ws
   pub reached : (table : List ℕ) (bound : ℕ) (ground env : List Symbolic) (ks : List Later) (owed frames : ℕ)
@@ -174,7 +176,7 @@ module _ {ws fs : List ℕ} (can : Restorable ws fs) where
 
   module _ {f d : ℕ} {xs : List ℕ} (s : Restoring ws fs f d xs) where
     restoring-base : baseIn xs ≡ baseIn ws
-    restoring-base = s .beyond 1241 (omega arith)
+    restoring-base = s .beyond baseAt (omega arith)
 
     -- what is known of the loop's own frames
     restoring-reached : Reached (can .table) (can .bound) (can .ground) ws fs (can .environment) f d xs
@@ -192,10 +194,10 @@ module _ {ws fs : List ℕ} (can : Restorable ws fs) where
       restoring-one : Upward (can .table) (can .bound) (baseIn ws) (can .ground) ws fs f d (restoring-reached .environment) xs r left
       restoring-one = restoring-up (restoring-reached .awaits)
 
-      pub restoring-less : upOf fs f / 4 < f
+      pub restoring-less : goesTo fs f < f
       restoring-less = restoring-one .earlier
 
-      pub restoring-on : Restoring ws fs (upOf fs f / 4) r left
+      pub restoring-on : Restoring ws fs (goesTo fs f) r left
       restoring-on =
           let u = restoring-one in
           let i = s .fewer in

@@ -8,6 +8,7 @@ use lib.Dec.{eqb}
 use borrow.Author.Tests.{eqb-true, eqb-false}
 use Rattle.script.specs.Code.Forms.{formOf, nodeIn, treeIn, some-operand, formed-less}
 use Rattle.script.specs.Flat.{FormedNodes}
+use Rattle.script.specs.Limits.{nodeLimit}
 use Rattle.script.specs.Rows.{nodeOperands}
 use Rattle.script.specs.declared.Refusal.{Refusal}
 use Rattle.rules.specs.Checking.{exec}
@@ -65,7 +66,7 @@ module _ {limit : ℕ} {table : List ℕ} {bound base : ℕ} {ground : List Symb
       by true z =
           let f = first-of (shaped limit enters-formed) some in
           let o = eqb-true (nodeOperands (nodeIn table m .kind)) 1 z in
-          let few : topIn fs < 127 = omega (arith, q .tops, f .smaller, size-some (treeIn table (nodeIn table m .a))) in
+          let few : suc (topIn fs) < nodeLimit = omega (arith, q .tops, f .smaller, size-some (treeIn table (nodeIn table m .a))) in
           record {
             environment = q .environment;
             path = q .path;
@@ -92,7 +93,7 @@ module _ {limit : ℕ} {table : List ℕ} {bound base : ℕ} {ground : List Symb
           let o : 2 ≤ nodeOperands (nodeIn table m .kind) = omega (arith, some, d) in
           let r = rest-of (shaped limit enters-formed) o in
           let k = one-less (restSize table m) (omega (arith, r .second-fits)) in
-          let few : topIn fs < 127 = omega (arith, q .tops, f .smaller, size-some (treeIn table (nodeIn table m .a))) in
+          let few : suc (topIn fs) < nodeLimit = omega (arith, q .tops, f .smaller, size-some (treeIn table (nodeIn table m .a))) in
           record {
             environment = q .environment;
             path = q .path;
@@ -139,7 +140,7 @@ pub data Gives (limit : ℕ) (table : List ℕ) (bound base : ℕ) (ground : Lis
 
 pub yields-gives : {limit : ℕ} {table : List ℕ} {bound base : ℕ} {ground : List Symbolic} {ws fs left : List ℕ} {env : List Symbolic} {p : Path} {ks : List Later}
     {owed frames : ℕ} {others ls : List Leaf} {r : Step} {x : Paths} → Stands limit table bound base ground ws fs env p ks owed frames others → Ruled ws left
-    → Room ws (1 + owed) → topIn fs + forkedIn fs + suc frames ≤ 128 → ls ≡ leaves (bind x (goOn limit table ks)) ++ others → Yields left r x
+    → Room ws (1 + owed) → topIn fs + forkedIn fs + suc frames ≤ nodeLimit → ls ≡ leaves (bind x (goOn limit table ks)) ++ others → Yields left r x
     → Gives limit table bound base ground left fs ls r
 unfolding bind leaves
 yields-gives {env = env} {ks = ks} {owed = owed} {frames = frames} {others = others} s u room tops e (ending {v = v} {p = q} m h) =

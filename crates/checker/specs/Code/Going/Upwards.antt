@@ -6,12 +6,15 @@ use native.Mathlib.Omega.{arith}
 use lib.ListN.{length, getD, set, length-set}
 use lib.Seq.{getD-set-same, getD-set-other}
 use Rattle.script.specs.Code.Forms.{formOf, nodeIn, treeIn}
+use Rattle.script.specs.Limits.{nodeLimit}
 use Rattle.script.specs.Rows.{Form, nodeOperands}
 use Rattle.rules.specs.Paths.{Path, Paths, ends, forks, bind, Leaf, leaves}
 use Rattle.rules.specs.Symbolic.{Symbolic}
+use Rattle.terms.specs.Places.{countAt, variablesEnd, symbolLimit}
 use Rattle.terms.specs.Terms.{Grown}
-use Rattle.workspace.specs.Frames.{frameIn, topIn, nodeOf, upOf, firstOf, secondOf}
+use Rattle.workspace.specs.Frames.{frameIn, topIn, nodeOf, upOf, firstOf, secondOf, awaitsOf, goesTo, upTo}
 use Rattle.workspace.specs.Forks.{forkedIn}
+use Rattle.workspace.specs.Places.{conditionAt, depthAt, forkedAt, goalAt, nextAt, startAt, topAt, writesAt}
 use Rattle.workspace.specs.Rules.{oneExec, twoExec, restExec, restSize, One, Operable}
 use Rattle.workspace.specs.Rules.Nodes.{let-form}
 use Rattle.workspace.specs.State.{depthIn, Means, Variables, noVariable, oneMore, PathIn, Room, Unnoted, Valued}
@@ -28,12 +31,12 @@ use Rattle.checker.specs.declared.steps.Move.{Move}
 pub record Shifted (base : ℕ) (ws left : List ℕ) : Type 0 where
   pub same : length left ≡ length ws
   pub first : (k : ℕ) → k < 2 * base → getD left k 0 ≡ getD ws k 0
-  pub beyond : (k : ℕ) → 288 ≤ k → (k ≡ 728 → ⊥) → getD left k 0 ≡ getD ws k 0
+  pub beyond : (k : ℕ) → variablesEnd ≤ k → (k ≡ depthAt → ⊥) → getD left k 0 ≡ getD ws k 0
 
 module _ {base : ℕ} {ws left : List ℕ} (d : Shifted base ws left) where
   pub shifted-grown : {rows : ℕ} → Room ws rows → Grown ws left
   shifted-grown x =
-      let e = d .beyond 288 (omega arith) λ z. omega arith in
+      let e = d .beyond countAt (omega arith) λ z. omega arith in
       let r = x .rows in
       record { grows = omega arith; rows = λ k h l. d .beyond k (omega arith) λ z. omega arith }
 
@@ -41,13 +44,13 @@ module _ {base : ℕ} {ws left : List ℕ} (d : Shifted base ws left) where
   shifted-path x h =
       let r = x .rows in
       path-rewound (λ k l i. d .beyond k (omega arith) λ z. omega arith) (λ k l i. d .beyond k (omega arith) λ z. omega arith)
-      (d .beyond 288 (omega arith) λ z. omega arith) (d .beyond 724 (omega arith) λ z. omega arith) (d .beyond 725 (omega arith) λ z. omega arith)
-      (d .beyond 726 (omega arith) λ z. omega arith) (d .beyond 727 (omega arith) λ z. omega arith)
+      (d .beyond countAt (omega arith) λ z. omega arith) (d .beyond nextAt (omega arith) λ z. omega arith) (d .beyond conditionAt (omega arith) λ z. omega arith)
+      (d .beyond writesAt (omega arith) λ z. omega arith) (d .beyond startAt (omega arith) λ z. omega arith)
       (still-known (λ k l. d .beyond k (omega arith) λ z. omega arith) (shifted-grown x) (h .remembers)) h
 
   pub shifted-onward : {rows : ℕ} (fs : List ℕ) → Room ws rows → Onward base ws fs left fs
   shifted-onward fs x =
-      let w = d .beyond 726 (omega arith) λ z. omega arith in
+      let w = d .beyond writesAt (omega arith) λ z. omega arith in
       record {
         same = d .same;
         framed = refl;
@@ -63,8 +66,8 @@ module _ {base : ℕ} {ws left : List ℕ} (d : Shifted base ws left) where
 
   pub shifted-room : {rows : ℕ} → Room ws rows → Room left rows
   shifted-room x =
-      room-same (d .same) (d .beyond 288 (omega arith) λ z. omega arith) (d .beyond 724 (omega arith) λ z. omega arith)
-      (d .beyond 726 (omega arith) λ z. omega arith) x
+      room-same (d .same) (d .beyond countAt (omega arith) λ z. omega arith) (d .beyond nextAt (omega arith) λ z. omega arith)
+      (d .beyond writesAt (omega arith) λ z. omega arith) x
 
   pub shifted-unnoted : Unnoted ws left
   shifted-unnoted = record { each = λ k l h. d .beyond k (omega arith) λ z. omega arith }
@@ -104,11 +107,11 @@ gives-came (gives-none rest e) = came-stopped rest e
 pub data Upper (limit : ℕ) (table : List ℕ) (bound base : ℕ) (ground : List Symbolic) (ws fs : List ℕ) (env : List Symbolic) (p : Path) (v : Symbolic)
     (owed frames : ℕ) (others ls : List Leaf) (x y n g : ℕ) : ℕ → Type 0 where
   upper-only : {ks : List Later} {less : ℕ} → nodeOperands (nodeIn table n .kind) ≡ 1 → owed ≡ suc less
-      → Stands limit table bound base ground ws (set fs 0 g) env p ks less frames others
+      → Stands limit table bound base ground ws (set fs goalAt g) env p ks less frames others
       → ls ≡ leaves (bind (oneExec (formOf (nodeIn table n .kind)) n v p) (goOn limit table ks)) ++ others
       → Upper limit table bound base ground ws fs env p v owed frames others ls x y n g 0
-  upper-first : {ks : List Later} {rest less fewer : ℕ} → 2 ≤ nodeOperands (nodeIn table n .kind) → restSize table n ≡ suc rest → depthIn ws + suc rest ≤ 144
-      → owed ≡ suc rest + less → frames ≡ rest + fewer → Stands limit table bound base ground ws (set fs 0 g) env p ks less fewer others
+  upper-first : {ks : List Later} {rest less fewer : ℕ} → 2 ≤ nodeOperands (nodeIn table n .kind) → restSize table n ≡ suc rest → depthIn ws + suc rest ≤ symbolLimit
+      → owed ≡ suc rest + less → frames ≡ rest + fewer → Stands limit table bound base ground ws (set fs goalAt g) env p ks less fewer others
       → ls
       ≡ leaves
       (bind (restExec (formOf (nodeIn table n .kind)) limit n (treeIn table (nodeIn table n .b)) (treeIn table (nodeIn table n .c)) v env p)
@@ -116,7 +119,7 @@ pub data Upper (limit : ℕ) (table : List ℕ) (bound base : ℕ) (ground : Lis
       ++ others
       → Upper limit table bound base ground ws fs env p v owed frames others ls x y n g 0
   upper-second : {ks : List Later} {less : ℕ} {w : Symbolic} → Means ws x y w → owed ≡ suc less
-      → Stands limit table bound base ground ws (set fs 0 g) env p ks less frames others
+      → Stands limit table bound base ground ws (set fs goalAt g) env p ks less frames others
       → ls ≡ leaves (bind (twoExec (formOf (nodeIn table n .kind)) n w v p) (goOn limit table ks)) ++ others
       → Upper limit table bound base ground ws fs env p v owed frames others ls x y n g 1
   upper-body : {ks : List Later} {less depth : ℕ} {w : Symbolic} {around : List Symbolic} → nodeIn table n .kind ≡ 9 → Means ws x y w → owed ≡ suc less
@@ -133,24 +136,24 @@ module _ {limit : ℕ} {table : List ℕ} {bound base : ℕ} {ground : List Symb
   n = nodeOf fs (frameIn fs)
 
   abbrev g : ℕ
-  g = upOf fs (frameIn fs) / 4
+  g = goesTo fs (frameIn fs)
 
   -- the frame that the value goes to
   pub record Up : Type 0 where
     pub low : nodeOf fs (frameIn fs) < bound
-    pub falls : upOf fs (frameIn fs) / 4 < frameIn fs
+    pub falls : goesTo fs (frameIn fs) < frameIn fs
     pub view : Upper limit table bound base ground ws fs (r .environment) (r .path) (r .value) (r .owed) (r .frames) (r .others) ls (firstOf fs (frameIn fs))
-        (secondOf fs (frameIn fs)) (nodeOf fs (frameIn fs)) (upOf fs (frameIn fs) / 4) (upOf fs (frameIn fs) % 4)
+        (secondOf fs (frameIn fs)) (nodeOf fs (frameIn fs)) (goesTo fs (frameIn fs)) (awaitsOf fs (frameIn fs))
 
   up-by : {h depth owed frames : ℕ} {env : List Symbolic} {ks : List Later} → Awaits table bound base ground ws fs h depth env ks owed frames → h ≡ frameIn fs
       → depth ≡ depthIn ws → env ≡ r .environment → ks ≡ r .later → owed ≡ r .owed → frames ≡ r .frames → Up
   unfolding goOn
   up-by no-frame e d i k o w = absurd (omega arith)
   up-by (for-only {f = h} {g = g₁} {n = m} {owed = less} {ks = ks₁} s l c a) e d i k o w =
-      let u : upOf fs (frameIn fs) ≡ 4 * g₁ + 0 = ap (upOf fs) (sym e) ∙ s .up in
+      let u : upOf fs (frameIn fs) ≡ upTo g₁ 0 = ap (upOf fs) (sym e) ∙ s .up in
       let z : nodeOf fs (frameIn fs) ≡ m = ap (nodeOf fs) (sym e) ∙ s .node in
-      let x : upOf fs (frameIn fs) / 4 ≡ g₁ = omega arith in
-      let y : upOf fs (frameIn fs) % 4 ≡ 0 = omega arith in
+      let x : goesTo fs (frameIn fs) ≡ g₁ = omega arith in
+      let y : awaitsOf fs (frameIn fs) ≡ 0 = omega arith in
       let b = s .earlier in
       record {
         low = omega arith;
@@ -162,10 +165,10 @@ module _ {limit : ℕ} {table : List ℕ} {bound base : ℕ} {ground : List Symb
             (r .is ∙ ap (λ (ks : List Later). leaves (goOn limit table ks (r .value) (r .path)) ++ r .others) (sym k)));
       }
   up-by (for-first {f = h} {g = g₁} {n = m} {owed = less} {frames = fewer} {rest = rest} {ks = ks₁} s l c j v a) e d i k o w =
-      let u : upOf fs (frameIn fs) ≡ 4 * g₁ + 0 = ap (upOf fs) (sym e) ∙ s .up in
+      let u : upOf fs (frameIn fs) ≡ upTo g₁ 0 = ap (upOf fs) (sym e) ∙ s .up in
       let z : nodeOf fs (frameIn fs) ≡ m = ap (nodeOf fs) (sym e) ∙ s .node in
-      let x : upOf fs (frameIn fs) / 4 ≡ g₁ = omega arith in
-      let y : upOf fs (frameIn fs) % 4 ≡ 0 = omega arith in
+      let x : goesTo fs (frameIn fs) ≡ g₁ = omega arith in
+      let y : awaitsOf fs (frameIn fs) ≡ 0 = omega arith in
       let b = s .earlier in
       record {
         low = omega arith;
@@ -177,10 +180,10 @@ module _ {limit : ℕ} {table : List ℕ} {bound base : ℕ} {ground : List Symb
             (r .is ∙ ap (λ (ks : List Later). leaves (goOn limit table ks (r .value) (r .path)) ++ r .others) (sym k ∙ ap (λ (xs : List Symbolic). first m xs ∷ ks₁) i)));
       }
   up-by (for-second {f = h} {g = g₁} {n = m} {owed = less} {ks = ks₁} {v = u₁} s l v a) e d i k o w =
-      let u : upOf fs (frameIn fs) ≡ 4 * g₁ + 1 = ap (upOf fs) (sym e) ∙ s .up in
+      let u : upOf fs (frameIn fs) ≡ upTo g₁ 1 = ap (upOf fs) (sym e) ∙ s .up in
       let z : nodeOf fs (frameIn fs) ≡ m = ap (nodeOf fs) (sym e) ∙ s .node in
-      let x : upOf fs (frameIn fs) / 4 ≡ g₁ = omega arith in
-      let y : upOf fs (frameIn fs) % 4 ≡ 1 = omega arith in
+      let x : goesTo fs (frameIn fs) ≡ g₁ = omega arith in
+      let y : awaitsOf fs (frameIn fs) ≡ 1 = omega arith in
       let b = s .earlier in
       record {
         low = omega arith;
@@ -192,10 +195,10 @@ module _ {limit : ℕ} {table : List ℕ} {bound base : ℕ} {ground : List Symb
             (r .is ∙ ap (λ (ks : List Later). leaves (goOn limit table ks (r .value) (r .path)) ++ r .others) (sym k)));
       }
   up-by (for-body {f = h} {g = g₁} {n = m} {depth = inner} {owed = less} {env = around} {ks = ks₁} {v = u₁} s l c v a) e d i k o w =
-      let u : upOf fs (frameIn fs) ≡ 4 * g₁ + 2 = ap (upOf fs) (sym e) ∙ s .up in
+      let u : upOf fs (frameIn fs) ≡ upTo g₁ 2 = ap (upOf fs) (sym e) ∙ s .up in
       let z : nodeOf fs (frameIn fs) ≡ m = ap (nodeOf fs) (sym e) ∙ s .node in
-      let x : upOf fs (frameIn fs) / 4 ≡ g₁ = omega arith in
-      let y : upOf fs (frameIn fs) % 4 ≡ 2 = omega arith in
+      let x : goesTo fs (frameIn fs) ≡ g₁ = omega arith in
+      let y : awaitsOf fs (frameIn fs) ≡ 2 = omega arith in
       let b = s .earlier in
       record {
         low = omega arith;
@@ -222,26 +225,26 @@ module _ {limit : ℕ} {table : List ℕ} {bound base : ℕ} {ground : List Symb
   pub up-valued : Valued ws t q
   up-valued = record { value = r .value; means = r .means }
 
-  pub left-top : topIn (set fs 0 g) ≡ topIn fs
-  left-top = getD-set-other fs 0 1 g 0 λ e. omega arith
+  pub left-top : topIn (set fs goalAt g) ≡ topIn fs
+  left-top = getD-set-other fs goalAt topAt g 0 λ e. omega arith
 
-  pub left-forked : forkedIn (set fs 0 g) ≡ forkedIn fs
-  left-forked = getD-set-other fs 0 2 g 0 λ e. omega arith
+  pub left-forked : forkedIn (set fs goalAt g) ≡ forkedIn fs
+  left-forked = getD-set-other fs goalAt forkedAt g 0 λ e. omega arith
 
-  left-frame : frameIn (set fs 0 g) ≡ g
-  left-frame = getD-set-same fs 0 g 0 (omega (arith, r .stands .framed))
+  left-frame : frameIn (set fs goalAt g) ≡ g
+  left-frame = getD-set-same fs goalAt g 0 (omega (arith, r .stands .framed))
 
-  left-tops : topIn (set fs 0 g) + forkedIn (set fs 0 g) + suc (r .frames) ≤ 128
+  left-tops : topIn (set fs goalAt g) + forkedIn (set fs goalAt g) + suc (r .frames) ≤ nodeLimit
   left-tops = omega (arith, left-top, left-forked, r .tops)
 
   -- ---- the only operand
 
-  pub up-one : upOf fs f % 4 ≡ 0 → nodeOperands (nodeIn table n .kind) ≡ 1 → {a : Step} {left : List ℕ} → One (formOf (nodeIn table n .kind)) n t q ws a left
-      → Gives limit table bound base ground left (set fs 0 g) ls a
+  pub up-one : awaitsOf fs f ≡ 0 → nodeOperands (nodeIn table n .kind) ≡ 1 → {a : Step} {left : List ℕ} → One (formOf (nodeIn table n .kind)) n t q ws a left
+      → Gives limit table bound base ground left (set fs goalAt g) ls a
   up-one z o {a} {left} x = by (up .view) z
     where
       by : {awaits : ℕ} → Upper limit table bound base ground ws fs (r .environment) (r .path) (r .value) (r .owed) (r .frames) (r .others) ls (firstOf fs f) (secondOf fs f) n g awaits
-          → awaits ≡ 0 → Gives limit table bound base ground left (set fs 0 g) ls a
+          → awaits ≡ 0 → Gives limit table bound base ground left (set fs goalAt g) ls a
       by (upper-only c e s i) z =
           yields-gives s (x .ruled) (room-less (omega arith) (r .room)) left-tops i (x .yields (r .value) (r .path) (r .means) (r .stands .state .path))
       by (upper-first c j d e w s i) z = absurd (omega arith)
@@ -250,14 +253,14 @@ module _ {limit : ℕ} {table : List ℕ} {bound base : ℕ} {ground : List Symb
 
   -- ---- the last of several operands
 
-  pub up-lastable : (upOf fs f % 4 ≡ 0 → ⊥) → Lastable (upOf fs f % 4) ws (firstOf fs f) (secondOf fs f) t q
+  pub up-lastable : (awaitsOf fs f ≡ 0 → ⊥) → Lastable (awaitsOf fs f) ws (firstOf fs f) (secondOf fs f) t q
   up-lastable z = by (up .view) refl
     where
       operable : {w : Symbolic} → Means ws (firstOf fs f) (secondOf fs f) w → Operable ws (firstOf fs f) (secondOf fs f) t q
       operable {w} m = record { room = up-room; first = record { value = w; means = m }; second = up-valued; distinct = r .stands .state .path .distinct }
 
       by : {awaits : ℕ} → Upper limit table bound base ground ws fs (r .environment) (r .path) (r .value) (r .owed) (r .frames) (r .others) ls (firstOf fs f) (secondOf fs f) n g awaits
-          → awaits ≡ upOf fs f % 4 → Lastable (upOf fs f % 4) ws (firstOf fs f) (secondOf fs f) t q
+          → awaits ≡ awaitsOf fs f → Lastable (awaitsOf fs f) ws (firstOf fs f) (secondOf fs f) t q
       by (upper-only c e s i) h = absurd (z (sym h))
       by (upper-first c j d e w s i) h = absurd (z (sym h))
       by (upper-second m e s i) h = record { operable = operable m; variable = λ k. absurd (omega arith) }
@@ -268,29 +271,29 @@ module _ {limit : ℕ} {table : List ℕ} {bound base : ℕ} {ground : List Symb
       let b = stands-base (r .stands) in
       let n = r .stands .narrow in
       record {
-        same = length-set ws 728 (depthIn ws - 1);
-        first = λ k l. getD-set-other ws 728 k (depthIn ws - 1) 0 λ e. omega arith;
-        beyond = λ k l e. getD-set-other ws 728 k (depthIn ws - 1) 0 e;
+        same = length-set ws depthAt (depthIn ws - 1);
+        first = λ k l. getD-set-other ws depthAt k (depthIn ws - 1) 0 λ e. omega arith;
+        beyond = λ k l e. getD-set-other ws depthAt k (depthIn ws - 1) 0 e;
       }
 
-  pub up-last : (upOf fs f % 4 ≡ 0 → ⊥) → {m : Move} {left : List ℕ}
-      → Lasts (nodeIn table n .kind) (upOf fs f % 4) n (firstOf fs f) (secondOf fs f) t q ws m left → Came limit table bound base ground left (set fs 0 g) ls m
+  pub up-last : (awaitsOf fs f ≡ 0 → ⊥) → {m : Move} {left : List ℕ}
+      → Lasts (nodeIn table n .kind) (awaitsOf fs f) n (firstOf fs f) (secondOf fs f) t q ws m left → Came limit table bound base ground left (set fs goalAt g) ls m
   unfolding bind
   up-last z {m} {left} x = by (up .view) refl
     where
       by : {awaits : ℕ} → Upper limit table bound base ground ws fs (r .environment) (r .path) (r .value) (r .owed) (r .frames) (r .others) ls (firstOf fs f) (secondOf fs f) n g awaits
-          → awaits ≡ upOf fs f % 4 → Came limit table bound base ground left (set fs 0 g) ls m
+          → awaits ≡ awaitsOf fs f → Came limit table bound base ground left (set fs goalAt g) ls m
       by (upper-only c e s i) h = absurd (z (sym h))
       by (upper-first c j d e w s i) h = absurd (z (sym h))
       by (upper-second {w = w} k e s i) h =
           let o = x .other λ y. omega arith in
-          subst (λ (a : Move). Came limit table bound base ground left (set fs 0 g) ls a) (sym (o .1))
+          subst (λ (a : Move). Came limit table bound base ground left (set fs goalAt g) ls a) (sym (o .1))
           (gives-came
           (yields-gives s (o .2 .ruled) (room-less (omega arith) (r .room)) left-tops i
           (o .2 .yields w (r .value) (r .path) k (r .means) (r .stands .state .path))))
       by (upper-body {ks = ks} {less = less} {depth = inner} {w = w} {around = around} k v e d o a i) h =
           let y = x .body (sym h) in
-          let c : depthIn (unbound ws) ≡ inner = getD-set-same ws 728 (depthIn ws - 1) 0 (omega (arith, r .stands .lent)) ∙ omega (arith, d) in
+          let c : depthIn (unbound ws) ≡ inner = getD-set-same ws depthAt (depthIn ws - 1) 0 (omega (arith, r .stands .lent)) ∙ omega (arith, d) in
           let b = unbound-shifted in
           let grown = shifted-grown b (r .room) in
           let l = up .falls in
@@ -310,11 +313,11 @@ module _ {limit : ℕ} {table : List ℕ} {bound base : ℕ} {ground : List Symb
                 (record {
                   variables =
                       rw c
-                      (variables-kept inner (omega arith) (λ i m. getD-set-other ws 728 i (depthIn ws - 1) 0 λ z. omega (arith, z, m, d, r .stands .narrow)) grown
+                      (variables-kept inner (omega arith) (λ i m. getD-set-other ws depthAt i (depthIn ws - 1) 0 λ z. omega (arith, z, m, d, r .stands .narrow)) grown
                       (variables-less around w (r .stands .state .variables) d o));
                   path = shifted-path b (r .room) (r .stands .state .path);
                 })
-                (rw (left-frame, c) (awaits-kept (topIn fs) (omega arith) grown (λ k o m. getD-set-other fs 0 k g 0 λ e. omega arith) a));
+                (rw (left-frame, c) (awaits-kept (topIn fs) (omega arith) grown (λ k o m. getD-set-other fs goalAt k g 0 λ e. omega arith) a));
             means = means-kept grown (r .means);
             room = shifted-room b (room-less (omega arith) (r .room));
             tops = left-tops;
@@ -331,10 +334,10 @@ module _ {limit : ℕ} {table : List ℕ} {bound base : ℕ} {ground : List Symb
     pub fewer : ℕ
     pub several : 2 ≤ nodeOperands (nodeIn table (nodeOf fs (frameIn fs)) .kind)
     pub size-is : restSize table (nodeOf fs (frameIn fs)) ≡ suc rest
-    pub narrow : depthIn ws + suc rest ≤ 144
+    pub narrow : depthIn ws + suc rest ≤ symbolLimit
     pub owed-is : r .owed ≡ suc rest + less
     pub frames-is : r .frames ≡ rest + fewer
-    pub stands : Stands limit table bound base ground ws (set fs 0 (upOf fs (frameIn fs) / 4)) (r .environment) (r .path) later less fewer (r .others)
+    pub stands : Stands limit table bound base ground ws (set fs goalAt (goesTo fs (frameIn fs))) (r .environment) (r .path) later less fewer (r .others)
     pub is : ls
         ≡ leaves
         (bind
@@ -343,7 +346,7 @@ module _ {limit : ℕ} {table : List ℕ} {bound base : ℕ} {ground : List Symb
         (goOn limit table later))
         ++ r .others
 
-  pub up-next : upOf fs f % 4 ≡ 0 → (nodeOperands (nodeIn table n .kind) ≡ 1 → ⊥) → Next
+  pub up-next : awaitsOf fs f ≡ 0 → (nodeOperands (nodeIn table n .kind) ≡ 1 → ⊥) → Next
   up-next z o = by (up .view) z
     where
       by : {awaits : ℕ} → Upper limit table bound base ground ws fs (r .environment) (r .path) (r .value) (r .owed) (r .frames) (r .others) ls (firstOf fs f) (secondOf fs f) n g awaits

@@ -9,6 +9,7 @@ use lib.Dec.{eqb}
 use lib.ListN.{length, getD, replicate}
 use borrow.Author.Tests.{ne-eqb}
 use Rattle.script.specs.Code.Forms.{treeIn}
+use Rattle.script.specs.Limits.{nodeLimit}
 use Rattle.script.specs.Rows.Laws.{same-anywhere}
 use Rattle.script.specs.Tests.{pick}
 use Rattle.script.specs.declared.Checked.the-variants.{Accepted, Refused}
@@ -22,6 +23,7 @@ use Rattle.rules.specs.SymbolicRules.{firstType, judge, verdict}
 use Rattle.workspace.specs.Frames.{topIn, Descendable, Descends}
 use Rattle.workspace.specs.Frames.Laws.{size-some}
 use Rattle.workspace.specs.Notes.Keeping.{bare-noting}
+use Rattle.workspace.specs.Places.{framesSize, spaceSize}
 use Rattle.workspace.specs.Rules.{Checkable, Started}
 use Rattle.workspace.specs.Rules.Nodes.{bind-ends}
 use Rattle.workspace.specs.State.{typesOn}
@@ -63,7 +65,7 @@ module _ {limit : ℕ} {table : List ℕ} {n m : ℕ} {ws fs left gs : List ℕ}
     walking-earlier = let l = inner-entering .low in omega (arith, l, w .can .above)
 
     module _ {r : Move} {left₂ ks : List ℕ} (a : Arrives limit table inner left hs r left₂ ks) where
-      pub walking-less : {k : ℕ} → r ≡ Operand k → 128 - topIn ks < 128 - topIn gs
+      pub walking-less : {k : ℕ} → r ≡ Operand k → nodeLimit - topIn ks < nodeLimit - topIn gs
       walking-less e =
           let x = w .can .can .entering .tops in
           let y = a .rises e in
@@ -152,8 +154,8 @@ module _ {limit : ℕ} {table : List ℕ} {bound base : ℕ} {ground : List Symb
 
 -- after so many paths, the rest of the verdict is that of the leaves to come from node `next` on
 pub record Turn (table types : List ℕ) (depth limit n a : ℕ) (ws fs : List ℕ) (followed kind next : ℕ) : Type 0 where
-  pub whole : length ws ≡ 1415
-  pub framed : length fs ≡ 640
+  pub whole : length ws ≡ spaceSize
+  pub framed : length fs ≡ framesSize
   pub above : suc a ≤ n
   pub to-come : List Leaf
   pub entering : Entering limit table (suc a) depth (symbols 0 (typesOn types depth)) ws fs next to-come
@@ -218,7 +220,7 @@ module _ {table types : List ℕ} {depth limit n a : ℕ} {ws fs : List ℕ} {fo
 
 -- ---- the start
 
-pub turn-start : {table types : List ℕ} {depth limit n a : ℕ} {ws fs : List ℕ} → length ws ≡ 1415 → length fs ≡ 640 → ((k : ℕ) → getD fs k 0 ≡ 0) → a < n
+pub turn-start : {table types : List ℕ} {depth limit n a : ℕ} {ws fs : List ℕ} → length ws ≡ spaceSize → length fs ≡ framesSize → ((k : ℕ) → getD fs k 0 ≡ 0) → a < n
     → Checkable table types depth a → Started depth (typesOn types depth) ws → Turn table types depth limit n a ws fs 0 0 a
 unfolding goOn
 turn-start {table} {types} {depth} {limit} {n} {a} {ws} {fs} whole framed zeros above q s =
@@ -269,5 +271,5 @@ turn-start {table} {types} {depth} {limit} {n} {a} {ws} {fs} whole framed zeros 
       type = refl;
     }
 
-pub no-frames : (k : ℕ) → getD (replicate {A = ℕ} 640 0) k 0 ≡ 0
-no-frames k = same-anywhere 640 0 k
+pub no-frames : (k : ℕ) → getD (replicate {A = ℕ} framesSize 0) k 0 ≡ 0
+no-frames k = same-anywhere framesSize 0 k

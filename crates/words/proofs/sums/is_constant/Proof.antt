@@ -3,8 +3,8 @@ use borrow.Author.Needs.{needs}
 use Prim.Native.Nat.{_-_}
 use native.Mathlib.Omega.{arith}
 use Rattle.script.specs.Tests.Loops.{Looked, look, look-on}
+use Rattle.terms.specs.Places.{symbolLimit}
 use Rattle.terms.specs.Search.{nowhere-here, nowhere-end}
-use Rattle.terms.specs.Terms.{symbolLimit}
 use Rattle.words.specs.Sums.{hasSymbol}
 use Rattle.words.specs.Sums.Laws.{differs, agrees}
 use Rattle.words.proofs.sums.is_constant.Statement.{statement}

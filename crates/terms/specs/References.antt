@@ -1,0 +1,31 @@
+-- References by their places: a place is a symbol and its origin in one number. And when two of them are certainly different cells. Assumes nothing.
+pub mod Laws
+use mathlib.Core.Bool.{Bool}
+use Prim.Native.Nat.{ℕ, zero, suc, _+_, _*_, _/_, _%_}
+use Rattle.rules.specs.Symbolic.{Origin, made, other, apart}
+
+-- how many origins there are, and the number of each
+abbrev pub origins : ℕ
+origins = 2
+
+abbrev pub originNumber : Origin → ℕ
+originNumber other = 0
+originNumber made = 1
+
+abbrev pub originBy : ℕ → Origin
+originBy zero = other
+originBy (suc n) = made
+
+-- the place of a reference, and its symbol and origin by its place
+abbrev pub referenceAt : Origin → ℕ → ℕ
+referenceAt o s = origins * s + originNumber o
+
+abbrev pub symbolAt : ℕ → ℕ
+symbolAt q = q / origins
+
+abbrev pub originAt : ℕ → Origin
+originAt q = originBy (q % origins)
+
+-- the references at two places are certainly different cells
+unfoldable pub apartAt : ℕ → ℕ → Bool
+apartAt p q = apart (originAt p) (symbolAt p) (originAt q) (symbolAt q)

@@ -1,0 +1,41 @@
+// References by their places: a place is a symbol and its origin in one number.
+ghost use mathlib.Core.Path.{_≡_};
+ghost use Prim.Native.Nat.{_+_, _*_, _<_};
+ghost use Rattle.terms.specs.Places.{symbolLimit};
+ghost use Rattle.terms.specs.References.{origins, symbolAt, apartAt};
+
+// How many origins there are: made by `ref` on this path, or any other.
+const ORIGINS: u32 = 2;
+
+pub const OTHER: u32 = 0;
+
+pub const MADE: u32 = 1;
+
+// The place of a reference.
+pub fn reference(symbol: u32, origin: u32) -> u32
+    requires { ⌜ symbol < symbolLimit ⌝ }
+    requires { ⌜ origin < origins ⌝ }
+    ensures { λ r. ⌜ r ≡ origins * symbol + origin ⌝ }
+{
+    ORIGINS * symbol + origin
+}
+
+// The symbol of the reference at a place.
+pub fn symbol_of(place: u32) -> u32
+    ensures { λ r. ⌜ r ≡ symbolAt place ⌝ }
+{
+    place / ORIGINS
+}
+
+// The references at two places are certainly different cells: different symbols that `ref` made on this path.
+pub fn apart(p: u32, q: u32) -> bool
+    ensures { λ r. ⌜ r ≡ apartAt p q ⌝ }
+{
+    if p % ORIGINS != MADE {
+        return false;
+    }
+    if q % ORIGINS != MADE {
+        return false;
+    }
+    p / ORIGINS != q / ORIGINS
+}
