@@ -1,6 +1,6 @@
 -- The form of a kind and the tree of a node, for code that goes by the flat table. Assumes nothing.
 use mathlib.Core.Bool.{Bool, true, false, not, _&&_}
-use mathlib.Core.List.{List, [], _∷_, map}
+use mathlib.Core.List.{List, _∷_, map}
 use mathlib.Core.Option.{Option, none, some}
 use mathlib.Core.Path.{_≡_, refl, sym, ap, _∙_}
 use Prim.Native.Nat.{ℕ, suc, _≤_, _<_}
@@ -11,8 +11,8 @@ use borrow.Author.Tests.{not-false, le-leb, leb-true, leb-false, eqb-true, eqb-f
 use Rattle.script.specs.Code.TableTests.Laws.{same-node}
 use Rattle.script.specs.Flat.{FormedNodes, nodesIn}
 use Rattle.script.specs.Flat.Laws.{nodesIn-holds}
-use Rattle.script.specs.Rows.{Row, Form, typedForm, symForm, truthForm, unaryForm, notOp, refOp, getOp, rows, rowOf, kindFor, kindCount, leafKinds, numberUpTo, countBy, operandCount, takesBy, takesIn, takesOf, nodesOnly, nodeOperands}
-use Rattle.script.specs.Rows.Laws.{formBy, form-row, countOf, row-count, row-kind, row-some, NoneOf, elsewhere, other-row}
+use Rattle.script.specs.Rows.{Row, Form, typedForm, symForm, truthForm, rows, rowOf, kindFor, kindCount, leafKinds, numberUpTo, countBy, operandCount, takesBy, takesIn, takesOf, nodesOnly, nodeOperands}
+use Rattle.script.specs.Rows.Laws.{formBy, form-row, countOf, row-count, row-kind, row-some, NoneOf, unaryForms, elsewhere, other-row}
 use Rattle.script.specs.Table.{nodeAt, rightNode, wellFormed}
 use Rattle.script.specs.Table.Laws.{formed-at}
 use Rattle.script.specs.Tests.{lowestFrom}
@@ -72,7 +72,7 @@ other-kinds k h l =
     leb-true 1 (nodeOperands k) (not-false _ (rw (le-leb leafKinds k h) at e))
 
 -- one of these five kinds
-pub not-one : (k : ℕ) → NoneOf k (unaryForm notOp ∷ unaryForm refOp ∷ unaryForm getOp ∷ typedForm ∷ symForm ∷ []) → eqb (nodeOperands k) 1 ≡ false
+pub not-one : (k : ℕ) → NoneOf k (typedForm ∷ symForm ∷ unaryForms) → eqb (nodeOperands k) 1 ≡ false
 unfolding nodeOperands takesOf operandCount rows
 not-one k n = other-row (λ o. eqb (nodesBy o) 1) _ k refl n
 

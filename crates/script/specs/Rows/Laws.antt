@@ -107,6 +107,13 @@ pub data NoneOf (k : ℕ) : List Form → Type 0 where
   none-left : NoneOf k []
   but : {f : Form} {fs : List Form} → (k ≡ kindFor f → ⊥) → NoneOf k fs → NoneOf k (f ∷ fs)
 
+-- the forms of the operators
+abbrev pub unaryForms : List Form
+unaryForms = unaryForm notOp ∷ unaryForm refOp ∷ unaryForm getOp ∷ []
+
+abbrev pub binaryForms : List Form
+binaryForms = binaryForm addOp ∷ binaryForm eqOp ∷ binaryForm andOp ∷ binaryForm setOp ∷ []
+
 -- k is one of these forms' kinds
 abbrev pub among : ℕ → List Form → Bool
 among k [] = false

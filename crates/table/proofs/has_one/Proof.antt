@@ -18,4 +18,4 @@ has-one-spec =
     (λ c. rw (c .match .keys5))
     λ c.
     let r = c .match .rest in
-    sym (not-one (c .before .args .kind) (but (r .0 .0 .0 .0 .1) (but (r .0 .0 .0 .1) (but (r .0 .0 .1) (but (r .0 .1) (but (r .1) none-left)))))))
+    sym (not-one (c .before .args .kind) (but (r .0 .1) (but (r .1) (but (r .0 .0 .0 .0 .1) (but (r .0 .0 .0 .1) (but (r .0 .0 .1) none-left)))))))
