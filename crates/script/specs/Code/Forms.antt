@@ -12,7 +12,7 @@ use Rattle.script.specs.Code.TableTests.Laws.{same-node}
 use Rattle.script.specs.Flat.{FormedNodes, nodesIn}
 use Rattle.script.specs.Flat.Laws.{nodesIn-holds}
 use Rattle.script.specs.Rows.{Row, Form, typedForm, symForm, truthForm, rows, rowOf, kindFor, kindCount, leafKinds, numberUpTo, countBy, operandCount, takesBy, takesIn, takesOf, nodesOnly, nodeOperands}
-use Rattle.script.specs.Rows.Laws.{formBy, form-row, countOf, row-count, row-kind, row-some, NoneOf, unaryForms, elsewhere, other-row}
+use Rattle.script.specs.Rows.Laws.{formBy, row-form, form-row, countOf, row-count, row-kind, row-some, NoneOf, unaryForms, elsewhere, other-row}
 use Rattle.script.specs.Table.{nodeAt, rightNode, wellFormed}
 use Rattle.script.specs.Table.Laws.{formed-at}
 use Rattle.script.specs.Tests.{lowestFrom}
@@ -30,6 +30,15 @@ formOf k = formBy (rowOf k)
 pub form-at : (f : Form) (k : ℕ) → k ≡ kindFor f → formOf k ≡ f
 unfolding formOf
 form-at f k e = ap formOf e ∙ form-row f
+
+-- no other kind has a form, but that of `false`
+pub no-form : (f : Form) (k : ℕ) → eqb (kindFor (truthForm false)) (kindFor f) ≡ false → (k ≡ kindFor f → ⊥) → formOf k ≡ f → ⊥
+unfolding formOf
+no-form f k h d e = go (rowOf k) refl e
+  where
+    go : (o : Option Row) → rowOf k ≡ o → formBy o ≡ f → ⊥
+    go none q s = eqb-false _ _ h (ap kindFor s)
+    go (some r) q s = d (sym (row-form k r q) ∙ ap kindFor s)
 
 -- what the form of every other kind says, where all other forms say the same
 pub other-form : {A : Type 0} (g : Form → A) (fs : List Form) (k : ℕ)
@@ -58,6 +67,15 @@ module _ (k : ℕ) {r : Row} {f : Form} (e : rowOf k ≡ some r) (q : r .form �
 
 abbrev nodesBy : Option Row → ℕ
 nodesBy o = nodesOnly (takesIn o) (countBy o)
+
+-- as many as its form has
+pub kind-operands : (f : Form) (k : ℕ) → k ≡ kindFor f → nodeOperands k ≡ nodesOfForm f
+unfolding nodeOperands takesOf operandCount
+kind-operands f k e = go (rowOf k) refl (ap (λ (m : ℕ). formBy (rowOf m)) e ∙ form-row f)
+  where
+    go : (o : Option Row) → rowOf k ≡ o → formBy o ≡ f → nodesBy o ≡ nodesOfForm f
+    go none q s = ap nodesOfForm s
+    go (some r) q s = ap (nodesOnly (takesBy (numberUpTo (r .form)))) (row-count k r q) ∙ ap nodesOfForm s
 
 -- a leaf has none
 pub leaf-kinds : (k : ℕ) → k < leafKinds → nodeOperands k ≡ 0
