@@ -5,7 +5,7 @@ ghost use mathlib.Core.Bool.{false};
 ghost use mathlib.Core.Path.{_≡_};
 ghost use Prim.Native.Nat.{_≤_, _<_};
 ghost use Rattle.script.specs.Code.Forms.{nodeIn, treeIn};
-ghost use Rattle.script.specs.Rows.{nodeOperands};
+ghost use Rattle.script.specs.Rows.{typedForm, kindFor, nodeOperands};
 ghost use Rattle.rules.specs.Checking.{check, exec};
 ghost use Rattle.rules.specs.Paths.{start, leaves};
 ghost use Rattle.rules.specs.Symbolic.{symbols};
@@ -232,7 +232,7 @@ fn block_type(table: &[u32], space: &mut [u32], depth: usize, limit: u32, a: u32
 // The typed block n on a path: a symbol of its type goes up.
 fn block_up(table: &[u32], space: &mut [u32], frames: &mut [u32], limit: u32, n: u32) -> Move
     requires { ⌜ Enterable limit (now table) (now space) (now frames) n ⌝ }
-    requires { ⌜ nodeIn (now table) n .kind ≡ 13 ⌝ }
+    requires { ⌜ nodeIn (now table) n .kind ≡ kindFor typedForm ⌝ }
     ensures { λ r. ⌜ Arrives limit (now (table .entry)) n (now (space .entry)) (now (frames .entry)) r (now (space .exit)) (now (frames .exit)) ⌝ }
 {
     let a = node_at(table, n as usize).a;

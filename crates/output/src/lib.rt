@@ -3,6 +3,7 @@
 ghost use mathlib.Core.Path.{_≡_};
 ghost use Prim.Native.Nat.{_+_, _^_, _<_};
 ghost use lib.ListN.{length, set};
+ghost use Rattle.script.specs.Rows.{kindCount};
 ghost use Rattle.text.specs.Code.Output.{Put, wordOf};
 ghost use Rattle.text.specs.Writing.{digits, typeText};
 use fields::words::LENGTHS;
@@ -32,7 +33,7 @@ pub fn put_bytes(out: &mut [u8], at: usize, bytes: &[u8]) -> usize
 
 // The word of this kind, written from place `at` on.
 pub fn put_word(out: &mut [u8], at: usize, kind: u32) -> usize
-    requires { ⌜ kind < 15 ⌝ }
+    requires { ⌜ kind < kindCount ⌝ }
     requires { ⌜ at + length (wordOf kind) < 2 ^ 64 ⌝ }
     ensures { λ r. ⌜ Put (wordOf kind) at (now (out .entry)) r (now (out .exit)) ⌝ }
 {

@@ -3,7 +3,7 @@ ghost use mathlib.Core.Path.{_≡_};
 ghost use mathlib.Core.Bool.{true};
 ghost use Prim.Native.Nat.{_≤_, _<_};
 ghost use lib.ListN.{length, drop};
-ghost use Rattle.script.specs.Rows.{rowOf};
+ghost use Rattle.script.specs.Rows.{rowOf, kindCount};
 ghost use Rattle.text.specs.Code.Scan.{fieldEnds, largestBy, operandAt, entryAfter, nodeAfter, lineAt};
 use fields::LF;
 use fields::TAB;
@@ -55,7 +55,7 @@ fn largest(kind: u32) -> u32
 fn node_line(text: &[u8], at: usize, kind: u32) -> Scanned
     requires { ⌜ at ≤ length (now text) ⌝ }
     requires { ⌜ fieldEnds (drop at (now text)) ≡ true ⌝ }
-    requires { ⌜ kind < 15 ⌝ }
+    requires { ⌜ kind < kindCount ⌝ }
     ensures { λ r. ⌜ r ≡ nodeAfter kind at (drop at (now (text .entry))) ⌝ }
 {
     let count = operand_count(kind);

@@ -7,7 +7,7 @@ use Prim.Native.Nat.{ℕ, suc, _+_, pred}
 use lib.Dec.{leb, ltb, eqb}
 use lib.ListN.{length, take, drop, getD}
 use Rattle.script.specs.Limits.{nodeLimit, entryLimit, nestingLimit, typeLimit, countsFit}
-use Rattle.script.specs.Rows.{Row, rowOf, numberUpTo, isSym}
+use Rattle.script.specs.Rows.{Row, truthForm, rowOf, kindFor, numberUpTo, isSym}
 use Rattle.script.specs.Tests.{pick, all, lowest, need, needNone}
 use Rattle.script.specs.declared.Node.{Node}
 use Rattle.script.specs.declared.Refusal.{Refusal}
@@ -34,7 +34,7 @@ nodeOf k x y z = record { kind = k; a = x; b = y; c = z }
 
 -- what an unused place holds: `false`
 abbrev pub unused : Node
-unused = nodeOf 2 0 0 0
+unused = nodeOf (kindFor (truthForm false)) 0 0 0
 
 abbrev pub nodeAt : List Node → ℕ → Node
 nodeAt ns i = getD ns i unused

@@ -10,6 +10,7 @@ use lib.ListN.{length, getD}
 use Rattle.script.specs.Code.Forms.{nodeIn, treeIn}
 use Rattle.script.specs.Flat.{FormedNodes}
 use Rattle.script.specs.Limits.{nodeLimit}
+use Rattle.script.specs.Rows.{typedForm, kindFor, leafKinds}
 use Rattle.script.specs.Tree.{size}
 use Rattle.workspace.specs.Places.{frameWidth, framesEnd, goalAt, topAt}
 use Rattle.workspace.specs.declared.Frame.{Frame}
@@ -73,7 +74,7 @@ frameAt fs f = record { node = nodeOf fs f; awaits = awaitsOf fs f; x = firstOf 
 
 -- a node with a first operand that is a node, and no typed block
 abbrev pub waitsFor : ℕ → Bool
-waitsFor kind = leb 4 kind && not (eqb kind 13)
+waitsFor kind = leb leafKinds kind && not (eqb kind (kindFor typedForm))
 
 -- from node m on down the first operands, each of which waits
 pub data Descends (table : List ℕ) : List ℕ → ℕ → ℕ → List ℕ → Type 0 where

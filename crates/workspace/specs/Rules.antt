@@ -13,7 +13,7 @@ use Prim.Native.Nat.{ℕ, suc, _+_, _*_, _≤_, _<_}
 use lib.ListN.{length, getD, set, getElem?}
 use Rattle.script.specs.Code.Forms.{formOf, nodeIn, treeIn}
 use Rattle.script.specs.Flat.{FormedNodes}
-use Rattle.script.specs.Rows.{Form, intForm, varForm, ifForm, letForm, typedForm, symForm, truthForm, unaryForm, binaryForm, nodeOperands}
+use Rattle.script.specs.Rows.{Form, intForm, varForm, ifForm, letForm, typedForm, symForm, truthForm, unaryForm, binaryForm, kindFor, nodeOperands}
 use Rattle.script.specs.Tree.{Expr, size}
 use Rattle.script.specs.declared.Checked.{Checked}
 use Rattle.script.specs.declared.Checked.the-variants.{Accepted}
@@ -189,8 +189,8 @@ pub record Judged (c : Checked) (depth : ℕ) (ws : List ℕ) (r : Checked) (lef
 
 -- what a `let` changes, and that no other kind changes anything; and what the types are then
 pub record BoundTypes (kind depth t : ℕ) (ws : List ℕ) (count : ℕ) (left : List ℕ) : Type 0 where
-  pub bound : kind ≡ 9 → (count ≡ depth + 1) × (left ≡ set ws (2 * depth) t)
-  pub other : (kind ≡ 9 → ⊥) → (count ≡ depth) × (left ≡ ws)
+  pub bound : kind ≡ kindFor letForm → (count ≡ depth + 1) × (left ≡ set ws (2 * depth) t)
+  pub other : (kind ≡ kindFor letForm → ⊥) → (count ≡ depth) × (left ≡ ws)
   pub least : depth ≤ count
   pub most : count ≤ depth + 1
   pub types : typesOn left count ≡ boundOn (formOf kind) t (typesOn ws depth)

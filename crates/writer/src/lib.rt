@@ -4,6 +4,7 @@ ghost use mathlib.Core.Path.{_≡_};
 ghost use Prim.Native.Nat.{ℕ, _+_, _*_, _^_, _≤_, _<_};
 ghost use lib.ListN.{length, take};
 ghost use Rattle.script.specs.Flat.{nodesIn, tableIn};
+ghost use Rattle.script.specs.Rows.{kindCount};
 ghost use Rattle.script.specs.Table.{nodeAt, tableTest};
 ghost use Rattle.text.specs.Code.Output.{Put, operandIf, textIn};
 ghost use Rattle.text.specs.Writing.{outcome, entryText, nodeText, entriesText, nodesText, longEnough, writing};
@@ -48,7 +49,7 @@ fn put_operand(out: &mut [u8], at: usize, o: u32, wanted: bool) -> usize
 
 // A node line.
 fn put_node_line(out: &mut [u8], at: usize, n: Node) -> usize
-    requires { ⌜ n .kind < 15 ⌝ }
+    requires { ⌜ n .kind < kindCount ⌝ }
     requires { ⌜ at + length (nodeText n) < 2 ^ 64 ⌝ }
     ensures { λ r. ⌜ Put (nodeText n) at (now (out .entry)) r (now (out .exit)) ⌝ }
 {
@@ -80,7 +81,7 @@ fn put_entries(out: &mut [u8], entries: &[u32], count: usize) -> usize
 // The lines of the first `count` nodes, from place `from` on.
 fn put_nodes(out: &mut [u8], from: usize, table: &[u32], count: usize) -> usize
     requires { ⌜ 4 * count ≤ length (now table) ⌝ }
-    requires { ⌜ ((i : ℕ) → i < count → nodeAt (nodesIn (now table)) i .kind < 15) ⌝ }
+    requires { ⌜ ((i : ℕ) → i < count → nodeAt (nodesIn (now table)) i .kind < kindCount) ⌝ }
     requires { ⌜ from + length (nodesText (take count (nodesIn (now table)))) < 2 ^ 64 ⌝ }
     ensures { λ r. ⌜ Put (nodesText (take count (nodesIn (now (table .entry))))) from (now (out .entry)) r (now (out .exit)) ⌝ }
 {

@@ -19,7 +19,7 @@ use Prim.Native.Nat.{ℕ, suc, _+_, _*_, _-_, _≤_, _<_}
 use lib.ListN.{length, getD, set}
 use Rattle.script.specs.Code.Forms.{formOf, nodeIn, treeIn}
 use Rattle.script.specs.Flat.{FormedNodes}
-use Rattle.script.specs.Rows.{nodeOperands}
+use Rattle.script.specs.Rows.{letForm, kindFor, leafKinds, nodeOperands}
 use Rattle.script.specs.Tests.{pick}
 use Rattle.script.specs.Tree.{size}
 use Rattle.script.specs.declared.Checked.the-variants.{Accepted, Refused}
@@ -87,7 +87,7 @@ pub data Awaits (table : List ℕ) (bound base : ℕ) (ground : List Symbolic) (
       → Means ws (firstOf fs f) (secondOf fs f) v → Awaits table bound base ground ws fs g depth env ks owed frames
       → Awaits table bound base ground ws fs f depth env (second n v ∷ ks) (suc owed) frames
   for-body : {f g n depth owed frames : ℕ} {env : List Symbolic} {ks : List Later} {v : Symbolic} → Slot fs f n g 2 → n < bound
-      → nodeIn table n .kind ≡ 9 → Means ws (firstOf fs f) (secondOf fs f) v → Awaits table bound base ground ws fs g depth env ks owed frames
+      → nodeIn table n .kind ≡ kindFor letForm → Means ws (firstOf fs f) (secondOf fs f) v → Awaits table bound base ground ws fs g depth env ks owed frames
       → Awaits table bound base ground ws fs f (suc depth) (env ++ (v ∷ [])) (second n v ∷ ks) (suc owed) frames
 
 -- ---- forks
@@ -288,7 +288,7 @@ pub record Arrives (limit : ℕ) (table : List ℕ) (n : ℕ) (ws fs : List ℕ)
 
 -- a leaf can, whatever the limit of paths
 pub record Leafable (table ws fs : List ℕ) (n : ℕ) : Type 0 where
-  pub leaf : nodeIn table n .kind < 4
+  pub leaf : nodeIn table n .kind < leafKinds
   pub limit : ℕ
   pub enterable : Enterable limit table ws fs n
 

@@ -6,6 +6,7 @@ use native.Mathlib.Nat.{mod-eq-of-lt}
 use native.Mathlib.Omega.{arith}
 use Rattle.script.specs.Code.Forms.{formOf}
 use Rattle.script.specs.Rows.{rows, rowOf}
+use Rattle.script.specs.Rows.Laws.{none-left, but}
 use Rattle.operators.specs.Steps.{leafOn}
 use Rattle.operators.specs.Steps.Operators.{says-gave, leaf-other}
 use Rattle.operators.proofs.leaf.Statement.{statement}
@@ -29,7 +30,7 @@ returns-4 : tie.Need-returns-4
 returns-4 c =
     let a = c .before .before .args in
     let d = c .match .rest in
-    says-gave λ cs. leaf-other (a .n) (a .a) _ cs (a .kind) (d .0 .0 .1) (d .0 .1) (d .1)
+    says-gave λ cs. leaf-other (a .n) (a .a) _ cs (a .kind) (but (d .0 .0 .1) (but (d .0 .1) (but (d .1) none-left)))
 
 pub leaf-spec : {M : Type 1} → statement M
 leaf-spec = tie.close (tie.spec (λ c κs. search needs) returns returns-2 returns-3 returns-4)

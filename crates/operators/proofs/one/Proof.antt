@@ -2,6 +2,7 @@
 use borrow.Author.Needs.{needs}
 use Rattle.script.specs.Code.Forms.{formOf}
 use Rattle.script.specs.Rows.{rows, rowOf}
+use Rattle.script.specs.Rows.Laws.{none-left, but}
 use Rattle.operators.specs.Steps.{oneOn}
 use Rattle.operators.specs.Steps.Operators.{does-says, does-gave, one-other}
 use Rattle.operators.proofs.one.Statement.{statement}
@@ -25,7 +26,7 @@ returns-4 : tie.Need-returns-4
 returns-4 c =
     let s = c .before .before in
     let d = c .match .rest in
-    does-gave (s .pre .0) _ (one-other (s .args .n) (s .args .v) _ (s .args .kind) (d .0 .0 .1) (d .0 .1) (d .1))
+    does-gave (s .pre .0) _ (one-other (s .args .n) (s .args .v) _ (s .args .kind) (but (d .0 .0 .1) (but (d .0 .1) (but (d .1) none-left))))
 
 pub one-spec : {M : Type 1} → statement M
 one-spec =

@@ -2,6 +2,7 @@
 use borrow.Author.Needs.{needs}
 use Rattle.script.specs.Code.Forms.{formOf}
 use Rattle.script.specs.Rows.{rows, rowOf}
+use Rattle.script.specs.Rows.Laws.{none-left, but}
 use Rattle.operators.specs.Steps.{twoOn}
 use Rattle.operators.specs.Steps.Operators.{does-says, does-gave, two-other}
 use Rattle.operators.proofs.two.Statement.{statement}
@@ -30,7 +31,7 @@ returns-5 c =
     let s = c .before .before in
     let a = s .args in
     let d = c .match .rest in
-    does-gave (s .pre .0) _ (two-other (a .n) (a .v) (a .w) _ (a .kind) (d .0 .0 .0 .1) (d .0 .0 .1) (d .0 .1) (d .1))
+    does-gave (s .pre .0) _ (two-other (a .n) (a .v) (a .w) _ (a .kind) (but (d .0 .0 .0 .1) (but (d .0 .0 .1) (but (d .0 .1) (but (d .1) none-left)))))
 
 pub two-spec : {M : Type 1} → statement M
 two-spec =

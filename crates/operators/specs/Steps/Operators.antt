@@ -8,9 +8,10 @@ use native.Mathlib.Omega.{arith}
 use lib.Dec.{eqb}
 use lib.ListN.{length, getElem?, drop, length-set, length-append}
 use lib.Seq.{sets}
-use Rattle.script.specs.Code.Forms.{formOf, plain-but, plain-all, form-plain}
+use Rattle.script.specs.Code.Forms.{formOf, other-form}
 use Rattle.script.specs.Answers.{kindOf, bitsOf}
-use Rattle.script.specs.Rows.{rows, refOp, getOp, eqOp, setOp}
+use Rattle.script.specs.Rows.{intForm, varForm, ifForm, letForm, truthForm, rows, kindFor, refOp, getOp, eqOp, setOp}
+use Rattle.script.specs.Rows.Laws.{NoneOf, none-left, but, unaryForms, binaryForms}
 use Rattle.script.specs.declared.Value.{Value}
 use Rattle.script.specs.declared.Value.the-variants.{Word, Truth, Location}
 use Rattle.rules.specs.Evaluation.{Outcome, gave, failed, found, equal, unaryOn, binaryOn}
@@ -144,31 +145,22 @@ bound-same {env} {depth} h = record { counts = sym (length-values depth env); ho
 
 -- ---- the form of a kind
 
-pub leaf-other : (n a : ℕ) (env cs : List Value) (k : ℕ) → (k ≡ 0 → ⊥) → (k ≡ 1 → ⊥) → (k ≡ 3 → ⊥)
-    → leafOn (formOf k) n a env cs ≡ gave (Truth false) cs
+pub leaf-other : (n a : ℕ) (env cs : List Value) (k : ℕ) → NoneOf k (intForm ∷ truthForm true ∷ varForm ∷ []) → leafOn (formOf k) n a env cs ≡ gave (Truth false) cs
 unfolding leafOn rows
-leaf-other n a env cs k d₀ d₁ d₃ =
-    form-plain (λ f. leafOn f n a env cs) k
-    (plain-but 0 _ _ k d₀ λ i e. plain-but 0 _ _ i (λ z. d₁ (omega arith)) λ j f. plain-but 1 _ _ j (λ z. d₃ (omega arith)) λ l g. plain-all 11 l)
+leaf-other n a env cs k d = other-form (λ f. leafOn f n a env cs) _ k refl d
 
-pub one-other : (n : ℕ) (v : Value) (cs : List Value) (k : ℕ) → (k ≡ 6 → ⊥) → (k ≡ 10 → ⊥) → (k ≡ 11 → ⊥) → oneOn (formOf k) n v cs ≡ gave v cs
+pub one-other : (n : ℕ) (v : Value) (cs : List Value) (k : ℕ) → NoneOf k unaryForms → oneOn (formOf k) n v cs ≡ gave v cs
 unfolding oneOn rows
-one-other n v cs k d₆ d₁₀ d₁₁ =
-    form-plain (λ f. oneOn f n v cs) k
-    (plain-but 6 _ _ k d₆ λ i e. plain-but 3 _ _ i (λ z. d₁₀ (omega arith)) λ j f. plain-but 0 _ _ j (λ z. d₁₁ (omega arith)) λ l g. plain-all 3 l)
+one-other n v cs k d = other-form (λ f. oneOn f n v cs) _ k refl d
 
-pub two-other : (n : ℕ) (v w : Value) (cs : List Value) (k : ℕ) → (k ≡ 4 → ⊥) → (k ≡ 5 → ⊥) → (k ≡ 7 → ⊥) → (k ≡ 12 → ⊥)
-    → twoOn (formOf k) n v w cs ≡ gave w cs
+pub two-other : (n : ℕ) (v w : Value) (cs : List Value) (k : ℕ) → NoneOf k binaryForms → twoOn (formOf k) n v w cs ≡ gave w cs
 unfolding twoOn rows
-two-other n v w cs k d₄ d₅ d₇ d₁₂ =
-    form-plain (λ f. twoOn f n v w cs) k
-    (plain-but 4 _ _ k d₄ λ i e. plain-but 0 _ _ i (λ z. d₅ (omega arith)) λ j f. plain-but 1 _ _ j (λ z. d₇ (omega arith)) λ l g.
-    plain-but 4 _ _ l (λ z. d₁₂ (omega arith)) λ m u. plain-all 2 m)
+two-other n v w cs k d = other-form (λ f. twoOn f n v w cs) _ k refl d
 
-pub next-other : (v : Value) (b c k : ℕ) → (k ≡ 8 → ⊥) → nextOn (formOf k) v b c ≡ Operand b
+pub next-other : (v : Value) (b c k : ℕ) → (k ≡ kindFor ifForm → ⊥) → nextOn (formOf k) v b c ≡ Operand b
 unfolding nextOn rows
-next-other v b c k d = form-plain (λ f. nextOn f v b c) k (plain-but 8 _ _ k d λ i e. plain-all 6 i)
+next-other v b c k d = other-form (λ f. nextOn f v b c) (ifForm ∷ []) k refl (but d none-left)
 
-pub bound-other : (v : Value) (env : List Value) (k : ℕ) → (k ≡ 9 → ⊥) → boundOn (formOf k) v env ≡ env
+pub bound-other : (v : Value) (env : List Value) (k : ℕ) → (k ≡ kindFor letForm → ⊥) → boundOn (formOf k) v env ≡ env
 unfolding boundOn rows
-bound-other v env k d = form-plain (λ f. boundOn f v env) k (plain-but 9 _ _ k d λ i e. plain-all 5 i)
+bound-other v env k d = other-form (λ f. boundOn f v env) (letForm ∷ []) k refl (but d none-left)

@@ -7,7 +7,7 @@ use native.Mathlib.Omega.{arith}
 use lib.ListN.{length, take, length-append}
 use lib.Seq.{take-take}
 use Rattle.script.specs.Code.Forms.{formOf, leaf-kinds, nodeIn, treeIn, formed-less}
-use Rattle.script.specs.Rows.{Form, intForm, varForm, ifForm, letForm, typedForm, symForm, truthForm, unaryForm, binaryForm, nodeOperands}
+use Rattle.script.specs.Rows.{Form, intForm, varForm, ifForm, letForm, typedForm, symForm, truthForm, unaryForm, binaryForm, leafKinds, nodeOperands}
 use Rattle.script.specs.Tree.{Expr, size}
 use Rattle.script.specs.declared.Value.{Value}
 use Rattle.rules.specs.Evaluation.{Outcome, gave, failed, after, eval}
@@ -157,7 +157,7 @@ module _ {xs env : List ℕ} {depth : ℕ} {cells : List ℕ} {used n : ℕ} (q 
       (d .does) e
 
   -- a leaf
-  pub leaf-runs : nodeIn xs n .kind < 4 → {r : Step} → Says (leafOn (formOf (nodeIn xs n .kind)) n (nodeIn xs n .a) (valuesOf depth env)) used r
+  pub leaf-runs : nodeIn xs n .kind < leafKinds → {r : Step} → Says (leafOn (formOf (nodeIn xs n .kind)) n (nodeIn xs n .a) (valuesOf depth env)) used r
       → Runs (eval (treeIn xs n) (valuesOf depth env) (valuesOf used cells)) depth env env r cells cells
   leaf-runs z {r} s =
       record {

@@ -1,34 +1,51 @@
 -- The form of a kind and the tree of a node, for code that goes by the flat table. Assumes nothing.
-use mathlib.Core.Bool.{Bool, true, false}
-use mathlib.Core.List.{List, _∷_, _++_, map}
+use mathlib.Core.Bool.{Bool, true, false, not, _&&_}
+use mathlib.Core.List.{List, _∷_, map}
 use mathlib.Core.Option.{Option, none, some}
 use mathlib.Core.Path.{_≡_, refl, sym, ap, _∙_}
-use Prim.Native.Nat.{ℕ, zero, suc, _+_, _≤_, _<_}
+use Prim.Native.Nat.{ℕ, suc, _≤_, _<_}
 use native.Mathlib.Omega.{arith}
 use lib.Dec.{leb, eqb}
-use lib.ListN.{take, drop, getD, replicate}
-use borrow.Author.Tests.{leb-true, eqb-true, eqb-false}
+use lib.ListN.{take, replicate}
+use borrow.Author.Tests.{not-false, le-leb, leb-true, leb-false, eqb-true, eqb-false}
 use Rattle.script.specs.Code.TableTests.Laws.{same-node}
 use Rattle.script.specs.Flat.{FormedNodes, nodesIn}
 use Rattle.script.specs.Flat.Laws.{nodesIn-holds}
-use Rattle.script.specs.Rows.{Row, Form, truthForm, rows, rowOf, numberUpTo, countBy, operandCount, takesBy, takesIn, takesOf, nodesOnly, nodeOperands}
-use Rattle.script.specs.Rows.Laws.{countOf, row-count, row-kind, row-some, rows-at, same-anywhere}
+use Rattle.script.specs.Rows.{Row, Form, typedForm, symForm, truthForm, rows, rowOf, kindFor, kindCount, leafKinds, numberUpTo, countBy, operandCount, takesBy, takesIn, takesOf, nodesOnly, nodeOperands}
+use Rattle.script.specs.Rows.Laws.{formBy, row-form, form-row, countOf, row-count, row-kind, row-some, NoneOf, unaryForms, elsewhere, other-row}
 use Rattle.script.specs.Table.{nodeAt, rightNode, wellFormed}
 use Rattle.script.specs.Table.Laws.{formed-at}
-use Rattle.script.specs.Tests.Laws.{all-getElem?}
+use Rattle.script.specs.Tests.{lowestFrom}
+use Rattle.script.specs.Tests.Laws.{lowest-none}
 use Rattle.script.specs.Tree.{Expr, treeAt, trees}
 use Rattle.script.specs.Tree.Laws.{Unrolled, unroll}
 use Rattle.script.specs.declared.Node.{Node}
 
 -- ---- the form of a kind
 
--- a kind that has no word stands for `false`, as in a tree
-abbrev pub formBy : Option Row → Form
-formBy none = truthForm false
-formBy (some r) = r .form
-
 unfoldable pub formOf : ℕ → Form
 formOf k = formBy (rowOf k)
+
+-- a form by its kind
+pub form-at : (f : Form) (k : ℕ) → k ≡ kindFor f → formOf k ≡ f
+unfolding formOf
+form-at f k e = ap formOf e ∙ form-row f
+
+-- no other kind has a form, but that of `false`
+pub no-form : (f : Form) (k : ℕ) → eqb (kindFor (truthForm false)) (kindFor f) ≡ false → (k ≡ kindFor f → ⊥) → formOf k ≡ f → ⊥
+unfolding formOf
+no-form f k h d e = go (rowOf k) refl e
+  where
+    go : (o : Option Row) → rowOf k ≡ o → formBy o ≡ f → ⊥
+    go none q s = eqb-false _ _ h (ap kindFor s)
+    go (some r) q s = d (sym (row-form k r q) ∙ ap kindFor s)
+
+-- what the form of every other kind says, where all other forms say the same
+pub other-form : {A : Type 0} (g : Form → A) (fs : List Form) (k : ℕ)
+    → map (elsewhere fs (g (truthForm false)) (λ r. g (r .form))) rows ≡ replicate kindCount (g (truthForm false))
+    → NoneOf k fs → g (formOf k) ≡ g (truthForm false)
+unfolding formOf
+other-form g fs k e n = other-row (λ o. g (formBy o)) fs k e n
 
 -- how many operands that are nodes a form has
 abbrev pub nodesOfForm : Form → ℕ
@@ -46,70 +63,36 @@ module _ (k : ℕ) {r : Row} {f : Form} (e : rowOf k ≡ some r) (q : r .form �
       ∙ ap (λ (c : ℕ). nodesOnly (takesBy (numberUpTo (r .form))) c) (row-count k r e)
       ∙ ap nodesOfForm q
 
--- ---- what is said of all kinds but some
-
--- place k of a list has a, or the list ends before it
-pub record Plain {A : Type 0} (a : A) (xs : List A) (k : ℕ) : Type 0 where
-  pub at : getD xs k a ≡ a
-
--- every place before m has a, and those behind it as said
-pub plain-but : {A : Type 0} {a : A} (m : ℕ) (x : A) (xs : List A) (k : ℕ) → (k ≡ m → ⊥) → ((j : ℕ) → k ≡ suc (m + j) → Plain a xs j)
-    → Plain a (replicate m a ++ (x ∷ xs)) k
-plain-but zero x xs zero d h = absurd (d refl)
-plain-but zero x xs (suc k) d h = record { at = h k (omega arith) .at }
-plain-but (suc m) x xs zero d h = record { at = refl }
-plain-but (suc m) x xs (suc k) d h = record { at = plain-but m x xs k (λ e. d (ap suc e)) (λ j e. h j (omega arith)) .at }
-
-pub plain-all : {A : Type 0} {a : A} (m k : ℕ) → Plain a (replicate m a) k
-plain-all m k = record { at = same-anywhere m _ k }
-
--- what is said of the row of a kind at a plain place is what is said of none
-row-plain : {A : Type 0} (f : Option Row → A) (k : ℕ) → Plain (f none) (map (λ (r : Row). f (some r)) rows) k → f (rowOf k) ≡ f none
-unfolding rowOf
-row-plain f k h = rows-at f rows k ∙ h .at
-
-pub form-plain : {A : Type 0} (g : Form → A) (k : ℕ) → Plain (g (truthForm false)) (map (λ (r : Row). g (r .form)) rows) k → g (formOf k) ≡ g (truthForm false)
-unfolding formOf
-form-plain g k h = row-plain (λ (o : Option Row). g (formBy o)) k h
-
 -- ---- how many operands of a kind are nodes
 
 abbrev nodesBy : Option Row → ℕ
 nodesBy o = nodesOnly (takesIn o) (countBy o)
 
--- none of the kinds before `add`
-pub leaf-kinds : (k : ℕ) → k < 4 → nodeOperands k ≡ 0
-unfolding nodeOperands takesOf operandCount rowOf rows
-leaf-kinds zero h = refl
-leaf-kinds (suc zero) h = refl
-leaf-kinds (suc (suc zero)) h = refl
-leaf-kinds (suc (suc (suc zero))) h = refl
-leaf-kinds (suc (suc (suc (suc k)))) h = absurd (omega arith)
-
-later-nodes : (k : ℕ) (r : Row) → rowOf (suc (suc (suc (suc k)))) ≡ some r → leb 1 (nodesBy (some r)) ≡ true
-unfolding rowOf rows
-later-nodes k r e = all-getElem? (λ (r : Row). leb 1 (nodesBy (some r))) (drop 4 rows) refl k r e
-
--- one at least of each other kind
-pub other-kinds : (k : ℕ) → 4 ≤ k → k < 15 → 1 ≤ nodeOperands k
+-- as many as its form has
+pub kind-operands : (f : Form) (k : ℕ) → k ≡ kindFor f → nodeOperands k ≡ nodesOfForm f
 unfolding nodeOperands takesOf operandCount
-other-kinds zero h l = absurd (omega arith)
-other-kinds (suc zero) h l = absurd (omega arith)
-other-kinds (suc (suc zero)) h l = absurd (omega arith)
-other-kinds (suc (suc (suc zero))) h l = absurd (omega arith)
-other-kinds (suc (suc (suc (suc k)))) h l = go (rowOf (suc (suc (suc (suc k))))) refl
+kind-operands f k e = go (rowOf k) refl (ap (λ (m : ℕ). formBy (rowOf m)) e ∙ form-row f)
   where
-    go : (o : Option Row) → rowOf (suc (suc (suc (suc k)))) ≡ o → 1 ≤ nodesBy o
-    go none e = absurd (row-some (suc (suc (suc (suc k)))) l e)
-    go (some r) e = leb-true 1 (nodesBy (some r)) (later-nodes k r e)
+    go : (o : Option Row) → rowOf k ≡ o → formBy o ≡ f → nodesBy o ≡ nodesOfForm f
+    go none q s = ap nodesOfForm s
+    go (some r) q s = ap (nodesOnly (takesBy (numberUpTo (r .form)))) (row-count k r q) ∙ ap nodesOfForm s
+
+-- a leaf has none
+pub leaf-kinds : (k : ℕ) → k < leafKinds → nodeOperands k ≡ 0
+unfolding nodeOperands takesOf operandCount rowOf rows lowestFrom
+leaf-kinds k h = let l = leb-false 1 (nodeOperands k) (lowest-none (λ k. leb 1 (nodeOperands k)) leafKinds refl k h) in omega arith
+
+-- each other kind one at least
+pub other-kinds : (k : ℕ) → leafKinds ≤ k → k < kindCount → 1 ≤ nodeOperands k
+unfolding nodeOperands takesOf operandCount rowOf rows lowestFrom
+other-kinds k h l =
+    let e : leb leafKinds k && not (leb 1 (nodeOperands k)) ≡ false = lowest-none (λ k. leb leafKinds k && not (leb 1 (nodeOperands k))) kindCount refl k l in
+    leb-true 1 (nodeOperands k) (not-false _ (rw (le-leb leafKinds k h) at e))
 
 -- one of these five kinds
-pub not-one : (k : ℕ) → (k ≡ 6 → ⊥) → (k ≡ 10 → ⊥) → (k ≡ 11 → ⊥) → (k ≡ 13 → ⊥) → (k ≡ 14 → ⊥) → eqb (nodeOperands k) 1 ≡ false
+pub not-one : (k : ℕ) → NoneOf k (typedForm ∷ symForm ∷ unaryForms) → eqb (nodeOperands k) 1 ≡ false
 unfolding nodeOperands takesOf operandCount rows
-not-one k d₆ d₁₀ d₁₁ d₁₃ d₁₄ =
-    row-plain (λ o. eqb (nodesBy o) 1) k
-    (plain-but 6 _ _ k d₆ λ i e. plain-but 3 _ _ i (λ z. d₁₀ (omega arith)) λ j f. plain-but 0 _ _ j (λ z. d₁₁ (omega arith)) λ l g.
-    plain-but 1 _ _ l (λ z. d₁₃ (omega arith)) λ m u. plain-but 0 _ _ m (λ z. d₁₄ (omega arith)) λ p w. plain-all 0 p)
+not-one k n = other-row (λ o. eqb (nodesBy o) 1) _ k refl n
 
 -- what a test for one operand tells of a count
 pub has-one : {r : Bool} (m : ℕ) → r ≡ eqb m 1 → r ≡ true → m ≡ 1
@@ -146,13 +129,13 @@ formed-here {xs} {n} f =
     ap (λ (m : Node). rightNode (rowOf (m .kind)) n m) (same-node xs (suc n) n (omega arith)) ∙ f .formed n (omega arith)
 
 -- a formed node has a word
-pub formed-kind : {xs : List ℕ} {n : ℕ} → FormedNodes xs (suc n) → nodeIn xs n .kind < 15
+pub formed-kind : {xs : List ℕ} {n : ℕ} → FormedNodes xs (suc n) → nodeIn xs n .kind < kindCount
 formed-kind {xs} {n} f =
     let k = formed-at (nodesIn xs) n (formed-here f) in
     row-kind (nodeIn xs n .kind) (k .row) (k .is-row)
 
--- from `add` on it has an operand that is a node
-pub some-operand : {xs : List ℕ} {n : ℕ} → FormedNodes xs (suc n) → 4 ≤ nodeIn xs n .kind → 1 ≤ nodeOperands (nodeIn xs n .kind)
+-- if it is no leaf it has an operand that is a node
+pub some-operand : {xs : List ℕ} {n : ℕ} → FormedNodes xs (suc n) → leafKinds ≤ nodeIn xs n .kind → 1 ≤ nodeOperands (nodeIn xs n .kind)
 some-operand {xs} {n} f h = other-kinds (nodeIn xs n .kind) h (formed-kind f)
 
 -- the tree of a node, where it and those before it are formed

@@ -5,11 +5,12 @@ use mathlib.Core.Option.{Option, none, some}
 use mathlib.Core.Path.{_≡_, refl, sym, _∙_}
 use Prim.Native.Nat.{ℕ, zero, suc, _+_, _*_, _≤_, _<_}
 use native.Mathlib.Omega.{arith}
-use lib.Dec.{eqb, eqb·suc-zero, eqb·zero-suc, eqb·suc-suc}
+use lib.Dec.{eqb}
 use lib.ListN.{length, replicate, getElem?, take, drop, getD, List·getD-eq-default}
 use lib.Seq.{take-suc, drop-cons, length-take-le, getD-take}
-use Rattle.script.specs.Rows.{Row, rows, rowOf, isSym, numberUpTo, takesBy, takesIn, takesOf, countBy, operandCount, nodesOnly, nodeOperands}
-use Rattle.script.specs.Rows.Laws.{node-operands-most}
+use borrow.Author.Tests.{eqb-true, eqb-false}
+use Rattle.script.specs.Rows.{Row, symForm, rows, rowOf, kindFor, numberUpTo, takesBy, takesIn, takesOf, countBy, operandCount, nodesOnly, nodeOperands}
+use Rattle.script.specs.Rows.Laws.{none-left, but, other-row, node-operands-most}
 use Rattle.script.specs.Table.{unused, nodeAt, fields, wellFormed, nodesAmong, operandsBy, operands, timesIn, uses, symBy, isSymNode, symsAround}
 use Rattle.script.specs.Table.Laws.{not-before}
 use Rattle.script.specs.Tests.{pick}
@@ -83,20 +84,13 @@ uses-most (n ∷ ns) i = let h = uses-most ns i in let t = timesIn-operands i n 
 
 -- ---- the kind of `sym`
 
-syms-at : (rs : List Row) (k : ℕ) → symBy (getElem? rs k) ≡ getD (map (λ (r : Row). isSym (r .form)) rs) k false
-syms-at [] k = refl
-syms-at (r ∷ rs) zero = refl
-syms-at (r ∷ rs) (suc k) = syms-at rs k
-
-only-last : (m k : ℕ) → getD (replicate m false ++ (true ∷ [])) k false ≡ eqb k m
-only-last zero zero = refl
-only-last zero (suc k) = sym (eqb·suc-zero k)
-only-last (suc m) zero = sym (eqb·zero-suc m)
-only-last (suc m) (suc k) = only-last m k ∙ sym (eqb·suc-suc k m)
-
-pub sym-kind : (k : ℕ) → eqb k 14 ≡ symBy (rowOf k)
+pub sym-kind : (k : ℕ) → eqb k (kindFor symForm) ≡ symBy (rowOf k)
 unfolding rowOf rows
-sym-kind k = sym (syms-at rows k ∙ only-last 14 k)
+sym-kind k = go (eqb k (kindFor symForm)) refl
+  where
+    go : (t : Bool) → eqb k (kindFor symForm) ≡ t → t ≡ symBy (rowOf k)
+    go true e = rw (eqb-true k (kindFor symForm) e)
+    go false e = sym (other-row symBy (symForm ∷ []) k refl (but (eqb-false k (kindFor symForm) e) none-left))
 
 -- ---- how many `sym` are around
 

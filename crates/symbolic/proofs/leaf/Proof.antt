@@ -2,6 +2,7 @@
 use borrow.Author.Needs.{needs}
 use Rattle.script.specs.Code.Forms.{formOf}
 use Rattle.script.specs.Rows.{rows, rowOf}
+use Rattle.script.specs.Rows.Laws.{none-left, but}
 use Rattle.workspace.specs.Rules.Operators.{leaf-int, leaf-true, leaf-other}
 use Rattle.workspace.specs.State.Laws.{room-space}
 use Rattle.symbolic.proofs.leaf.Statement.{statement}
@@ -34,7 +35,7 @@ returns-4 : tie.Need-returns-4
 returns-4 c =
     let a = c .before .before .before .before .before .before .args in
     let d = c .before .before .before .before .match .rest in
-    leaf-other (a .n) (a .a) (a .depth) (c .before .before .before .before .before .before .pre .0) (c .before .before .push3 .ensures .0) (a .kind) (d .0 .0 .1) (d .0 .1) (d .1) (c .before .before .push3 .ensures .1)
+    leaf-other (a .n) (a .a) (a .depth) (c .before .before .before .before .before .before .pre .0) (c .before .before .push3 .ensures .0) (a .kind) (but (d .0 .0 .1) (but (d .0 .1) (but (d .1) none-left))) (c .before .before .push3 .ensures .1)
 
 pub leaf-spec : {M : Type 1} → statement M
 leaf-spec =

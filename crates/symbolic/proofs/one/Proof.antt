@@ -2,6 +2,7 @@
 use borrow.Author.Needs.{needs}
 use Rattle.script.specs.Code.Forms.{formOf}
 use Rattle.script.specs.Rows.{rows, rowOf}
+use Rattle.script.specs.Rows.Laws.{none-left, but}
 use Rattle.workspace.specs.Rules.Operators.{one-other}
 use Rattle.symbolic.proofs.one.Statement.{statement}
 use Rattle.symbolic.proofs.one.Tie as tie
@@ -21,7 +22,7 @@ returns-3 c = rw (c .before .before .before .before .match .keys3) (c .before .b
 returns-4 : tie.Need-returns-4
 returns-4 c =
     let d = c .match .rest in
-    one-other (c .before .before .args .n) (c .before .before .args .t) (c .before .before .args .p) (c .before .before .args .kind) (d .0 .0 .1) (d .0 .1) (d .1)
+    one-other (c .before .before .args .n) (c .before .before .args .t) (c .before .before .args .p) (c .before .before .args .kind) (but (d .0 .0 .1) (but (d .0 .1) (but (d .1) none-left)))
 
 pub one-spec : {M : Type 1} → statement M
 one-spec =

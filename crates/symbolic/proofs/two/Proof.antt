@@ -2,6 +2,7 @@
 use borrow.Author.Needs.{needs}
 use Rattle.script.specs.Code.Forms.{formOf}
 use Rattle.script.specs.Rows.{rows, rowOf}
+use Rattle.script.specs.Rows.Laws.{none-left, but}
 use Rattle.workspace.specs.Rules.Operators.{two-other}
 use Rattle.symbolic.proofs.two.Statement.{statement}
 use Rattle.symbolic.proofs.two.Tie as tie
@@ -37,7 +38,7 @@ returns-4 c = rw (c .before .before .before .before .match .keys4) (c .before .b
 returns-5 : tie.Need-returns-5
 returns-5 c =
     let d = c .match .rest in
-    two-other (c .before .before .args .n) (c .before .before .args .t) (c .before .before .args .p) (c .before .before .args .u) (c .before .before .args .q) (c .before .before .args .kind) (d .0 .0 .0 .1) (d .0 .0 .1) (d .0 .1) (d .1)
+    two-other (c .before .before .args .n) (c .before .before .args .t) (c .before .before .args .p) (c .before .before .args .u) (c .before .before .args .q) (c .before .before .args .kind) (but (d .0 .0 .0 .1) (but (d .0 .0 .1) (but (d .0 .1) (but (d .1) none-left))))
 
 pub two-spec : {M : Type 1} → statement M
 two-spec =

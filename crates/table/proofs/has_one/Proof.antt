@@ -2,6 +2,7 @@
 use mathlib.Core.Path.{sym}
 use Rattle.script.specs.Code.Forms.{not-one}
 use Rattle.script.specs.Rows.{rows, rowOf, operandCount, takesOf, nodeOperands}
+use Rattle.script.specs.Rows.Laws.{none-left, but}
 use Rattle.table.proofs.has_one.Statement.{statement}
 use Rattle.table.proofs.has_one.Tie as tie
 
@@ -17,4 +18,4 @@ has-one-spec =
     (λ c. rw (c .match .keys5))
     λ c.
     let r = c .match .rest in
-    sym (not-one (c .before .args .kind) (r .0 .0 .0 .0 .1) (r .0 .0 .0 .1) (r .0 .0 .1) (r .0 .1) (r .1)))
+    sym (not-one (c .before .args .kind) (but (r .0 .1) (but (r .1) (but (r .0 .0 .0 .0 .1) (but (r .0 .0 .0 .1) (but (r .0 .0 .1) none-left)))))))

@@ -1,4 +1,4 @@
--- `table::is_sym` meets its contract: `sym` is kind 14. Assumes nothing.
+-- `table::is_sym` meets its contract: the kind is that of `sym`. Assumes nothing.
 use Rattle.script.specs.Table.Uses.{sym-kind}
 use Rattle.table.proofs.is_sym.Statement.{statement}
 use Rattle.table.proofs.is_sym.Tie as tie

@@ -1,72 +1,79 @@
--- The fifteen words as the code keeps them, and the kind of a word. Assumes nothing.
+-- The words as the code keeps them, and the kind of a word. Assumes nothing.
 use mathlib.Core.Bool.{Bool, true}
-use mathlib.Core.List.{List, [], _∷_}
+use mathlib.Core.List.{List, [], _∷_, _++_, map}
 use mathlib.Core.Option.{Option, none, some}
 use mathlib.Core.Path.{_≡_, refl, sym, ap, _∙_}
 use Prim.Native.Nat.{ℕ, zero, suc, _+_, _*_, _-_, _≤_, _<_}
 use native.Mathlib.Omega.{arith}
 use lib.Dec.{leb}
-use lib.ListN.{getD, getElem?, take, drop}
-use lib.Seq.{drop-drop}
+use lib.ListN.{length, getD, getElem?, take, drop, replicate, length-append, length-replicate}
+use lib.Seq.{drop-drop, take-append-le, take-append-seam, drop-append-seam}
 use borrow.Author.Tests.{leb-true}
-use Rattle.script.specs.Rows.{Row, rows, rowOf}
+use Rattle.script.specs.Rows.{Row, rows, rowOf, kindCount}
 use Rattle.script.specs.Rows.Laws.{row-some}
-use Rattle.script.specs.Tests.{lowest}
-use Rattle.script.specs.Tests.Laws.{lowest-some}
+use Rattle.script.specs.Tests.{all, lowest}
+use Rattle.script.specs.Tests.Laws.{both-true, lowest-some}
 use Rattle.text.specs.Fields.{sameBytes, wordIs, kindOf}
 use Rattle.text.specs.Code.Output.{wordBy, wordOf}
 
 -- ---- the words as the code keeps them
 
--- the words in the order of the kinds, each in five places
-abbrev pub letters : List ℕ
-letters =
-    105 ∷ 110 ∷ 116 ∷ 32 ∷ 32 ∷ 116 ∷ 114 ∷ 117 ∷ 101 ∷ 32 ∷ 102 ∷ 97 ∷ 108 ∷ 115 ∷ 101 ∷ 118 ∷ 97 ∷ 114 ∷ 32 ∷ 32
-    ∷ 97 ∷ 100 ∷ 100 ∷ 32 ∷ 32 ∷ 101 ∷ 113 ∷ 32 ∷ 32 ∷ 32 ∷ 110 ∷ 111 ∷ 116 ∷ 32 ∷ 32 ∷ 97 ∷ 110 ∷ 100 ∷ 32 ∷ 32
-    ∷ 105 ∷ 102 ∷ 32 ∷ 32 ∷ 32 ∷ 108 ∷ 101 ∷ 116 ∷ 32 ∷ 32 ∷ 114 ∷ 101 ∷ 102 ∷ 32 ∷ 32 ∷ 103 ∷ 101 ∷ 116 ∷ 32 ∷ 32
-    ∷ 115 ∷ 101 ∷ 116 ∷ 32 ∷ 32 ∷ 116 ∷ 121 ∷ 112 ∷ 101 ∷ 100 ∷ 115 ∷ 121 ∷ 109 ∷ 32 ∷ 32 ∷ []
+-- a word in its five places
+abbrev pub placed : List ℕ → List ℕ
+placed w = w ++ replicate (5 - length w) 32
+
+-- the words in the order of the kinds
+abbrev pub lettersIn : List Row → List ℕ
+lettersIn [] = []
+lettersIn (r ∷ rs) = placed (r .word) ++ lettersIn rs
 
 -- how long each word is
-abbrev pub lengths : List ℕ
-lengths = 3 ∷ 4 ∷ 5 ∷ 3 ∷ 3 ∷ 2 ∷ 3 ∷ 3 ∷ 2 ∷ 3 ∷ 3 ∷ 3 ∷ 3 ∷ 5 ∷ 3 ∷ []
+abbrev pub lengthsIn : List Row → List ℕ
+lengthsIn rs = map (λ (r : Row). length (r .word)) rs
 
--- the rows' words have these lengths and stand in these places
-data Spelled : List Row → List ℕ → List ℕ → Type 0 where
-  end : {ws : List ℕ} → Spelled [] [] ws
-  next : {r : Row} {rs : List Row} {l : ℕ} {ls ws : List ℕ} → r .word ≡ take l ws → leb l 5 ≡ true → Spelled rs ls (drop 5 ws) → Spelled (r ∷ rs) (l ∷ ls) ws
+-- each word has room
+abbrev short : List Row → Bool
+short rs = all (λ (r : Row). leb (length (r .word)) 5) rs
 
-all-spelled : Spelled rows lengths letters
+all-short : short rows ≡ true
 unfolding rows
-all-spelled =
-    next refl refl (next refl refl (next refl refl (next refl refl (next refl refl (
-    next refl refl (next refl refl (next refl refl (next refl refl (next refl refl (
-    next refl refl (next refl refl (next refl refl (next refl refl (next refl refl (
-    end)))))))))))))))
+all-short = refl
 
-spelled-at : {rs : List Row} {ls ws : List ℕ} → Spelled rs ls ws → (k : ℕ) → wordBy (getElem? rs k) ≡ take (getD ls k 0) (drop (5 * k) ws)
-spelled-at end k = refl
-spelled-at (next e h s) zero = e
-spelled-at (next {ls = ls} {ws = ws} e h s) (suc k) =
+length-placed : (w : List ℕ) → length w ≤ 5 → length (placed w) ≡ 5
+length-placed w h = let e = length-append w (replicate (5 - length w) 32) in let f = length-replicate {A = ℕ} (5 - length w) 32 in omega arith
+
+behind-placed : (w ls : List ℕ) → length w ≤ 5 → drop 5 (placed w ++ ls) ≡ ls
+behind-placed w ls h = rw (length-placed w h) at (drop-append-seam (placed w) ls)
+
+spelled-at : (rs : List Row) → short rs ≡ true → (k : ℕ) → wordBy (getElem? rs k) ≡ take (getD (lengthsIn rs) k 0) (drop (5 * k) (lettersIn rs))
+spelled-at [] h k = refl
+spelled-at (r ∷ rs) h zero =
+    let l = length-append (r .word) (replicate (5 - length (r .word)) 32) in
+    sym (take-append-le (length (r .word)) (placed (r .word)) (lettersIn rs) (omega arith) ∙ take-append-seam (r .word) (replicate (5 - length (r .word)) 32))
+spelled-at (r ∷ rs) h (suc k) =
+    let b = both-true (leb (length (r .word)) 5) (short rs) h in
     let n : 5 * suc k ≡ 5 + 5 * k = omega arith in
-    spelled-at s k ∙ ap (take (getD ls k 0)) (drop-drop (5 * k) 5 ws ∙ ap (λ (m : ℕ). drop m ws) (sym n))
+    spelled-at rs (b .1) k
+    ∙ ap (λ (ls : List ℕ). take (getD (lengthsIn rs) k 0) (drop (5 * k) ls)) (sym (behind-placed (r .word) (lettersIn rs) (leb-true _ 5 (b .0))))
+    ∙ ap (take (getD (lengthsIn rs) k 0)) (drop-drop (5 * k) 5 (lettersIn (r ∷ rs)) ∙ ap (λ (m : ℕ). drop m (lettersIn (r ∷ rs))) (sym n))
 
-spelled-most : {rs : List Row} {ls ws : List ℕ} → Spelled rs ls ws → (k : ℕ) → getD ls k 0 ≤ 5
-spelled-most end k = omega arith
-spelled-most (next {l = l} e h s) zero = leb-true l 5 h
-spelled-most (next e h s) (suc k) = spelled-most s k
+spelled-most : (rs : List Row) → short rs ≡ true → (k : ℕ) → getD (lengthsIn rs) k 0 ≤ 5
+spelled-most [] h k = omega arith
+spelled-most (r ∷ rs) h zero = leb-true (length (r .word)) 5 (both-true (leb (length (r .word)) 5) (short rs) h .0)
+spelled-most (r ∷ rs) h (suc k) = spelled-most rs (both-true (leb (length (r .word)) 5) (short rs) h .1) k
 
-pub word-most : (k : ℕ) → getD lengths k 0 ≤ 5
-word-most k = spelled-most all-spelled k
+pub word-most : (k : ℕ) → getD (lengthsIn rows) k 0 ≤ 5
+word-most k = spelled-most rows all-short k
 
 -- the word of a kind, from its start to its end
-pub word-part : (k : ℕ) → wordOf k ≡ take (5 * k + getD lengths k 0 - 5 * k) (drop (5 * k) letters)
+pub word-part : (k : ℕ) → wordOf k ≡ take (5 * k + getD (lengthsIn rows) k 0 - 5 * k) (drop (5 * k) (lettersIn rows))
 unfolding wordOf rowOf
 word-part k =
-    let n : 5 * k + getD lengths k 0 - 5 * k ≡ getD lengths k 0 = omega arith in
-    rw n (spelled-at all-spelled k)
+    let n : 5 * k + getD (lengthsIn rows) k 0 - 5 * k ≡ getD (lengthsIn rows) k 0 = omega arith in
+    rw n (spelled-at rows all-short k)
 
--- a kind below 15 has a word
-pub word-is : (k : ℕ) (f : List ℕ) → k < 15 → wordIs (rowOf k) f ≡ sameBytes (wordOf k) f
+-- each kind has a word
+pub word-is : (k : ℕ) (f : List ℕ) → k < kindCount → wordIs (rowOf k) f ≡ sameBytes (wordOf k) f
 unfolding wordOf
 word-is k f h = go (rowOf k) refl
   where
@@ -74,14 +81,14 @@ word-is k f h = go (rowOf k) refl
     go none e = absurd (row-some k h e)
     go (some r) e = refl
 
--- ---- the kind of a word, as the lowest of 15
+-- ---- the kind of a word, as the lowest of all kinds
 
 abbrev pub isKindOf : List ℕ → ℕ → Bool
 isKindOf f k = wordIs (rowOf k) f
 
-pub kind-lowest : (f : List ℕ) → kindOf f ≡ lowest (isKindOf f) 15
-unfolding kindOf rows
+pub kind-lowest : (f : List ℕ) → kindOf f ≡ lowest (isKindOf f) kindCount
+unfolding kindOf
 kind-lowest f = refl
 
-pub kind-below : (f : List ℕ) (k : ℕ) → kindOf f ≡ some k → k < 15
-kind-below f k e = lowest-some (isKindOf f) 15 k (sym (kind-lowest f) ∙ e) .below
+pub kind-below : (f : List ℕ) (k : ℕ) → kindOf f ≡ some k → k < kindCount
+kind-below f k e = lowest-some (isKindOf f) kindCount k (sym (kind-lowest f) ∙ e) .below

@@ -6,7 +6,7 @@ use Prim.Native.Nat.{ℕ, _+_, _*_, _≤_, _<_}
 use lib.Dec.{leb, eqb}
 use lib.ListN.{length}
 use borrow.Author.Tests.{not-true, not-false, eqb-true, leb-true}
-use Rattle.script.specs.Rows.{Row, rows, rowOf, numberUpTo, operandCount}
+use Rattle.script.specs.Rows.{Row, rows, rowOf, kindCount, numberUpTo, operandCount}
 use Rattle.script.specs.Rows.Laws.{row-kind, operands-most}
 use Rattle.script.specs.Tests.{all, lowestFrom}
 use Rattle.script.specs.Tests.Laws.{all-getElem?, lowest-none, true-or-false}
@@ -30,9 +30,9 @@ tellsKind : Option Row → ℕ → Bool
 tellsKind none k = true
 tellsKind (some r) k = is-some (kindOf (r .word)) k
 
-tells-kind : (k : ℕ) → k < 15 → not (tellsKind (rowOf k) k) ≡ false
+tells-kind : (k : ℕ) → k < kindCount → not (tellsKind (rowOf k) k) ≡ false
 unfolding rowOf rows lowestFrom tellsKind is-some kindOf sameBytes
-tells-kind k h = lowest-none (λ k. not (tellsKind (rowOf k) k)) 15 refl k h
+tells-kind k h = lowest-none (λ k. not (tellsKind (rowOf k) k)) kindCount refl k h
 
 pub word-kind : (k : ℕ) (r : Row) → rowOf k ≡ some r → kindOf (r .word) ≡ some k
 unfolding tellsKind

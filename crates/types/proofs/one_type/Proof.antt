@@ -2,6 +2,7 @@
 use borrow.Author.Needs.{needs}
 use Rattle.script.specs.Code.Forms.{formOf}
 use Rattle.script.specs.Rows.{rows, rowOf}
+use Rattle.script.specs.Rows.Laws.{none-left, but}
 use Rattle.workspace.specs.Rules.{oneType}
 use Rattle.workspace.specs.Rules.Types.{not-right, not-wrong, ref-right, ref-wrong, get-right, get-wrong, one-type-other}
 use Rattle.types.proofs.one_type.Statement.{statement}
@@ -34,7 +35,7 @@ returns-6 c = rw (c .before .match .keys3) (get-wrong (c .before .before .args .
 returns-7 : tie.Need-returns-7
 returns-7 c =
     let d = c .match .rest in
-    one-type-other (c .before .args .n) (c .before .args .t) (c .before .args .kind) (d .0 .0 .1) (d .0 .1) (d .1)
+    one-type-other (c .before .args .n) (c .before .args .t) (c .before .args .kind) (but (d .0 .0 .1) (but (d .0 .1) (but (d .1) none-left)))
 
 pub one-type-spec : {M : Type 1} → statement M
 one-type-spec =

@@ -3,6 +3,7 @@ use borrow.Author.Needs.{needs}
 use mathlib.Core.Path.{_∙_}
 use Rattle.script.specs.Code.Forms.{formOf}
 use Rattle.script.specs.Rows.{rows, rowOf}
+use Rattle.script.specs.Rows.Laws.{none-left, but}
 use Rattle.workspace.specs.Rules.{twoType}
 use Rattle.workspace.specs.Rules.Types.{add-both, and-both, eq-right, eq-wrong, two-type-other}
 use Rattle.types.proofs.two_type.Statement.{statement}
@@ -31,7 +32,7 @@ returns-5 c = rw (c .before .match .keys4) (c .set-type .ensures)
 returns-6 : tie.Need-returns-6
 returns-6 c =
     let d = c .match .rest in
-    two-type-other (c .before .args .n) (c .before .args .t) (c .before .args .u) (c .before .args .kind) (d .0 .0 .0 .1) (d .0 .0 .1) (d .0 .1) (d .1)
+    two-type-other (c .before .args .n) (c .before .args .t) (c .before .args .u) (c .before .args .kind) (but (d .0 .0 .0 .1) (but (d .0 .0 .1) (but (d .0 .1) (but (d .1) none-left))))
 
 pub two-type-spec : {M : Type 1} → statement M
 two-type-spec =

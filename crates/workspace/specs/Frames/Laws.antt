@@ -9,6 +9,7 @@ use lib.ListN.{length, getD, set, length-set}
 use lib.Seq.{getD-set-same, getD-set-other}
 use borrow.Author.Tests.{leb-true, leb-false, le-leb, lt-leb, eq-eqb, ne-eqb}
 use Rattle.script.specs.Code.Forms.{nodeIn, treeIn, some-operand, formed-less}
+use Rattle.script.specs.Rows.{typedForm, kindFor, leafKinds}
 use Rattle.script.specs.Tree.{Expr, int, truth, var, unary, binary, ifElse, letIn, typedBlock, symBlock, size}
 use Rattle.workspace.specs.Frames.{frameIn, topIn, waitsFor, Waitable, Waits, Descendable, upTo}
 use Rattle.workspace.specs.Places.{frameWidth, goalAt, topAt}
@@ -106,33 +107,33 @@ module _ (n awaits x y : ℕ) (fs : List ℕ) (w : Waitable fs) (top : ℕ) (e :
 
 -- ---- whether a node waits
 
-pub leaf-waits : (kind : ℕ) → kind < 4 → false ≡ waitsFor kind
-leaf-waits kind h = rw (lt-leb 4 kind h)
+pub leaf-waits : (kind : ℕ) → kind < leafKinds → false ≡ waitsFor kind
+leaf-waits kind h = rw (lt-leb leafKinds kind h)
 
-pub other-waits : (kind : ℕ) → 4 ≤ kind → not (eqb kind 13) ≡ waitsFor kind
-other-waits kind h = rw (le-leb 4 kind h)
+pub other-waits : (kind : ℕ) → leafKinds ≤ kind → not (eqb kind (kindFor typedForm)) ≡ waitsFor kind
+other-waits kind h = rw (le-leb leafKinds kind h)
 
-pub waits-inner : (kind : ℕ) → waitsFor kind ≡ true → 4 ≤ kind
-waits-inner kind e = go (leb 4 kind) refl e
+pub waits-inner : (kind : ℕ) → waitsFor kind ≡ true → leafKinds ≤ kind
+waits-inner kind e = go (leb leafKinds kind) refl e
   where
-    go : (b : Bool) → leb 4 kind ≡ b → (b && not (eqb kind 13)) ≡ true → 4 ≤ kind
-    go true p f = leb-true 4 kind p
+    go : (b : Bool) → leb leafKinds kind ≡ b → (b && not (eqb kind (kindFor typedForm))) ≡ true → leafKinds ≤ kind
+    go true p f = leb-true leafKinds kind p
     go false p f = absurd (false≢true f)
 
-pub waits-other : (kind : ℕ) → waitsFor kind ≡ true → kind ≡ 13 → ⊥
-waits-other kind e f = false≢true (sym (rw (eq-eqb kind 13 f) (and-false (leb 4 kind))) ∙ e)
+pub waits-other : (kind : ℕ) → waitsFor kind ≡ true → kind ≡ kindFor typedForm → ⊥
+waits-other kind e f = false≢true (sym (rw (eq-eqb kind (kindFor typedForm) f) (and-false (leb leafKinds kind))) ∙ e)
   where
     and-false : (b : Bool) → (b && not true) ≡ false
     and-false true = refl
     and-false false = refl
 
 -- a node that does not wait is a leaf or a typed block
-pub waits-none : (kind : ℕ) → waitsFor kind ≡ false → (kind ≡ 13 → ⊥) → kind < 4
-waits-none kind e d = go (leb 4 kind) refl (rw (ne-eqb kind 13 d) at e)
+pub waits-none : (kind : ℕ) → waitsFor kind ≡ false → (kind ≡ kindFor typedForm → ⊥) → kind < leafKinds
+waits-none kind e d = go (leb leafKinds kind) refl (rw (ne-eqb kind (kindFor typedForm) d) at e)
   where
-    go : (b : Bool) → leb 4 kind ≡ b → (b && not false) ≡ false → kind < 4
+    go : (b : Bool) → leb leafKinds kind ≡ b → (b && not false) ≡ false → kind < leafKinds
     go true p f = absurd (false≢true (sym f))
-    go false p f = leb-false 4 kind p
+    go false p f = leb-false leafKinds kind p
 
 -- ---- down the first operands
 

@@ -1,24 +1,24 @@
 -- Node n of a table whose nodes up to n are well formed mentions what its operands mention: how each of them decides it. Assumes nothing.
 use mathlib.Core.Bool.{Bool, true, false, _||_}
-use mathlib.Core.List.{List}
+use mathlib.Core.List.{List, [], _∷_}
 use mathlib.Core.Path.{_≡_, refl, sym, ap, _∙_}
 use Prim.Native.Nat.{ℕ, suc, _≤_, _<_}
 use native.Mathlib.Omega.{arith}
-use borrow.Author.Tests.{eqb-false}
-use Rattle.script.specs.Code.Forms.{formOf, form-is, form-operands, form-plain, plain-but, plain-all, leaf-kinds, nodeIn, treeIn, viewed}
+use Rattle.script.specs.Code.Forms.{formOf, form-at, no-form, other-form, form-is, form-operands, leaf-kinds, nodeIn, treeIn, viewed}
 use Rattle.script.specs.Flat.{FormedNodes, nodesIn}
-use Rattle.script.specs.Rows.{Form, ifForm, rows, nodeOperands}
+use Rattle.script.specs.Rows.{Form, varForm, ifForm, rows, kindFor, leafKinds, nodeOperands}
+use Rattle.script.specs.Rows.Laws.{none-left, but}
 use Rattle.script.specs.Tests.Laws.{or-first, or-second}
 use Rattle.script.specs.Tree.{Expr}
 use Rattle.script.specs.Tree.Laws.{Unrolled, is-int, is-truth, is-var, is-unary, is-binary, is-if, is-let, is-typed, is-sym}
 use Rattle.rules.specs.Checking.Mentions.{mentions}
 use Rattle.workspace.specs.Notes.{leafMentions}
-use Rattle.workspace.specs.Rules.Nodes.{blockForm, not-if, if-form, shaped, first-of, rest-of, several-of, branches-of}
+use Rattle.workspace.specs.Rules.Nodes.{let-or-if, binary-or-if, shaped, first-of, rest-of, several-of, branches-of}
 
--- no kind but 3 is a variable's
-pub leaf-other : (a k kind : ℕ) → (kind ≡ 3 → ⊥) → false ≡ leafMentions (formOf kind) a k
+-- no other kind is a variable's
+pub leaf-other : (a k kind : ℕ) → (kind ≡ kindFor varForm → ⊥) → false ≡ leafMentions (formOf kind) a k
 unfolding leafMentions rows
-leaf-other a k kind d = sym (form-plain (λ f. leafMentions f a k) kind (plain-but 3 _ _ kind d λ j e. plain-all 11 j))
+leaf-other a k kind d = sym (other-form (λ f. leafMentions f a k) (varForm ∷ []) kind refl (but d none-left))
 
 -- ---- a node by its operands that are nodes
 
@@ -42,34 +42,25 @@ module _ (xs : List ℕ) (n k : ℕ) where
   data Mentioned (t : Expr) : Type 0 where
     no-operand : count ≡ 0 → mentions t k ≡ leafMentions form (nodeIn xs n .a) k → Mentioned t
     one-operand : count ≡ 1 → mentions t k ≡ first → Mentioned t
-    two-operands : 2 ≤ count → blockForm form ≡ 0 → mentions t k ≡ first || second → Mentioned t
+    two-operands : 2 ≤ count → (form ≡ ifForm → ⊥) → mentions t k ≡ first || second → Mentioned t
     an-if : 2 ≤ count → form ≡ ifForm → mentions t k ≡ first || (second || third) → Mentioned t
 
   mentioned : {t : Expr} → Unrolled (nodesIn xs) n t → Mentioned t
-  unfolding mentions treeIn leafMentions blockForm
+  unfolding mentions treeIn leafMentions
   mentioned (is-int e q a) = no-operand (form-operands _ e q) (sym (ap (λ (g : Form). leafMentions g (nodeIn xs n .a) k) (form-is _ e q)))
   mentioned (is-truth e q) = no-operand (form-operands _ e q) (sym (ap (λ (g : Form). leafMentions g (nodeIn xs n .a) k) (form-is _ e q)))
   mentioned (is-var e q a) = no-operand (form-operands _ e q) (sym (ap (λ (g : Form). leafMentions g (nodeIn xs n .a) k) (form-is _ e q)))
   mentioned (is-unary e q a) = one-operand (form-operands _ e q) refl
-  mentioned (is-binary e q a b) = let c = form-operands _ e q in two-operands (omega arith) (ap blockForm (form-is _ e q)) refl
+  mentioned (is-binary e q a b) = let c = form-operands _ e q in two-operands (omega arith) (binary-or-if (form-is _ e q)) refl
   mentioned (is-if e q a b c) = let m = form-operands _ e q in an-if (omega arith) (form-is _ e q) refl
-  mentioned (is-let e q a b) = let c = form-operands _ e q in two-operands (omega arith) (ap blockForm (form-is _ e q)) refl
+  mentioned (is-let e q a b) = let c = form-operands _ e q in two-operands (omega arith) (let-or-if (form-is _ e q)) refl
   mentioned (is-typed e q a) = one-operand (form-operands _ e q) refl
   mentioned (is-sym e q a) = one-operand (form-operands _ e q) refl
-
-  -- an `if` is none of the others
-  no-block : nodeIn xs n .kind ≡ 8 → blockForm form ≡ 0 → ⊥
-  unfolding blockForm
-  no-block h f = let m = sym f ∙ ap blockForm (if-form _ h) in omega arith
-
-  no-if : (nodeIn xs n .kind ≡ 8 → ⊥) → form ≡ ifForm → ⊥
-  unfolding blockForm
-  no-if d f = eqb-false _ 1 (not-if _ d) (ap blockForm f)
 
 -- ---- what the code asks of it
 
 module _ {xs : List ℕ} {n : ℕ} (w : FormedNodes xs (suc n)) (k : ℕ) where
-  pub leaf-mentions : nodeIn xs n .kind < 4 → leafMentions (formOf (nodeIn xs n .kind)) (nodeIn xs n .a) k ≡ mentions (treeIn xs n) k
+  pub leaf-mentions : nodeIn xs n .kind < leafKinds → leafMentions (formOf (nodeIn xs n .kind)) (nodeIn xs n .a) k ≡ mentions (treeIn xs n) k
   leaf-mentions z = go (leaf-kinds (nodeIn xs n .kind) z) (mentioned xs n k (viewed w))
     where
       go : nodeOperands (nodeIn xs n .kind) ≡ 0 → {t : Expr} → Mentioned xs n k t
@@ -110,23 +101,23 @@ module _ {xs : List ℕ} {n : ℕ} (w : FormedNodes xs (suc n)) (k : ℕ) where
         go (an-if c f e) = sym (e ∙ or-second (first xs n k) _ (or-first (second xs n k) (third xs n k) b))
 
     module _ (a : mentions (treeIn xs (nodeIn xs n .a)) k ≡ false) (b : mentions (treeIn xs (nodeIn xs n .b)) k ≡ false) where
-      pub third-mentions : nodeIn xs n .kind ≡ 8 → mentions (treeIn xs (nodeIn xs n .c)) k ≡ mentions (treeIn xs n) k
+      pub third-mentions : nodeIn xs n .kind ≡ kindFor ifForm → mentions (treeIn xs (nodeIn xs n .c)) k ≡ mentions (treeIn xs n) k
       third-mentions h = go (mentioned xs n k (viewed w))
         where
           go : {t : Expr} → Mentioned xs n k t → mentions (treeIn xs (nodeIn xs n .c)) k ≡ mentions t k
           go (no-operand c e) = absurd (omega arith)
           go (one-operand c e) = absurd (omega arith)
-          go (two-operands c f e) = absurd (no-block xs n k h f)
+          go (two-operands c f e) = absurd (f (form-at ifForm _ h))
           go (an-if c f e) = sym (rw (a, b) at e)
 
-      pub several-mention-not : (nodeIn xs n .kind ≡ 8 → ⊥) → false ≡ mentions (treeIn xs n) k
+      pub several-mention-not : (nodeIn xs n .kind ≡ kindFor ifForm → ⊥) → false ≡ mentions (treeIn xs n) k
       several-mention-not d = go (mentioned xs n k (viewed w))
         where
           go : {t : Expr} → Mentioned xs n k t → false ≡ mentions t k
           go (no-operand c e) = absurd (omega arith)
           go (one-operand c e) = absurd (omega arith)
           go (two-operands c f e) = sym (rw (a, b) at e)
-          go (an-if c f e) = absurd (no-if xs n k d f)
+          go (an-if c f e) = absurd (no-form ifForm _ refl d f)
 
 -- ---- the operands are earlier
 
@@ -137,5 +128,5 @@ module _ {xs : List ℕ} {n : ℕ} (w : FormedNodes xs (suc n)) where
   pub second-earlier : 2 ≤ nodeOperands (nodeIn xs n .kind) → nodeIn xs n .b < n
   second-earlier m = rest-of (shaped 0 w) m .earlier
 
-  pub third-earlier : 2 ≤ nodeOperands (nodeIn xs n .kind) → nodeIn xs n .kind ≡ 8 → nodeIn xs n .c < n
+  pub third-earlier : 2 ≤ nodeOperands (nodeIn xs n .kind) → nodeIn xs n .kind ≡ kindFor ifForm → nodeIn xs n .c < n
   third-earlier m h = branches-of (several-of (shaped 0 w) m) h .earlier

@@ -1,16 +1,13 @@
 -- Node n of a table whose nodes up to n are well formed, as the code takes it apart: its rules are those of a leaf, of a block, of one operand, or of its
 -- first operand and then what is left of it; its operands are earlier, and its tree has room for theirs. Assumes nothing.
-use mathlib.Core.Bool.{false}
 use mathlib.Core.List.{List, [], _∷_, _++_, map}
 use mathlib.Core.Path.{_≡_, refl, sym, ap, _∙_}
 use Prim.Native.Nat.{ℕ, suc, _+_, _≤_, _<_}
 use native.Mathlib.Omega.{arith}
-use lib.Dec.{eqb}
 use lib.ListN.{length}
-use borrow.Author.Tests.{eqb-false}
-use Rattle.script.specs.Code.Forms.{formOf, form-is, form-operands, form-plain, plain-but, plain-all, nodeIn, treeIn, viewed}
+use Rattle.script.specs.Code.Forms.{formOf, form-at, no-form, form-is, form-operands, kind-operands, nodeIn, treeIn, viewed}
 use Rattle.script.specs.Flat.{FormedNodes, nodesIn}
-use Rattle.script.specs.Rows.{Form, intForm, varForm, ifForm, letForm, typedForm, symForm, truthForm, unaryForm, binaryForm, BinaryOp, rows, rowOf, takesOf, operandCount, nodeOperands}
+use Rattle.script.specs.Rows.{Form, intForm, varForm, ifForm, letForm, typedForm, symForm, truthForm, unaryForm, binaryForm, UnaryOp, BinaryOp, kindFor, nodeOperands}
 use Rattle.script.specs.Tree.{Expr, size}
 use Rattle.script.specs.Tree.Laws.{Unrolled, is-int, is-truth, is-var, is-unary, is-binary, is-if, is-let, is-typed, is-sym}
 use Rattle.script.specs.declared.Checked.{Checked}
@@ -35,51 +32,23 @@ bind-ends (ends v p) k h = sym (h v p)
 bind-ends (stops r) k h = refl
 bind-ends (forks t u) k h = rw (sym (bind-ends t k h), sym (bind-ends u k h))
 
--- ---- the kinds of blocks and of `if`
+-- ---- forms that differ
 
-unfoldable pub blockForm : Form → ℕ
-blockForm intForm = 0
-blockForm varForm = 0
-blockForm ifForm = 1
-blockForm letForm = 0
-blockForm typedForm = 2
-blockForm symForm = 3
-blockForm (truthForm b) = 0
-blockForm (unaryForm o) = 0
-blockForm (binaryForm o) = 0
+module _ {f : Form} where
+  typed-or-sym : f ≡ typedForm → f ≡ symForm → ⊥
+  typed-or-sym d e = let z : _≡_ {A = ℕ} 0 1 = cc in omega arith
 
--- of all kinds only 8, 13 and 14 have them
-pub not-if : (k : ℕ) → (k ≡ 8 → ⊥) → eqb (blockForm (formOf k)) 1 ≡ false
-unfolding blockForm rows
-not-if k d = form-plain (λ f. eqb (blockForm f) 1) k (plain-but 8 _ _ k d λ j e. plain-all 6 j)
+  unary-or-typed : {o : UnaryOp} → f ≡ unaryForm o → f ≡ typedForm → ⊥
+  unary-or-typed d e = let z : _≡_ {A = ℕ} 0 1 = cc in omega arith
 
-not-typed : (k : ℕ) → (k ≡ 13 → ⊥) → eqb (blockForm (formOf k)) 2 ≡ false
-unfolding blockForm rows
-not-typed k d = form-plain (λ f. eqb (blockForm f) 2) k (plain-but 13 _ _ k d λ j e. plain-all 1 j)
+  unary-or-sym : {o : UnaryOp} → f ≡ unaryForm o → f ≡ symForm → ⊥
+  unary-or-sym d e = let z : _≡_ {A = ℕ} 0 1 = cc in omega arith
 
-not-sym : (k : ℕ) → (k ≡ 14 → ⊥) → eqb (blockForm (formOf k)) 3 ≡ false
-unfolding blockForm rows
-not-sym k d = form-plain (λ f. eqb (blockForm f) 3) k (plain-but 14 _ _ k d λ j e. plain-all 0 j)
+  pub let-or-if : f ≡ letForm → f ≡ ifForm → ⊥
+  let-or-if d e = let z : _≡_ {A = ℕ} 0 1 = cc in omega arith
 
-pub if-form : (k : ℕ) → k ≡ 8 → formOf k ≡ ifForm
-unfolding formOf rowOf rows
-if-form k e = rw e
-
-pub let-form : (k : ℕ) → k ≡ 9 → formOf k ≡ letForm
-unfolding formOf rowOf rows
-let-form k e = rw e
-
-typed-form : (k : ℕ) → k ≡ 13 → formOf k ≡ typedForm
-unfolding formOf rowOf rows
-typed-form k e = rw e
-
-sym-form : (k : ℕ) → k ≡ 14 → formOf k ≡ symForm
-unfolding formOf rowOf rows
-sym-form k e = rw e
-
--- a form of another block
-other-block : {f g : Form} (b c : ℕ) → f ≡ g → blockForm f ≡ b → blockForm g ≡ c → (b ≡ c → ⊥) → ⊥
-other-block b c e p q d = d (sym p ∙ ap blockForm e ∙ q)
+  pub binary-or-if : {o : BinaryOp} → f ≡ binaryForm o → f ≡ ifForm → ⊥
+  binary-or-if d e = let z : _≡_ {A = ℕ} 0 1 = cc in omega arith
 
 -- ---- node n of the table
 
@@ -130,7 +99,7 @@ module _ (limit : ℕ) (xs : List ℕ) (n : ℕ) where
     of-sym : form ≡ symForm → count ≡ 1 → First t
         → ((env : List ℕ) → check limit t env ≡ verdict n limit (leaves (exec limit first (symbols 0 env) (start (length env)))))
         → ((env : List Symbolic) (p : Path) → exec limit t env p ≡ exec limit first env p) → Shaped t
-    one-operand : blockForm form ≡ 0 → count ≡ 1 → First t → ((env : List ℕ) → check limit t env ≡ andThen (check limit first env) (oneType form n))
+    one-operand : {o : UnaryOp} → form ≡ unaryForm o → count ≡ 1 → First t → ((env : List ℕ) → check limit t env ≡ andThen (check limit first env) (oneType form n))
         → ((env : List Symbolic) (p : Path) → exec limit t env p ≡ bind (exec limit first env p) (oneExec form n)) → Shaped t
     more-operands : 2 ≤ count → First t → Rest t → Several
         → ((env : List ℕ) → check limit t env ≡ andThen (check limit first env) (λ u. restType form limit n second third u env))
@@ -153,7 +122,7 @@ module _ (limit : ℕ) (xs : List ℕ) (n : ℕ) where
         λ v r. h v r ∙ ap (λ (g : Form). restExec g limit n second third v env r) (sym q)
 
   shape-of : {t : Expr} → Unrolled (nodesIn xs) n t → Shaped t
-  unfolding check exec size treeIn leafType oneType leafExec oneExec restType restExec restSizeOn blockForm
+  unfolding check exec size treeIn leafType oneType leafExec oneExec restType restExec restSizeOn
   shape-of (is-int e q a) =
       let p = form-is _ e q in
       no-operand (form-operands _ e q) (λ env. sym (ap (λ (g : Form). leafType g n (nodeIn xs n .a) env) p))
@@ -168,7 +137,7 @@ module _ (limit : ℕ) (xs : List ℕ) (n : ℕ) where
       λ env r. sym (ap (λ (g : Form). leafExec g n (nodeIn xs n .a) env r) p)
   shape-of (is-unary {o = o} e q a) =
       let p = form-is _ e q in
-      one-operand (ap blockForm p) (form-operands _ e q) (record { earlier = a; smaller = omega arith })
+      one-operand p (form-operands _ e q) (record { earlier = a; smaller = omega arith })
       (λ env. then-same (check limit first env) (unaryType n o) (oneType form n) λ t. sym (ap (λ (g : Form). oneType g n t) p))
       λ env r. bind-same (exec limit first env r) (unaryExec n o) (oneExec form n) λ v s. sym (ap (λ (g : Form). oneExec g n v s) p)
   shape-of (is-binary {o = o} e q a b) =
@@ -208,9 +177,6 @@ module _ (limit : ℕ) (xs : List ℕ) (n : ℕ) where
 pub shaped : (limit : ℕ) {xs : List ℕ} {n : ℕ} → FormedNodes xs (suc n) → Shaped limit xs n (treeIn xs n)
 shaped limit {xs} {n} w = shape-of limit xs n (viewed w)
 
-eqb-not : (b c : ℕ) → b ≡ c → eqb b c ≡ false → ⊥
-eqb-not b c e f = eqb-false b c f e
-
 module _ {limit : ℕ} {xs : List ℕ} {n : ℕ} {t : Expr} where
   pub first-of : Shaped limit xs n t → 1 ≤ nodeOperands (nodeIn xs n .kind) → First limit xs n t
   first-of (no-operand z c e) h = absurd (omega arith)
@@ -243,21 +209,20 @@ module _ {limit : ℕ} {xs : List ℕ} {n : ℕ} {t : Expr} where
   leaf-check (one-operand q z f c e) h env = absurd (omega arith)
   leaf-check (more-operands z f r b c e) h env = absurd (omega arith)
 
-  pub sym-check : Shaped limit xs n t → nodeIn xs n .kind ≡ 14 → (env : List ℕ)
+  pub sym-check : Shaped limit xs n t → nodeIn xs n .kind ≡ kindFor symForm → (env : List ℕ)
       → check limit t env ≡ verdict n limit (leaves (exec limit (treeIn xs (nodeIn xs n .a)) (symbols 0 env) (start (length env))))
-  unfolding blockForm nodeOperands takesOf operandCount rowOf rows
-  sym-check (no-operand z c e) h env = absurd (let m : nodeOperands (nodeIn xs n .kind) ≡ 1 = rw h in omega arith)
-  sym-check (of-typed q z f c e) h env = absurd (other-block 2 3 (sym q ∙ sym-form _ h) refl refl λ i. omega arith)
+  sym-check (no-operand z c e) h env = absurd (let m = kind-operands symForm (nodeIn xs n .kind) h in omega arith)
+  sym-check (of-typed q z f c e) h env = absurd (typed-or-sym q (form-at symForm _ h))
   sym-check (of-sym q z f c e) h env = c env
-  sym-check (one-operand q z f c e) h env = absurd (let m = sym q ∙ ap blockForm (sym-form _ h) in omega arith)
-  sym-check (more-operands z f r b c e) h env = absurd (let m : nodeOperands (nodeIn xs n .kind) ≡ 1 = rw h in omega arith)
+  sym-check (one-operand q z f c e) h env = absurd (unary-or-sym q (form-at symForm _ h))
+  sym-check (more-operands z f r b c e) h env = absurd (let m = kind-operands symForm (nodeIn xs n .kind) h in omega arith)
 
-  pub one-check : Shaped limit xs n t → nodeOperands (nodeIn xs n .kind) ≡ 1 → (nodeIn xs n .kind ≡ 14 → ⊥) → (env : List ℕ)
+  pub one-check : Shaped limit xs n t → nodeOperands (nodeIn xs n .kind) ≡ 1 → (nodeIn xs n .kind ≡ kindFor symForm → ⊥) → (env : List ℕ)
       → check limit t env ≡ andThen (check limit (treeIn xs (nodeIn xs n .a)) env) (oneType (formOf (nodeIn xs n .kind)) n)
-  unfolding blockForm oneType
+  unfolding oneType
   one-check (no-operand z c e) h d env = absurd (omega arith)
   one-check (of-typed q z f c e) h d env = c env ∙ then-accepted _ (oneType (formOf (nodeIn xs n .kind)) n) λ u. ap (λ (g : Form). oneType g n u) q
-  one-check (of-sym q z f c e) h d env = absurd (eqb-not _ 3 (ap blockForm q) (not-sym _ d))
+  one-check (of-sym q z f c e) h d env = absurd (no-form symForm _ refl d q)
   one-check (one-operand q z f c e) h d env = c env
   one-check (more-operands z f r b c e) h d env = absurd (omega arith)
 
@@ -281,20 +246,19 @@ module _ {limit : ℕ} {xs : List ℕ} {n : ℕ} {t : Expr} where
   leaf-exec (one-operand q z f c e) h env p = absurd (omega arith)
   leaf-exec (more-operands z f r b c e) h env p = absurd (omega arith)
 
-  pub typed-exec : Shaped limit xs n t → nodeIn xs n .kind ≡ 13 → (env : List Symbolic) (p : Path)
+  pub typed-exec : Shaped limit xs n t → nodeIn xs n .kind ≡ kindFor typedForm → (env : List Symbolic) (p : Path)
       → exec limit t env p ≡ typedResult n p (check limit (treeIn xs (nodeIn xs n .a)) (map typeOf env))
-  unfolding blockForm nodeOperands takesOf operandCount rowOf rows
-  typed-exec (no-operand z c e) h env p = absurd (let m : nodeOperands (nodeIn xs n .kind) ≡ 1 = rw h in omega arith)
+  typed-exec (no-operand z c e) h env p = absurd (let m = kind-operands typedForm (nodeIn xs n .kind) h in omega arith)
   typed-exec (of-typed q z f c e) h env p = e env p
-  typed-exec (of-sym q z f c e) h env p = absurd (other-block 3 2 (sym q ∙ typed-form _ h) refl refl λ i. omega arith)
-  typed-exec (one-operand q z f c e) h env p = absurd (let m = sym q ∙ ap blockForm (typed-form _ h) in omega arith)
-  typed-exec (more-operands z f r b c e) h env p = absurd (let m : nodeOperands (nodeIn xs n .kind) ≡ 1 = rw h in omega arith)
+  typed-exec (of-sym q z f c e) h env p = absurd (typed-or-sym (form-at typedForm _ h) q)
+  typed-exec (one-operand q z f c e) h env p = absurd (unary-or-typed q (form-at typedForm _ h))
+  typed-exec (more-operands z f r b c e) h env p = absurd (let m = kind-operands typedForm (nodeIn xs n .kind) h in omega arith)
 
-  pub one-exec : Shaped limit xs n t → nodeOperands (nodeIn xs n .kind) ≡ 1 → (nodeIn xs n .kind ≡ 13 → ⊥) → (env : List Symbolic) (p : Path)
+  pub one-exec : Shaped limit xs n t → nodeOperands (nodeIn xs n .kind) ≡ 1 → (nodeIn xs n .kind ≡ kindFor typedForm → ⊥) → (env : List Symbolic) (p : Path)
       → exec limit t env p ≡ bind (exec limit (treeIn xs (nodeIn xs n .a)) env p) (oneExec (formOf (nodeIn xs n .kind)) n)
-  unfolding blockForm oneExec
+  unfolding oneExec
   one-exec (no-operand z c e) h d env p = absurd (omega arith)
-  one-exec (of-typed q z f c e) h d env p = absurd (eqb-not _ 2 (ap blockForm q) (not-typed _ d))
+  one-exec (of-typed q z f c e) h d env p = absurd (no-form typedForm _ refl d q)
   one-exec (of-sym q z f c e) h d env p = e env p ∙ bind-ends _ (oneExec (formOf (nodeIn xs n .kind)) n) λ v r. ap (λ (g : Form). oneExec g n v r) q
   one-exec (one-operand q z f c e) h d env p = e env p
   one-exec (more-operands z f r b c e) h d env p = absurd (omega arith)
@@ -311,48 +275,47 @@ module _ {limit : ℕ} {xs : List ℕ} {n : ℕ} {t : Expr} where
 
 -- ---- an `if`, after its condition
 
-module _ (k : ℕ) (h : k ≡ 8) where
+module _ (k : ℕ) (h : k ≡ kindFor ifForm) where
   pub if-rest-check : (limit n : ℕ) (e f : Expr) (t : ℕ) (env : List ℕ)
       → restType (formOf k) limit n e f t env ≡ andThen (check limit e env) λ u. andThen (check limit f env) (ifType n t u)
   unfolding restType
-  if-rest-check limit n e f t env = ap (λ (g : Form). restType g limit n e f t env) (if-form k h)
+  if-rest-check limit n e f t env = ap (λ (g : Form). restType g limit n e f t env) (form-at ifForm k h)
 
   pub if-rest-exec : (limit n : ℕ) (e f : Expr) (v : Symbolic) (env : List Symbolic) (p : Path)
       → restExec (formOf k) limit n e f v env p ≡ decide n v p (exec limit e env) (exec limit f env)
   unfolding restExec
-  if-rest-exec limit n e f v env p = ap (λ (g : Form). restExec g limit n e f v env p) (if-form k h)
+  if-rest-exec limit n e f v env p = ap (λ (g : Form). restExec g limit n e f v env p) (form-at ifForm k h)
 
   pub if-bound : {A : Type 0} (v : A) (env : List A) → boundOn (formOf k) v env ≡ env
   unfolding boundOn
-  if-bound v env = ap (λ (g : Form). boundOn g v env) (if-form k h)
+  if-bound v env = ap (λ (g : Form). boundOn g v env) (form-at ifForm k h)
 
   pub if-two : (n : ℕ) (v w : Symbolic) (p : Path) → twoExec (formOf k) n v w p ≡ ends w p
   unfolding twoExec
-  if-two n v w p = ap (λ (g : Form). twoExec g n v w p) (if-form k h)
+  if-two n v w p = ap (λ (g : Form). twoExec g n v w p) (form-at ifForm k h)
 
 -- ---- after the first of several operands
 
 module _ {limit : ℕ} {xs : List ℕ} {n : ℕ} where
-  pub branches-of : Several limit xs n → nodeIn xs n .kind ≡ 8 → Branches limit xs n
-  unfolding blockForm
+  pub branches-of : Several limit xs n → nodeIn xs n .kind ≡ kindFor ifForm → Branches limit xs n
   branches-of (several-if q b) h = b
-  branches-of (several-let q) h = absurd (other-block 0 1 (sym q ∙ if-form _ h) refl refl λ i. omega arith)
-  branches-of (several-binary q) h = absurd (other-block 0 1 (sym q ∙ if-form _ h) refl refl λ i. omega arith)
+  branches-of (several-let q) h = absurd (let-or-if q (form-at ifForm _ h))
+  branches-of (several-binary q) h = absurd (binary-or-if q (form-at ifForm _ h))
 
   -- another form
-  module _ (d : nodeIn xs n .kind ≡ 8 → ⊥) where
+  module _ (d : nodeIn xs n .kind ≡ kindFor ifForm → ⊥) where
     pub two-rest-check : Several limit xs n → (e f : Expr) (t : ℕ) (env : List ℕ)
         → restType (formOf (nodeIn xs n .kind)) limit n e f t env
         ≡ andThen (check limit e (boundOn (formOf (nodeIn xs n .kind)) t env)) (twoType (formOf (nodeIn xs n .kind)) n t)
-    unfolding restType boundOn twoType blockForm
-    two-rest-check (several-if q b) e f t env = absurd (eqb-not _ 1 (ap blockForm q) (not-if _ d))
+    unfolding restType boundOn twoType
+    two-rest-check (several-if q b) e f t env = absurd (no-form ifForm _ refl d q)
     two-rest-check (several-let q) e f t env = rw q (then-accepted _ Accepted λ u. refl)
     two-rest-check (several-binary q) e f t env = rw q
 
     pub two-rest-exec : Several limit xs n → (e f : Expr) (v : Symbolic) (env : List Symbolic) (p : Path)
         → restExec (formOf (nodeIn xs n .kind)) limit n e f v env p
         ≡ bind (exec limit e (boundOn (formOf (nodeIn xs n .kind)) v env) p) (twoExec (formOf (nodeIn xs n .kind)) n v)
-    unfolding restExec boundOn twoExec blockForm
-    two-rest-exec (several-if q b) e f v env p = absurd (eqb-not _ 1 (ap blockForm q) (not-if _ d))
+    unfolding restExec boundOn twoExec
+    two-rest-exec (several-if q b) e f v env p = absurd (no-form ifForm _ refl d q)
     two-rest-exec (several-let q) e f v env p = rw q (bind-ends _ ends λ w r. refl)
     two-rest-exec (several-binary q) e f v env p = rw q

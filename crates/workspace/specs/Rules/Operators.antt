@@ -1,14 +1,15 @@
 -- The rules of operators on rows: what each makes, and where it refuses. Assumes nothing.
 use mathlib.Core.Bool.{Bool, true, false}
-use mathlib.Core.List.{List}
+use mathlib.Core.List.{List, [], _∷_}
 use mathlib.Core.Path.{_≡_, refl, sym, ap, _∙_}
 use Prim.Native.Nat.{ℕ, zero, suc, _+_, _*_, _≤_, _<_}
 use native.Mathlib.Omega.{arith}
 use lib.ListN.{length, getD}
 use lib.Dec.{eqb}
 use borrow.Author.Tests.{eqb-true, lt-ltb, le-ltb, eq-eqb, ne-eqb}
-use Rattle.script.specs.Code.Forms.{formOf, form-plain, plain-but, plain-all}
-use Rattle.script.specs.Rows.{varForm, unaryForm, binaryForm, rows, rowOf, notOp, addOp, eqOp, andOp}
+use Rattle.script.specs.Code.Forms.{formOf, other-form}
+use Rattle.script.specs.Rows.{intForm, varForm, truthForm, unaryForm, binaryForm, rows, rowOf, kindFor, notOp, addOp, eqOp, andOp}
+use Rattle.script.specs.Rows.Laws.{NoneOf, unaryForms, binaryForms}
 use Rattle.script.specs.declared.Refusal.the-variants.{WrongType, UnknownVariable}
 use Rattle.rules.specs.Paths.{Path, ends}
 use Rattle.rules.specs.Symbolic.{Sum, Formula, Origin, Symbolic, aWord, aTruth, aReference}
@@ -63,7 +64,7 @@ pushed-ruled s op a b e = rw e (added-ruled (pushed-length s op a b) (pushed-add
 -- ---- leaves
 
 module _ (n a depth : ℕ) {ws left : List ℕ} {r : ℕ} (q : Room ws 1) (er : r ≡ countIn ws) where
-  pub leaf-int : (k : ℕ) → k ≡ 0 → left ≡ pushed ws ofNumber a 0 → Leaf (formOf k) n a depth ws (Gave 0 r) left
+  pub leaf-int : (k : ℕ) → k ≡ kindFor intForm → left ≡ pushed ws ofNumber a 0 → Leaf (formOf k) n a depth ws (Gave 0 r) left
   unfolding leafExec leafGives formOf rowOf rows
   leaf-int k z e =
       record {
@@ -72,7 +73,7 @@ module _ (n a depth : ℕ) {ws left : List ℕ} {r : ℕ} (q : Room ws 1) (er : 
         exactly = rw (z, er, e) refl;
       }
 
-  pub leaf-true : (k : ℕ) → k ≡ 1 → left ≡ pushed ws ofConstant 1 0 → Leaf (formOf k) n a depth ws (Gave 1 r) left
+  pub leaf-true : (k : ℕ) → k ≡ kindFor (truthForm true) → left ≡ pushed ws ofConstant 1 0 → Leaf (formOf k) n a depth ws (Gave 1 r) left
   unfolding leafExec leafGives formOf rowOf rows
   leaf-true k z e =
       record {
@@ -81,27 +82,15 @@ module _ (n a depth : ℕ) {ws left : List ℕ} {r : ℕ} (q : Room ws 1) (er : 
         exactly = rw (z, er, e) refl;
       }
 
-  pub leaf-other : (k : ℕ) → (k ≡ 0 → ⊥) → (k ≡ 1 → ⊥) → (k ≡ 3 → ⊥) → left ≡ pushed ws ofConstant 0 0 → Leaf (formOf k) n a depth ws (Gave 1 r) left
+  pub leaf-other : (k : ℕ) → NoneOf k (intForm ∷ truthForm true ∷ varForm ∷ []) → left ≡ pushed ws ofConstant 0 0 → Leaf (formOf k) n a depth ws (Gave 1 r) left
   unfolding leafExec leafGives rows
-  leaf-other k d₀ d₁ d₃ e =
+  leaf-other k d e =
       record {
         ruled = pushed-ruled (room-space q) ofConstant 0 0 e;
         yields = λ env p s.
-            rw (
-              form-plain (λ f. leafExec f n a env p) k
-                  (plain-but 0 _ _ k d₀ λ i y. plain-but 0 _ _ i (λ z. d₁ (omega arith)) λ j g. plain-but 1 _ _ j (λ z. d₃ (omega arith)) λ l h. plain-all 11 l),
-              er,
-              e,
-            )
+            rw (other-form (λ f. leafExec f n a env p) _ k refl d, er, e)
             (truth-yields (made-constant (room-space q) (s .path .distinct) false 0) (s .path));
-        exactly =
-            rw (
-              form-plain (λ f. leafGives f n a depth ws) k
-                  (plain-but 0 _ _ k d₀ λ i y. plain-but 0 _ _ i (λ z. d₁ (omega arith)) λ j g. plain-but 1 _ _ j (λ z. d₃ (omega arith)) λ l h. plain-all 11 l),
-              er,
-              e,
-            )
-            refl;
+        exactly = rw (other-form (λ f. leafGives f n a depth ws) _ k refl d, er, e) refl;
       }
 
 module _ (n k depth : ℕ) (ws : List ℕ) where
@@ -317,38 +306,20 @@ module _ (n t q u s : ℕ) {ws : List ℕ} where
 
 -- ---- all kinds but some
 
-pub one-other : (n t q k : ℕ) {ws : List ℕ} → (k ≡ 6 → ⊥) → (k ≡ 10 → ⊥) → (k ≡ 11 → ⊥) → One (formOf k) n t q ws (Gave t q) ws
+pub one-other : (n t q k : ℕ) {ws : List ℕ} → NoneOf k unaryForms → One (formOf k) n t q ws (Gave t q) ws
 unfolding oneExec oneGives rows
-one-other n t q k {ws} d₆ d₁₀ d₁₁ =
+one-other n t q k {ws} d =
     record {
       ruled = ruled-refl ws;
-      yields = λ v p m h.
-          rw
-          (form-plain (λ f. oneExec f n v p) k
-          (plain-but 6 _ _ k d₆ λ i e. plain-but 3 _ _ i (λ z. d₁₀ (omega arith)) λ j g. plain-but 0 _ _ j (λ z. d₁₁ (omega arith)) λ l y. plain-all 3 l))
-          (ending m h);
-      exactly =
-          rw
-          (form-plain (λ f. oneGives f n t q ws) k
-          (plain-but 6 _ _ k d₆ λ i e. plain-but 3 _ _ i (λ z. d₁₀ (omega arith)) λ j g. plain-but 0 _ _ j (λ z. d₁₁ (omega arith)) λ l y. plain-all 3 l))
-          refl;
+      yields = λ v p m h. rw (other-form (λ f. oneExec f n v p) _ k refl d) (ending m h);
+      exactly = rw (other-form (λ f. oneGives f n t q ws) _ k refl d) refl;
     }
 
-pub two-other : (n t q u s k : ℕ) {ws : List ℕ} → (k ≡ 4 → ⊥) → (k ≡ 5 → ⊥) → (k ≡ 7 → ⊥) → (k ≡ 12 → ⊥) → Two (formOf k) n t q u s ws (Gave u s) ws
+pub two-other : (n t q u s k : ℕ) {ws : List ℕ} → NoneOf k binaryForms → Two (formOf k) n t q u s ws (Gave u s) ws
 unfolding twoExec twoGives rows
-two-other n t q u s k {ws} d₄ d₅ d₇ d₁₂ =
+two-other n t q u s k {ws} d =
     record {
       ruled = ruled-refl ws;
-      yields = λ v w p m x h.
-          rw
-          (form-plain (λ f. twoExec f n v w p) k
-          (plain-but 4 _ _ k d₄ λ i e. plain-but 0 _ _ i (λ z. d₅ (omega arith)) λ j g. plain-but 1 _ _ j (λ z. d₇ (omega arith)) λ l y.
-          plain-but 4 _ _ l (λ z. d₁₂ (omega arith)) λ o z. plain-all 2 o))
-          (ending x h);
-      exactly =
-          rw
-          (form-plain (λ f. twoGives f n t q u s ws) k
-          (plain-but 4 _ _ k d₄ λ i e. plain-but 0 _ _ i (λ z. d₅ (omega arith)) λ j g. plain-but 1 _ _ j (λ z. d₇ (omega arith)) λ l y.
-          plain-but 4 _ _ l (λ z. d₁₂ (omega arith)) λ o z. plain-all 2 o))
-          refl;
+      yields = λ v w p m x h. rw (other-form (λ f. twoExec f n v w p) _ k refl d) (ending x h);
+      exactly = rw (other-form (λ f. twoGives f n t q u s ws) _ k refl d) refl;
     }

@@ -7,8 +7,8 @@ use Prim.Native.Nat.{ℕ, suc, _≤_, _<_}
 use native.Mathlib.Omega.{arith}
 use lib.Dec.{eqb}
 use borrow.Author.Tests.{eqb-true, eqb-false}
-use Rattle.script.specs.Code.Forms.{formOf, leaf-kinds, nodeIn, treeIn, formed-less}
-use Rattle.script.specs.Rows.{rows, rowOf, takesOf, operandCount, nodeOperands}
+use Rattle.script.specs.Code.Forms.{formOf, kind-operands, leaf-kinds, nodeIn, treeIn, formed-less}
+use Rattle.script.specs.Rows.{ifForm, symForm, kindFor, leafKinds, nodeOperands}
 use Rattle.script.specs.declared.Checked.{Checked}
 use Rattle.script.specs.declared.Checked.the-variants.{Accepted, Refused}
 use Rattle.script.specs.declared.Refusal.{Refusal}
@@ -45,14 +45,13 @@ pub some-of : {k : ℕ} → 2 ≤ k → 1 ≤ k
 some-of h = omega (arith, h)
 
 -- a `sym` has one
-pub several-no-sym : {k : ℕ} → 2 ≤ nodeOperands k → k ≡ 14 → ⊥
-unfolding nodeOperands takesOf operandCount rowOf rows
-several-no-sym h e = let z : 2 ≤ 1 = rw e at h in omega (arith, z)
+pub several-no-sym : {k : ℕ} → 2 ≤ nodeOperands k → k ≡ kindFor symForm → ⊥
+several-no-sym {k} h e = let z = kind-operands symForm k e in omega arith
 
 -- ---- node n
 
 module _ {xs ws : List ℕ} {depth n : ℕ} (q : Checkable xs ws depth n) where
-  pub leaf-judged : (limit : ℕ) → nodeIn xs n .kind < 4 → {r : Checked} → r ≡ leafType (formOf (nodeIn xs n .kind)) n (nodeIn xs n .a) (typesOn ws depth)
+  pub leaf-judged : (limit : ℕ) → nodeIn xs n .kind < leafKinds → {r : Checked} → r ≡ leafType (formOf (nodeIn xs n .kind)) n (nodeIn xs n .a) (typesOn ws depth)
       → Judged (check limit (treeIn xs n) (typesOn ws depth)) depth ws r ws
   leaf-judged limit z e =
       record {
@@ -74,7 +73,7 @@ module _ {xs ws : List ℕ} {depth n : ℕ} (q : Checkable xs ws depth n) where
           small = omega (arith, q .small, f .smaller);
         }
 
-  pub sym-judged : (limit : ℕ) → nodeIn xs n .kind ≡ 14 → {r : Checked}
+  pub sym-judged : (limit : ℕ) → nodeIn xs n .kind ≡ kindFor symForm → {r : Checked}
       → r ≡ verdict n limit (leaves (exec limit (treeIn xs (nodeIn xs n .a)) (symbols 0 (typesOn ws depth)) (start depth)))
       → Judged (check limit (treeIn xs n) (typesOn ws depth)) depth ws r ws
   sym-judged limit z e =
@@ -90,7 +89,7 @@ module _ {xs ws : List ℕ} {depth n : ℕ} (q : Checkable xs ws depth n) where
       first-is : check limit (treeIn xs (nodeIn xs n .a)) (typesOn ws depth) ≡ Accepted t
       first-is = sym (d .answer) ∙ e
 
-      pub one-judged : nodeOperands (nodeIn xs n .kind) ≡ 1 → (nodeIn xs n .kind ≡ 14 → ⊥) → {s : Checked} → s ≡ oneType (formOf (nodeIn xs n .kind)) n t
+      pub one-judged : nodeOperands (nodeIn xs n .kind) ≡ 1 → (nodeIn xs n .kind ≡ kindFor symForm → ⊥) → {s : Checked} → s ≡ oneType (formOf (nodeIn xs n .kind)) n t
           → Judged (check limit (treeIn xs n) (typesOn ws depth)) depth ws s left
       one-judged z k f =
           record {
@@ -120,7 +119,7 @@ module _ {xs ws : List ℕ} {depth n : ℕ} (q : Checkable xs ws depth n) where
           }
 
     -- it is refused
-    pub first-refused : {x : Refusal} → r ≡ Refused x → (nodeIn xs n .kind ≡ 14 → ⊥)
+    pub first-refused : {x : Refusal} → r ≡ Refused x → (nodeIn xs n .kind ≡ kindFor symForm → ⊥)
         → Judged (check limit (treeIn xs n) (typesOn ws depth)) depth ws (Refused x) left
     first-refused {x} e k = record { answer = sym (go (eqb (nodeOperands (nodeIn xs n .kind)) 1) refl); aside = d .aside }
       where
@@ -163,7 +162,7 @@ module _ {xs ws : List ℕ} {depth n : ℕ} (q : CheckableRest xs ws depth n) wh
       second-is e = rw (sym (b .types)) (sym (d .answer) ∙ e)
 
       -- an `if`
-      module _ (h : nodeIn xs n .kind ≡ 8) where
+      module _ (h : nodeIn xs n .kind ≡ kindFor ifForm) where
         pub third-earlier : nodeIn xs n .c < n
         third-earlier = branches-of (several-of (shaped 0 (q .formed)) (q .several)) h .earlier
 
@@ -203,7 +202,7 @@ module _ {xs ws : List ℕ} {depth n : ℕ} (q : CheckableRest xs ws depth n) wh
               }
 
       -- another form
-      pub two-judged : (nodeIn xs n .kind ≡ 8 → ⊥) → {u : ℕ} → r ≡ Accepted u → {w : Checked} → w ≡ twoType (formOf (nodeIn xs n .kind)) n t u
+      pub two-judged : (nodeIn xs n .kind ≡ kindFor ifForm → ⊥) → {u : ℕ} → r ≡ Accepted u → {w : Checked} → w ≡ twoType (formOf (nodeIn xs n .kind)) n t u
           → Judged rest depth ws w left
       two-judged h e g =
           record {
@@ -214,10 +213,10 @@ module _ {xs ws : List ℕ} {depth n : ℕ} (q : CheckableRest xs ws depth n) wh
           }
 
       pub second-refused : {x : Refusal} → r ≡ Refused x → Judged rest depth ws (Refused x) left
-      second-refused {x} e = record { answer = sym (go (eqb (nodeIn xs n .kind) 8) refl); aside = second-aside }
+      second-refused {x} e = record { answer = sym (go (eqb (nodeIn xs n .kind) (kindFor ifForm)) refl); aside = second-aside }
         where
-          go : (b : Bool) → eqb (nodeIn xs n .kind) 8 ≡ b → rest ≡ Refused x
-          go true p = rest-if (eqb-true _ 8 p) e
+          go : (b : Bool) → eqb (nodeIn xs n .kind) (kindFor ifForm) ≡ b → rest ≡ Refused x
+          go true p = rest-if (eqb-true _ (kindFor ifForm) p) e
           go false p =
-              two-rest-check (eqb-false _ 8 p) (several-of (shaped limit (q .formed)) (q .several)) (treeIn xs (nodeIn xs n .b)) (treeIn xs (nodeIn xs n .c)) t (typesOn ws depth)
+              two-rest-check (eqb-false _ (kindFor ifForm) p) (several-of (shaped limit (q .formed)) (q .several)) (treeIn xs (nodeIn xs n .b)) (treeIn xs (nodeIn xs n .c)) t (typesOn ws depth)
               ∙ rw (second-is e)

@@ -7,9 +7,10 @@ use lib.Dec.{eqb}
 use lib.ListN.{length, set, length-set}
 use lib.Seq.{getD-set-same, getD-set-other}
 use borrow.Author.Tests.{eq-eqb, ne-eqb, le-leb, lt-leb}
-use Rattle.script.specs.Code.Forms.{formOf, form-plain, plain-but, plain-all}
+use Rattle.script.specs.Code.Forms.{formOf, form-at, other-form}
 use Rattle.script.specs.Limits.{deepest, typeLimit}
-use Rattle.script.specs.Rows.{Form, rows, notOp, refOp, getOp, addOp, eqOp, andOp, setOp}
+use Rattle.script.specs.Rows.{Form, intForm, varForm, letForm, rows, kindFor, notOp, refOp, getOp, addOp, eqOp, andOp, setOp}
+use Rattle.script.specs.Rows.Laws.{NoneOf, none-left, but, unaryForms, binaryForms}
 use Rattle.script.specs.Tests.{pick}
 use Rattle.script.specs.declared.Checked.{Checked}
 use Rattle.script.specs.declared.Checked.the-variants.{Accepted, Refused}
@@ -17,7 +18,6 @@ use Rattle.script.specs.declared.Refusal.the-variants.{TooManyReferences}
 use Rattle.rules.specs.TypedRules.{wrong, unaryType, binaryType, ifType, truthType, wordType}
 use Rattle.terms.specs.Places.{variablesEnd, symbolLimit}
 use Rattle.workspace.specs.Rules.{leafType, oneType, twoType, boundOn, BoundTypes}
-use Rattle.workspace.specs.Rules.Nodes.{let-form}
 use Rattle.workspace.specs.Rules.Typed.{aside-refl}
 use Rattle.workspace.specs.State.{typesOn}
 use Rattle.workspace.specs.State.Laws.{types-kept}
@@ -115,38 +115,30 @@ module _ (n : ℕ) where
 
 -- ---- all kinds but some
 
-pub leaf-type-other : (n a : ℕ) (env : List ℕ) (k : ℕ) → (k ≡ 0 → ⊥) → (k ≡ 3 → ⊥) → Accepted 1 ≡ leafType (formOf k) n a env
+pub leaf-type-other : (n a : ℕ) (env : List ℕ) (k : ℕ) → NoneOf k (intForm ∷ varForm ∷ []) → Accepted 1 ≡ leafType (formOf k) n a env
 unfolding leafType rows
-leaf-type-other n a env k d₀ d₃ =
-    sym (form-plain (λ f. leafType f n a env) k (plain-but 0 _ _ k d₀ λ i e. plain-but 2 _ _ i (λ z. d₃ (omega arith)) λ j g. plain-all 11 j))
+leaf-type-other n a env k d = sym (other-form (λ f. leafType f n a env) _ k refl d)
 
-pub one-type-other : (n t k : ℕ) → (k ≡ 6 → ⊥) → (k ≡ 10 → ⊥) → (k ≡ 11 → ⊥) → Accepted t ≡ oneType (formOf k) n t
+pub one-type-other : (n t k : ℕ) → NoneOf k unaryForms → Accepted t ≡ oneType (formOf k) n t
 unfolding oneType rows
-one-type-other n t k d₆ d₁₀ d₁₁ =
-    sym
-    (form-plain (λ f. oneType f n t) k
-    (plain-but 6 _ _ k d₆ λ i e. plain-but 3 _ _ i (λ z. d₁₀ (omega arith)) λ j g. plain-but 0 _ _ j (λ z. d₁₁ (omega arith)) λ l h. plain-all 3 l))
+one-type-other n t k d = sym (other-form (λ f. oneType f n t) _ k refl d)
 
-pub two-type-other : (n t u k : ℕ) → (k ≡ 4 → ⊥) → (k ≡ 5 → ⊥) → (k ≡ 7 → ⊥) → (k ≡ 12 → ⊥) → Accepted u ≡ twoType (formOf k) n t u
+pub two-type-other : (n t u k : ℕ) → NoneOf k binaryForms → Accepted u ≡ twoType (formOf k) n t u
 unfolding twoType rows
-two-type-other n t u k d₄ d₅ d₇ d₁₂ =
-    sym
-    (form-plain (λ f. twoType f n t u) k
-    (plain-but 4 _ _ k d₄ λ i e. plain-but 0 _ _ i (λ z. d₅ (omega arith)) λ j g. plain-but 1 _ _ j (λ z. d₇ (omega arith)) λ l h.
-    plain-but 4 _ _ l (λ z. d₁₂ (omega arith)) λ m w. plain-all 2 m))
+two-type-other n t u k d = sym (other-form (λ f. twoType f n t u) _ k refl d)
 
-pub bound-other : {A : Type 0} (v : A) (env : List A) (k : ℕ) → (k ≡ 9 → ⊥) → boundOn (formOf k) v env ≡ env
+pub bound-other : {A : Type 0} (v : A) (env : List A) (k : ℕ) → (k ≡ kindFor letForm → ⊥) → boundOn (formOf k) v env ≡ env
 unfolding boundOn rows
-bound-other v env k d = form-plain (λ f. boundOn f v env) k (plain-but 9 _ _ k d λ i e. plain-all 5 i)
+bound-other v env k d = other-form (λ f. boundOn f v env) (letForm ∷ []) k refl (but d none-left)
 
-pub let-bound : {A : Type 0} (v : A) (env : List A) (k : ℕ) → k ≡ 9 → boundOn (formOf k) v env ≡ env ++ (v ∷ [])
+pub let-bound : {A : Type 0} (v : A) (env : List A) (k : ℕ) → k ≡ kindFor letForm → boundOn (formOf k) v env ≡ env ++ (v ∷ [])
 unfolding boundOn
-let-bound v env k e = ap (λ (f : Form). boundOn f v env) (let-form k e)
+let-bound v env k e = ap (λ (f : Form). boundOn f v env) (form-at letForm k e)
 
 -- ---- the variables of the second operand
 
 module _ (k depth t : ℕ) (ws : List ℕ) (l : depth < symbolLimit) (h : variablesEnd ≤ length ws) where
-  pub bind-type-let : k ≡ 9 → BoundTypes k depth t ws (depth + 1) (set ws (2 * depth) t)
+  pub bind-type-let : k ≡ kindFor letForm → BoundTypes k depth t ws (depth + 1) (set ws (2 * depth) t)
   unfolding typesOn
   bind-type-let e =
       let z : depth + 1 ≡ suc depth = omega arith in
@@ -169,7 +161,7 @@ module _ (k depth t : ℕ) (ws : List ℕ) (l : depth < symbolLimit) (h : variab
         };
       }
 
-  pub bind-type-other : (k ≡ 9 → ⊥) → BoundTypes k depth t ws depth ws
+  pub bind-type-other : (k ≡ kindFor letForm → ⊥) → BoundTypes k depth t ws depth ws
   bind-type-other d =
       record {
         bound = λ e. absurd (d e);

@@ -6,7 +6,7 @@ use native.Mathlib.Omega.{arith}
 use lib.ListN.{length, getD}
 use Rattle.script.specs.Code.Forms.{formOf, leaf-kinds, nodeIn, treeIn, some-operand, formed-less}
 use Rattle.script.specs.Limits.{nodeLimit}
-use Rattle.script.specs.Rows.{nodeOperands}
+use Rattle.script.specs.Rows.{typedForm, kindFor, leafKinds, nodeOperands}
 use Rattle.script.specs.declared.Checked.{Checked}
 use Rattle.script.specs.declared.Checked.the-variants.{Accepted, Refused}
 use Rattle.script.specs.declared.Refusal.{Refusal}
@@ -71,7 +71,7 @@ module _ {limit : ℕ} {table : List ℕ} {bound base : ℕ} {ground : List Symb
 
   -- ---- a leaf
 
-  pub leaf-gives : nodeIn table n .kind < 4 → {a : Step} {left : List ℕ} → LeafRule (formOf (nodeIn table n .kind)) n (nodeIn table n .a) (depthIn ws) ws a left
+  pub leaf-gives : nodeIn table n .kind < leafKinds → {a : Step} {left : List ℕ} → LeafRule (formOf (nodeIn table n .kind)) n (nodeIn table n .a) (depthIn ws) ws a left
       → Gives limit table bound base ground left fs ls a
   leaf-gives k l =
       yields-gives (q .stands) (l .ruled) enters-room enters-tops
@@ -82,7 +82,7 @@ module _ {limit : ℕ} {table : List ℕ} {bound base : ℕ} {ground : List Symb
 
   -- ---- a typed block
 
-  module _ (k : nodeIn table n .kind ≡ 13) (some : 1 ≤ nodeOperands (nodeIn table n .kind)) where
+  module _ (k : nodeIn table n .kind ≡ kindFor typedForm) (some : 1 ≤ nodeOperands (nodeIn table n .kind)) where
     pub block-earlier : nodeIn table n .a < n
     block-earlier = first-of (shaped limit (enters-formed q)) some .earlier
 
@@ -229,7 +229,7 @@ module _ {table ws fs : List ℕ} {n : ℕ} (x : Leafable table ws fs n) where
 
 -- ---- as the code takes a typed block
 
-module _ {limit : ℕ} {table ws fs : List ℕ} {n : ℕ} (x : Enterable limit table ws fs n) (k : nodeIn table n .kind ≡ 13) where
+module _ {limit : ℕ} {table ws fs : List ℕ} {n : ℕ} (x : Enterable limit table ws fs n) (k : nodeIn table n .kind ≡ kindFor typedForm) where
   some : 1 ≤ nodeOperands (nodeIn table n .kind)
   some = some-operand (enters-formed (x .entering)) (omega arith)
 

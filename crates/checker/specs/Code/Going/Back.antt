@@ -10,7 +10,7 @@ use lib.Seq.{getD-set-same, getD-set-other}
 use borrow.Author.Tests.{eqb-true, eqb-false}
 use Rattle.script.specs.Code.Forms.{formOf, nodeIn}
 use Rattle.script.specs.Limits.{nodeLimit}
-use Rattle.script.specs.Rows.{nodeOperands}
+use Rattle.script.specs.Rows.{ifForm, letForm, kindFor, nodeOperands}
 use Rattle.terms.specs.Places.{symbolLimit}
 use Rattle.workspace.specs.Frames.{frameIn, topIn, nodeOf, upOf, firstOf, secondOf, Waitable, Waits, awaitsOf, goesTo}
 use Rattle.workspace.specs.Forks.{forkedIn, Forks}
@@ -109,7 +109,7 @@ module _ {table ws fs : List ℕ} {t q : ℕ} (x : Returnable table ws fs t q) (
     risen w = omega (arith, w .top, top-is)
 
     -- of an operator
-    pub back-plain : (nodeIn table n .kind ≡ 8 → ⊥) → (nodeIn table n .kind ≡ 9 → ⊥) → {gs : List ℕ} → Waits n 1 t q fs₁ gs
+    pub back-plain : (nodeIn table n .kind ≡ kindFor ifForm → ⊥) → (nodeIn table n .kind ≡ kindFor letForm → ⊥) → {gs : List ℕ} → Waits n 1 t q fs₁ gs
         → Backs table t q ws fs (Operand (nodeIn table n .b)) ws gs
     back-plain d e w =
         record {
@@ -123,7 +123,7 @@ module _ {table ws fs : List ℕ} {t q : ℕ} (x : Returnable table ws fs t q) (
     pub back-deep : depthIn ws < symbolLimit
     back-deep = next-deep (x .returning) some (up-next (x .returning) some z o)
 
-    pub back-let : nodeIn table n .kind ≡ 9 → {gs : List ℕ} → Waits n 2 t q fs₁ gs → Backs table t q ws fs (Operand (nodeIn table n .b)) (boundTo ws t q) gs
+    pub back-let : nodeIn table n .kind ≡ kindFor letForm → {gs : List ℕ} → Waits n 2 t q fs₁ gs → Backs table t q ws fs (Operand (nodeIn table n .b)) (boundTo ws t q) gs
     back-let e w =
         record {
           came = λ limit bound base ground ls r. came-operand (next-let r some (up-next r some z o) e w);
@@ -133,7 +133,7 @@ module _ {table ws fs : List ℕ} {t q : ℕ} (x : Returnable table ws fs t q) (
         }
 
     -- of an `if`
-    module _ (h : nodeIn table n .kind ≡ 8) where
+    module _ (h : nodeIn table n .kind ≡ kindFor ifForm) where
       pub back-decidable : Decidable ws t q
       back-decidable = next-decidable (x .returning) some (up-next (x .returning) some z o) h
 

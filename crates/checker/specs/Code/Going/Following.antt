@@ -8,6 +8,7 @@ use native.Mathlib.Omega.{arith}
 use lib.ListN.{getD, set, length-set}
 use lib.Seq.{getD-set-same, getD-set-other}
 use Rattle.script.specs.Code.Forms.{formOf, nodeIn, treeIn, formed-less}
+use Rattle.script.specs.Rows.{ifForm, letForm, kindFor}
 use Rattle.script.specs.Flat.{FormedNodes}
 use Rattle.script.specs.Limits.{nodeLimit}
 use Rattle.script.specs.Tree.{size}
@@ -87,7 +88,7 @@ module _ {limit : ℕ} {table : List ℕ} {bound base : ℕ} {ground : List Symb
         waits-stands (x .stands) next-few w (for-second (waits-slot (x .stands) next-few w) (up r some .low) (value-at w) (waits-awaits (x .stands) next-few w))
 
     -- of an operator
-    pub next-plain : (nodeIn table n .kind ≡ 8 → ⊥) → (nodeIn table n .kind ≡ 9 → ⊥) → {gs : List ℕ} → Waits n 1 t q fs₁ gs
+    pub next-plain : (nodeIn table n .kind ≡ kindFor ifForm → ⊥) → (nodeIn table n .kind ≡ kindFor letForm → ⊥) → {gs : List ℕ} → Waits n 1 t q fs₁ gs
         → Entering limit table bound base ground ws gs b ls
     unfolding goOn
     next-plain d e w =
@@ -171,7 +172,7 @@ module _ {limit : ℕ} {table : List ℕ} {bound base : ℕ} {ground : List Symb
         (r .stands .state .variables))
         (means-at bound-grown bound-type bound-place (r .means)))
 
-    pub next-let : nodeIn table n .kind ≡ 9 → {gs : List ℕ} → Waits n 2 t q fs₁ gs → Entering limit table bound base ground ws₁ gs b ls
+    pub next-let : nodeIn table n .kind ≡ kindFor letForm → {gs : List ℕ} → Waits n 2 t q fs₁ gs → Entering limit table bound base ground ws₁ gs b ls
     unfolding goOn
     next-let e {gs} w =
         let h = after .second-fits in
@@ -206,7 +207,7 @@ module _ {limit : ℕ} {table : List ℕ} {bound base : ℕ} {ground : List Symb
         }
 
     -- of an `if`: nothing is done with the value of its branch
-    module _ (h : nodeIn table n .kind ≡ 8) where
+    module _ (h : nodeIn table n .kind ≡ kindFor ifForm) where
       sides : Branches limit table n
       sides = branches-of (several-of (shaped limit node-formed) (x .several)) h
 

@@ -5,9 +5,9 @@ use Prim.Native.Nat.{ℕ, suc, _+_, _*_, _-_, _/_, _%_, _≤_, _<_}
 use native.Mathlib.Omega.{arith}
 use lib.ListN.{length, getD, set, length-set}
 use lib.Seq.{getD-set-same, getD-set-other}
-use Rattle.script.specs.Code.Forms.{formOf, nodeIn, treeIn}
+use Rattle.script.specs.Code.Forms.{formOf, form-at, nodeIn, treeIn}
 use Rattle.script.specs.Limits.{nodeLimit}
-use Rattle.script.specs.Rows.{Form, nodeOperands}
+use Rattle.script.specs.Rows.{Form, letForm, kindFor, nodeOperands}
 use Rattle.rules.specs.Paths.{Path, Paths, ends, forks, bind, Leaf, leaves}
 use Rattle.rules.specs.Symbolic.{Symbolic}
 use Rattle.terms.specs.Places.{countAt, variablesEnd, symbolLimit}
@@ -16,7 +16,6 @@ use Rattle.workspace.specs.Frames.{frameIn, topIn, nodeOf, upOf, firstOf, secon
 use Rattle.workspace.specs.Forks.{forkedIn}
 use Rattle.workspace.specs.Places.{conditionAt, depthAt, forkedAt, goalAt, nextAt, startAt, topAt, writesAt}
 use Rattle.workspace.specs.Rules.{oneExec, twoExec, restExec, restSize, One, Operable}
-use Rattle.workspace.specs.Rules.Nodes.{let-form}
 use Rattle.workspace.specs.State.{depthIn, Means, Variables, noVariable, oneMore, PathIn, Room, Unnoted, Valued}
 use Rattle.workspace.specs.State.Laws.{still-known, room-same, means-kept, variables-kept, path-rewound, room-less}
 use Rattle.workspace.specs.declared.Step.{Step}
@@ -91,9 +90,9 @@ variables-less {d = d} env w (oneMore {d = d₁} {env = env₁} {v = v} vs m) h 
     let z : d₁ ≡ d = omega arith in
     rw (sym z, sym (snoc-same v w env₁ env i)) vs
 
-let-two : (k n : ℕ) → k ≡ 9 → (v w : Symbolic) (p : Path) → twoExec (formOf k) n v w p ≡ ends w p
+let-two : (k n : ℕ) → k ≡ kindFor letForm → (v w : Symbolic) (p : Path) → twoExec (formOf k) n v w p ≡ ends w p
 unfolding twoExec
-let-two k n h v w p = ap (λ (g : Form). twoExec g n v w p) (let-form k h)
+let-two k n h v w p = ap (λ (g : Form). twoExec g n v w p) (form-at letForm k h)
 
 -- what the step of a rule comes to
 pub gives-came : {limit : ℕ} {table : List ℕ} {bound base : ℕ} {ground : List Symbolic} {left gs : List ℕ} {ls : List Leaf} {a : Step}
@@ -122,7 +121,7 @@ pub data Upper (limit : ℕ) (table : List ℕ) (bound base : ℕ) (ground : Lis
       → Stands limit table bound base ground ws (set fs goalAt g) env p ks less frames others
       → ls ≡ leaves (bind (twoExec (formOf (nodeIn table n .kind)) n w v p) (goOn limit table ks)) ++ others
       → Upper limit table bound base ground ws fs env p v owed frames others ls x y n g 1
-  upper-body : {ks : List Later} {less depth : ℕ} {w : Symbolic} {around : List Symbolic} → nodeIn table n .kind ≡ 9 → Means ws x y w → owed ≡ suc less
+  upper-body : {ks : List Later} {less depth : ℕ} {w : Symbolic} {around : List Symbolic} → nodeIn table n .kind ≡ kindFor letForm → Means ws x y w → owed ≡ suc less
       → depthIn ws ≡ suc depth → env ≡ around ++ (w ∷ []) → Awaits table bound base ground ws fs g depth around ks less frames
       → ls ≡ leaves (bind (twoExec (formOf (nodeIn table n .kind)) n w v p) (goOn limit table ks)) ++ others
       → Upper limit table bound base ground ws fs env p v owed frames others ls x y n g 2

@@ -12,7 +12,7 @@ use lib.Seq.{getD-take, length-take-le}
 use borrow.Author.Tests.{lt-ltb, le-ltb}
 use Rattle.script.specs.Flat.{nodesIn}
 use Rattle.script.specs.Flat.Laws.{nodesIn-holds}
-use Rattle.script.specs.Rows.{Row, rowOf, numberUpTo, takesBy, takesIn, takesOf, countBy, operandCount}
+use Rattle.script.specs.Rows.{Row, rowOf, kindCount, numberUpTo, takesBy, takesIn, takesOf, countBy, operandCount}
 use Rattle.script.specs.Rows.Laws.{row-some, row-none}
 use Rattle.script.specs.Table.{unused, nodeAt, fields, rightOperands, rightNode, wellFormed, uses, treeTest, nodesTest}
 use Rattle.script.specs.Code.TableTests.{Lent, rightOperand, rightField, operandsTest, usesTest, depthsTest}
@@ -120,7 +120,7 @@ module _ (kind k o i : ℕ) where
       go none s u = absurd (omega arith)
       go (some r) s u = by (numberUpTo (r .form)) s ∙ sym (rw (lt-ltb k (r .count) (omega arith)) refl)
 
-  pub right-zero : (c : ℕ) → kind < 15 → c ≡ operandCount kind → c ≤ k → eqb o 0 ≡ rightField (rowOf kind) k o i
+  pub right-zero : (c : ℕ) → kind < kindCount → c ≡ operandCount kind → c ≤ k → eqb o 0 ≡ rightField (rowOf kind) k o i
   unfolding rightField operandCount
   right-zero c l f h = go (rowOf kind) refl f
     where
@@ -128,7 +128,7 @@ module _ (kind k o i : ℕ) where
       go none s u = absurd (row-some kind l s)
       go (some r) s u = rw (le-ltb k (r .count) (omega arith)) refl
 
-  pub right-no-kind : 15 ≤ kind → false ≡ rightField (rowOf kind) k o i
+  pub right-no-kind : kindCount ≤ kind → false ≡ rightField (rowOf kind) k o i
   unfolding rightField
   right-no-kind l = rw (row-none kind l) refl
 

@@ -8,7 +8,7 @@ use native.Mathlib.Omega.{arith}
 use lib.Dec.{ltb}
 use lib.ListN.{length, getD, take, drop, length-append}
 use lib.Seq.{drop-cons, getD-take, drop-length, length-take-le}
-use Rattle.script.specs.Rows.{Row, rowOf, countBy, operandCount}
+use Rattle.script.specs.Rows.{Row, rowOf, kindCount, countBy, operandCount}
 use Rattle.script.specs.Rows.Laws.{row-some}
 use Rattle.script.specs.Table.{nodeAt, unused}
 use Rattle.script.specs.declared.Node.{Node}
@@ -34,7 +34,7 @@ node-parts-by none n h m = absurd (h refl)
 node-parts-by (some r) n h m = rw (operands-parts (r .count) (n .a) (n .b) (n .c) (m r refl)) (simp append-assoc)
 
 -- the parts of a node line, where the code knows the operand count as k
-module _ (n : Node) {k : ℕ} (h : n .kind < 15) (e : k ≡ operandCount (n .kind)) where
+module _ (n : Node) {k : ℕ} (h : n .kind < kindCount) (e : k ≡ operandCount (n .kind)) where
   pub node-parts : nodeText n ≡ wordOf (n .kind) ++ operandIf (ltb 0 k) (n .a) ++ operandIf (ltb 1 k) (n .b) ++ operandIf (ltb 2 k) (n .c) ++ (lf ∷ [])
   unfolding nodeText wordOf operandCount
   node-parts = rw e (node-parts-by (rowOf (n .kind)) n (row-some (n .kind) h) (λ r q. row-most (n .kind) r q))

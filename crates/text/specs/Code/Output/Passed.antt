@@ -11,6 +11,7 @@ use lib.ListN.{length, take, length-append}
 use lib.Seq.{getD-take}
 use Rattle.script.specs.Flat.{nodesIn, tableIn}
 use Rattle.script.specs.Flat.Laws.{length-nodesIn}
+use Rattle.script.specs.Rows.{kindCount}
 use Rattle.script.specs.Rows.Laws.{row-kind}
 use Rattle.script.specs.Table.{Table, nodesOf, entriesOf, nodeAt, unused, tableTest}
 use Rattle.script.specs.Table.Laws.{passes, formed-at}
@@ -33,7 +34,7 @@ module _ (xs : List ℕ) (n : ℕ) (es : List ℕ) (m : ℕ) (e : tableTest (tab
   pub nodes-lent : 4 * n ≤ length xs
   nodes-lent = let p = passes (tableIn xs n es m) e in let l = length-nodesIn xs in omega arith
 
-  pub kinds-known : (i : ℕ) → i < n → nodeAt (nodesIn xs) i .kind < 15
+  pub kinds-known : (i : ℕ) → i < n → nodeAt (nodesIn xs) i .kind < kindCount
   kinds-known i h =
       let p = passes (tableIn xs n es m) e in
       let l = p .nodesLength in

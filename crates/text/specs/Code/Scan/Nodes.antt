@@ -9,7 +9,7 @@ use native.Mathlib.Omega.{arith}
 use lib.Dec.{ltb}
 use lib.ListN.{length, drop}
 use borrow.Author.Tests.{ltb-true, ltb-false}
-use Rattle.script.specs.Rows.{Row, rowOf, operandCount, takesIn, takesOf}
+use Rattle.script.specs.Rows.{Row, rowOf, kindCount, operandCount, takesIn, takesOf}
 use Rattle.script.specs.Rows as Rows
 use Rattle.script.specs.Rows.Laws.{row-some}
 use Rattle.script.specs.Table.{nodeOf}
@@ -85,7 +85,7 @@ behind-none : (o : Option (List ℕ)) → behind [] o ≡ o
 behind-none none = refl
 behind-none (some os) = refl
 
-pub node-start : (k at : ℕ) (cs : List ℕ) → k < 15 → nodeAfter k at cs ≡ nodeRest k (largestBy (rowOf k)) [] (operandCount k - 0) at cs
+pub node-start : (k at : ℕ) (cs : List ℕ) → k < kindCount → nodeAfter k at cs ≡ nodeRest k (largestBy (rowOf k)) [] (operandCount k - 0) at cs
 unfolding nodeAfter nodeRest operandCount
 node-start k at cs h = go (rowOf k) refl
   where
@@ -140,7 +140,7 @@ module _ (text : List ℕ) (k start count m : ℕ) where
     pub most : at ≤ length text
     pub ends : fieldEnds (drop at text) ≡ true
 
-  pub reach-start : k < 15 → start ≤ length text → fieldEnds (drop start text) ≡ true → count ≡ operandCount k → m ≡ largestBy (rowOf k) → Reached [] 0 start
+  pub reach-start : k < kindCount → start ≤ length text → fieldEnds (drop start text) ≡ true → count ≡ operandCount k → m ≡ largestBy (rowOf k) → Reached [] 0 start
   reach-start h l f c e = record { same = rw (c, e) (node-start k start (drop start text) h); most = l; ends = f }
 
   module _ {os : List ℕ} {j at : ℕ} (r : Reached os j at) where
