@@ -31,6 +31,7 @@ use rows::mark_all;
 use terms::CONJUNCTION;
 use terms::EXCLUSION;
 use terms::ROWS;
+use terms::RowNumber;
 use truths::all_numbered;
 use truths::begin;
 use truths::evaluate;
@@ -83,9 +84,9 @@ fn search(
 {
     let n = above(condition, guard);
     let mut words = [0u64; ROWS];
-    let mut order = [0u8; ROWS];
+    let mut order: [RowNumber; ROWS] = [0; ROWS];
     let mut numbers = [NONE; ROWS];
-    let mut later = [0u8; ROWS];
+    let mut later: [RowNumber; ROWS] = [0; ROWS];
     let count = list_rows(marks, n, least, &mut order);
     number_atoms(space, &order, count, &mut numbers);
     let more = begin(space, &order, count, &numbers, n, &mut words, &mut later);
@@ -193,7 +194,7 @@ pub fn decide(space: &mut [u32], at: usize, condition: u32, guard: u32) -> Decis
     if space[at] != 1 {
         return decide_anew(space, at, condition, guard);
     }
-    let mut order = [0u8; ROWS];
+    let mut order: [RowNumber; ROWS] = [0; ROWS];
     let mut numbers = [NONE; ROWS];
     let count = list_guard(space, guard as usize, &mut order);
     number_known(space, at, &mut numbers);

@@ -14,6 +14,7 @@ use rows::branches_of;
 use rows::mark_all;
 use terms::FIRST_ATOM;
 use terms::ROWS;
+use terms::RowNumber;
 use terms::row_at;
 use truths::begin;
 use truths::evaluate;
@@ -124,7 +125,7 @@ pub fn keep(space: &mut [u32], at: usize, marks: &[u8], n: usize, blocks: u32, t
 }
 
 // The rows that the guard reaches, in order. Answers how many.
-pub fn list_guard(space: &[u32], guard: usize, order: &mut [u8]) -> usize
+pub fn list_guard(space: &[u32], guard: usize, order: &mut [RowNumber]) -> usize
     requires { ⌜ (rowsEnd ≤ length (now space)) × (guard < rowLimit) ⌝ }
     requires { ⌜ rowLimit ≤ length (now order) ⌝ }
     ensures { λ r. ⌜ GuardListed (now (space .entry)) guard (now (order .entry)) r (now (order .exit)) ⌝ }
@@ -138,7 +139,7 @@ pub fn list_guard(space: &[u32], guard: usize, order: &mut [u8]) -> usize
 // The truths of the guard, where the condition has the truths c: 0 if that has none.
 fn guarded_word(
     space: &[u32],
-    order: &[u8],
+    order: &[RowNumber],
     count: usize,
     numbers: &[u8],
     block: u32,
@@ -163,7 +164,7 @@ fn guarded_word(
 pub fn compare(
     space: &[u32],
     at: usize,
-    order: &[u8],
+    order: &[RowNumber],
     count: usize,
     numbers: &[u8],
     guard: usize,
@@ -172,7 +173,7 @@ pub fn compare(
     ensures { λ r. ⌜ r ≡ compared (now (space .entry)) at (now (numbers .entry)) guard ⌝ }
 {
     let mut words = [0u64; ROWS];
-    let mut later = [0u8; ROWS];
+    let mut later: [RowNumber; ROWS] = [0; ROWS];
     let more = begin(
         space,
         order,

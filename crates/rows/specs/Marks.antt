@@ -2,7 +2,7 @@
 use mathlib.Core.Bool.{Bool, true, false}
 use mathlib.Core.List.{List}
 use mathlib.Core.Logic.{_⊎_, inl, inr}
-use mathlib.Core.Path.{_≡_, refl, sym, _∙_}
+use mathlib.Core.Path.{_≡_, refl, sym, subst, _∙_}
 use Prim.Native.Nat.{ℕ, zero, suc, _%_, _≤_, _<_}
 use borrow.Author.Tests.{ltb-false, leb-false, eqb-false, ne-eqb, le-ltb, lt-leb}
 use native.Mathlib.Decide.{ℕ-discrete}
@@ -327,6 +327,9 @@ module _ (c g : ℕ) where
   pub start-length : length (startMarks c g) ≡ rowLimit
   start-length = length-set (firstMark c) g _ ∙ one-length
 
+  marked-twice : (ms : List ℕ) (i j : ℕ) → i ≡ j → i < length ms → getD (set ms j (bitOr (getD ms j 0) 2)) i 0 ≡ bitOr (getD ms i 0) 2
+  marked-twice ms i j e h = rw (sym e) (getD-set-same ms i (bitOr (getD ms i 0) 2) 0 h)
+
   -- what the two marks say
   module _ {P : ℕ → Type 0} (kept : Kept P) where
     pub start-first : c < rowLimit → P 1 → P (getD (startMarks c g) c 0)
@@ -336,10 +339,7 @@ module _ (c g : ℕ) where
         first = let l = length-replicate {A = ℕ} rowLimit 0 in rw (getD-set-same {A = ℕ} (replicate rowLimit 0) c 1 0 (omega arith)) p
 
         go : Dec (c ≡ g) → P (getD (startMarks c g) c 0)
-        go (yes q) =
-            let l = one-length in
-            rw (sym q, getD-set-same (firstMark c) c (bitOr (getD (firstMark c) c 0) 2) 0 (omega arith))
-            (kept .first (getD (firstMark c) c 0) 2 first)
+        go (yes q) = let l = one-length in subst P (sym (marked-twice (firstMark c) c g q (omega arith))) (kept .first (getD (firstMark c) c 0) 2 first)
         go (no q) = rw (getD-set-other (firstMark c) g c (bitOr (getD (firstMark c) g 0) 2) 0 q) first
 
     pub start-second : g < rowLimit → P 2 → P (getD (startMarks c g) g 0)

@@ -28,6 +28,9 @@ pub const ROWS_A_NODE: usize = 1;
 // `VARIABLES`, and a node makes as many rows as a variable or more.
 pub const ROWS: usize = 1 + Script::ENTRIES + ROWS_A_NODE * Script::NODES;
 
+// The number of a row where many are listed: below `ROWS`.
+pub type RowNumber = u8;
+
 // Where the rows end.
 pub const END: usize = FIRST + 3 * ROWS;
 

@@ -14,13 +14,14 @@ use terms::FIRST_ATOM;
 use terms::NEGATION;
 use terms::ROWS;
 use terms::Row;
+use terms::RowNumber;
 use terms::row_at;
 
 // The atoms with lower numbers have the same truths in every block.
 const STEADY: u8 = 6;
 
 // Row i comes next, if it has at least the mark. Answers how many rows there are then.
-fn list_row(marks: &[u8], least: u8, order: &mut [u8], i: usize, count: usize) -> usize
+fn list_row(marks: &[u8], least: u8, order: &mut [RowNumber], i: usize, count: usize) -> usize
     requires { ⌜ i < length (now marks) ⌝ }
     requires { ⌜ i < rowLimit ⌝ }
     requires { ⌜ count < length (now order) ⌝ }
@@ -30,12 +31,12 @@ fn list_row(marks: &[u8], least: u8, order: &mut [u8], i: usize, count: usize) -
     if marks[i] < least {
         return count;
     }
-    order[count] = i as u8;
+    order[count] = i as RowNumber;
     count + 1
 }
 
 // The rows below n that have at least the mark. Answers how many.
-pub fn list_rows(marks: &[u8], n: usize, least: u8, order: &mut [u8]) -> usize
+pub fn list_rows(marks: &[u8], n: usize, least: u8, order: &mut [RowNumber]) -> usize
     requires { ⌜ Listable (now marks) n (now order) ⌝ }
     ensures { λ r. ⌜ Lists (now (marks .entry)) n least (now (order .entry)) r (now (order .exit)) ⌝ }
 {
@@ -63,7 +64,7 @@ fn number_row(space: &[u32], numbers: &mut [u8], i: usize, seen: u8) -> u8
 }
 
 // The atoms among the rows get numbers from 0 on.
-pub fn number_atoms(space: &[u32], order: &[u8], count: usize, numbers: &mut [u8])
+pub fn number_atoms(space: &[u32], order: &[RowNumber], count: usize, numbers: &mut [u8])
     requires { ⌜ Rows (now space) (now order) count ⌝ }
     requires { ⌜ rowLimit ≤ length (now numbers) ⌝ }
     ensures { λ _. ⌜ now (numbers .exit) ≡ numbersTo (now (space .entry)) (now (order .entry)) (now (numbers .entry)) count ⌝ }
@@ -89,7 +90,7 @@ fn is_numbered(space: &[u32], numbers: &[u8], i: usize) -> bool
 }
 
 // Every atom among the rows has a number.
-pub fn all_numbered(space: &[u32], order: &[u8], count: usize, numbers: &[u8]) -> bool
+pub fn all_numbered(space: &[u32], order: &[RowNumber], count: usize, numbers: &[u8]) -> bool
     requires { ⌜ Rows (now space) (now order) count ⌝ }
     requires { ⌜ rowLimit ≤ length (now numbers) ⌝ }
     ensures { λ r. ⌜ r ≡ numberedTo (now (space .entry)) (now (order .entry)) (now (numbers .entry)) count ⌝ }
@@ -190,7 +191,7 @@ fn evaluate_row(space: &[u32], numbers: &[u8], block: u32, words: &mut [u64], i:
 // The truths of the rows, under the assignments of one block.
 pub fn evaluate(
     space: &[u32],
-    order: &[u8],
+    order: &[RowNumber],
     count: usize,
     numbers: &[u8],
     block: u32,
@@ -248,7 +249,13 @@ fn change_row(space: &[u32], numbers: &[u8], changes: &mut [u8], i: usize)
 }
 
 // Whether the truths of each row may.
-fn mark_changes(space: &[u32], order: &[u8], count: usize, numbers: &[u8], changes: &mut [u8])
+fn mark_changes(
+    space: &[u32],
+    order: &[RowNumber],
+    count: usize,
+    numbers: &[u8],
+    changes: &mut [u8],
+)
     requires { ⌜ Rows (now space) (now order) count ⌝ }
     requires { ⌜ (rowLimit ≤ length (now numbers)) × (rowLimit ≤ length (now changes)) ⌝ }
     ensures { λ _. ⌜ now (changes .exit) ≡ changedTo (now (space .entry)) (now (order .entry)) (now (numbers .entry)) (now (changes .entry)) count ⌝ }
@@ -263,12 +270,12 @@ fn mark_changes(space: &[u32], order: &[u8], count: usize, numbers: &[u8], chang
 // The truths of the rows under the first block's assignments; and those of the rows below n whose truths may differ in another. Answers how many.
 pub fn begin(
     space: &[u32],
-    order: &[u8],
+    order: &[RowNumber],
     count: usize,
     numbers: &[u8],
     n: usize,
     words: &mut [u64],
-    later: &mut [u8],
+    later: &mut [RowNumber],
 ) -> usize
     requires { ⌜ Rows (now space) (now order) count ⌝ }
     requires { ⌜ (rowLimit ≤ length (now numbers)) × (rowLimit ≤ length (now words)) ⌝ }

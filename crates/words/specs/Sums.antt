@@ -15,7 +15,7 @@ use Rattle.terms.specs.declared.Row.{Row}
 
 -- the constant and the coefficients
 abbrev pub placeCount : ℕ
-placeCount = 145
+placeCount = 1 + symbolLimit
 
 -- v more at a place
 abbrev pub added : List ℕ → ℕ → ℕ → List ℕ

@@ -2,7 +2,7 @@
 use mathlib.Core.Bool.{Bool, true, false, false≢true}
 use mathlib.Core.List.{List}
 use mathlib.Core.Logic.{_⊎_, inl, inr}
-use mathlib.Core.Path.{_≡_, refl, sym, _∙_}
+use mathlib.Core.Path.{_≡_, refl, sym, ap₂, _∙_}
 use Prim.Native.Nat.{ℕ, _<_}
 use native.Mathlib.Omega.{arith}
 use lib.Dec.{eqb}
@@ -67,7 +67,8 @@ module _ {ws : List ℕ} (s : Space ws 1) (d : Distinct ws) {p q : ℕ} {x y : S
           let left-p : p ≡ j = sym (pushed-a s ofDifference p q) ∙ f in
           let left-q : q ≡ o = sym (pushed-b s ofDifference p q) ∙ g in
           let grown = pushed-grown s ofDifference p q in
-          false≢true (sym (none i m) ∙ rw (left-p, left-q) (again k (omega arith) (sum-from grown t (omega arith)) (sum-from grown z (omega arith)) (omega arith) (omega arith) same))
+          let found = again k (omega arith) (sum-from grown t (omega arith)) (sum-from grown z (omega arith)) (omega arith) (omega arith) same in
+          false≢true (sym (none i m) ∙ ap₂ (λ (a b : ℕ). isFound ws (numbersOf ws a b) i) left-p left-q ∙ found)
 
   made-atom : (r : ℕ) (left : List ℕ) → r ≡ differenceRowOf ws (numbersOf ws p q) → left ≡ differenceLeft ws (numbersOf ws p q) p q
       → Made ws left r (atom (difference (minus x y)))
