@@ -4,7 +4,7 @@ ghost use mathlib.Core.Path.{_≡_};
 ghost use Prim.Native.Nat.{_-_, _*_, _≤_};
 ghost use lib.Dec.{ltb};
 ghost use lib.ListN.{length, take, replicate};
-ghost use Rattle.script.specs.Flat.{nodesIn};
+ghost use Rattle.script.specs.Flat.{nodeWidth, nodesIn};
 ghost use Rattle.script.specs.Limits.{nodeLimit, entryLimit, byteLimit};
 ghost use Rattle.script.specs.Table.{treeTest};
 ghost use Rattle.script.specs.Flat.{FormedNodes};
@@ -25,6 +25,7 @@ use script::Script;
 use script::Sized;
 use script::table::FALSE;
 use script::table::Tested;
+use script::table::WIDTH;
 use table::put_node;
 use table::well_formed;
 use tests::test_tree;
@@ -53,7 +54,7 @@ fn take_entry(entries: &mut [u32], script: Script, t: u32, next: usize, i: u32) 
 
 // Line i is a node.
 fn take_node(table: &mut [u32], script: Script, n: Node, next: usize, i: u32) -> Step
-    requires { ⌜ 4 * nodeLimit ≤ length (now table) ⌝ }
+    requires { ⌜ nodeWidth * nodeLimit ≤ length (now table) ⌝ }
     ensures { λ r. ⌜ (r ≡ nodeStep script n next i) × (now (table .exit) ≡ nodeStored script n (now (table .entry))) ⌝ }
 {
     match script.with_node() {
@@ -109,7 +110,7 @@ fn at_end(table: &[u32], script: Script) -> Reading
 // All lines, in one pass.
 fn read_lines(text: &[u8], table: &mut [u32], entries: &mut [u32]) -> Reading
     requires { ⌜ length (now text) ≤ byteLimit ⌝ }
-    requires { ⌜ 4 * nodeLimit ≤ length (now table) ⌝ }
+    requires { ⌜ nodeWidth * nodeLimit ≤ length (now table) ⌝ }
     requires { ⌜ entryLimit ≤ length (now entries) ⌝ }
     ensures { λ r. ⌜ Holds (linesFrom 0 [] [] (parts lf (now (text .entry)))) (now (table .entry)) (now (entries .entry)) r (now (table .exit)) (now (entries .exit)) ⌝ }
 {
@@ -135,7 +136,7 @@ fn read_lines(text: &[u8], table: &mut [u32], entries: &mut [u32]) -> Reading
 fn read_text(text: &[u8], table: &mut [u32], entries: &mut [u32]) -> Reading
     ensures { λ r. ⌜ Holds (tried (now (text .entry)) (length (nodesIn (now (table .entry)))) (length (now (entries .entry)))) (now (table .entry)) (now (entries .entry)) r (now (table .exit)) (now (entries .exit)) ⌝ }
 {
-    if table.len() / 4 < Script::NODES {
+    if table.len() / WIDTH < Script::NODES {
         return Reading::Refused(Refusal::TableTooSmall);
     }
     if entries.len() < Script::ENTRIES {
@@ -152,7 +153,7 @@ fn clear_nodes(table: &mut [u32], from: usize)
     requires { ⌜ from ≤ length (nodesIn (now table)) ⌝ }
     ensures { λ _. ⌜ Cleared from (now (table .entry)) (now (table .exit)) ⌝ }
 {
-    let n = table.len() / 4;
+    let n = table.len() / WIDTH;
     let mut i = from;
     while i < n {
         put_node(

@@ -5,6 +5,7 @@ use native.Mathlib.Omega.{arith}
 use native.Mathlib.Numerals.{add-one}
 use lib.ListN.{length}
 use Rattle.script.specs.Flat.Laws.{length-nodesIn}
+use Rattle.script.specs.Flat.{nodeWidth}
 use Rattle.text.specs.Code.Steps.Clearing.{Clearing, clear-start, clear-room, clear-next, clear-end}
 use Rattle.reader.proofs.clear_nodes.Statement.{statement}
 use Rattle.reader.proofs.clear_nodes.Tie as tie
@@ -13,7 +14,7 @@ abbrev Inv-loop : tie.InvT-loop
 Inv-loop table₀ from n i₀ table i = Clearing from table₀ table i
 
 abbrev μ-loop : tie.MeasureT-loop
-μ-loop table₀ from n i₀ table i = length table₀ / 4 - i
+μ-loop table₀ from n i₀ table i = length table₀ / nodeWidth - i
 
 loop-holds : tie.Need-loop-holds Inv-loop μ-loop
 loop-holds c = let a = c .before .args in clear-start (a .from) (a .table .now) (c .before .pre)

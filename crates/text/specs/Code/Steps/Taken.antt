@@ -10,7 +10,7 @@ use lib.Dec.{ltb, eqb}
 use lib.ListN.{length, take, drop, set, length-drop, length-set, length-append}
 use lib.Seq.{sets, length-sets, length-take-le, take-suc-set, drop-set-lt}
 use borrow.Author.Tests.{eqb-true, eqb-false, ltb-true}
-use Rattle.script.specs.Flat.{nodesIn}
+use Rattle.script.specs.Flat.{numbersOf, nodeWidth, nodesIn, HasNode}
 use Rattle.script.specs.Flat.Laws.{length-nodesIn, nodesIn-sets}
 use Rattle.script.specs.Limits.{nodeLimit, entryLimit, sizeOf, pickSized}
 use Rattle.script.specs.Rows.{rowOf}
@@ -179,10 +179,10 @@ module _ (text : List ℕ) (at i : ℕ) (s : Script) (xs es : List ℕ) (k : Kep
   node-admitted n (m ∷ ns) h = rw (← h) refl
 
   abbrev stored : Node → List ℕ
-  stored n = sets xs (4 * s .nodes) (n .kind ∷ n .a ∷ n .b ∷ n .c ∷ [])
+  stored n = sets xs (nodeWidth * s .nodes) (numbersOf n)
 
   module _ (n : Node) (m : s .nodes < nodeLimit) where
-    room : 4 * s .nodes + 3 < length xs
+    room : HasNode xs (s .nodes)
     room = let a = k .lent-nodes in omega arith
 
     nodes-stored : take (s .nodes + 1) (nodesIn (stored n)) ≡ nodesBy s xs ++ (n ∷ [])
@@ -196,9 +196,9 @@ module _ (text : List ℕ) (at i : ℕ) (s : Script) (xs es : List ℕ) (k : Kep
         let l = length-nodesIn xs in
         let a = k .lent-nodes in
         record {
-          table-length = length-sets xs (4 * s .nodes) (n .kind ∷ n .a ∷ n .b ∷ n .c ∷ []);
+          table-length = length-sets xs (nodeWidth * s .nodes) (numbersOf n);
           entries-length = refl;
-          rest = drop-sets (4 * length (nodesIn xs)) (n .kind ∷ n .a ∷ n .b ∷ n .c ∷ []) xs (4 * s .nodes) (omega arith);
+          rest = drop-sets (nodeWidth * length (nodesIn xs)) (numbersOf n) xs (nodeWidth * s .nodes) (omega arith);
         }
 
     formed-more : rightNode (rowOf (n .kind)) (s .nodes) n ≡ true → (j : ℕ) → j < s .nodes + 1 → wellFormed (nodesBy s xs ++ (n ∷ [])) j ≡ true

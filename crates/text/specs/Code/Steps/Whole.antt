@@ -6,7 +6,7 @@ use native.Mathlib.Omega.{arith}
 use lib.ListN.{length, take, drop, replicate, length-append, length-replicate, take-append-drop}
 use lib.Seq.{length-take-le, take-length}
 use borrow.Author.Tests.{le-leb, lt-leb}
-use Rattle.script.specs.Flat.{flat, nodesIn}
+use Rattle.script.specs.Flat.{nodeWidth, flat, nodesIn}
 use Rattle.script.specs.Flat.Laws.{length-nodesIn, flat-nodesIn, enough-nodes}
 use Rattle.script.specs.Limits.{nodeLimit, entryLimit, byteLimit}
 use Rattle.script.specs.Table.{unused}
@@ -29,12 +29,12 @@ module _ (text xs es : List ℕ) where
   abbrev triedIn : Meaning
   triedIn = tried text (length (nodesIn xs)) (length es)
 
-  pub few-nodes : length xs / 4 < nodeLimit → triedIn ≡ refused TableTooSmall
+  pub few-nodes : length xs / nodeWidth < nodeLimit → triedIn ≡ refused TableTooSmall
   few-nodes h =
       let l = length-nodesIn xs in
       rw (lt-leb nodeLimit (length (nodesIn xs)) (omega arith)) refl
 
-  module _ (h : nodeLimit ≤ length xs / 4) where
+  module _ (h : nodeLimit ≤ length xs / nodeWidth) where
     pub few-entries : length es < entryLimit → triedIn ≡ refused TableTooSmall
     few-entries l = rw (enough-nodes xs h, lt-leb entryLimit (length es) l) refl
 
@@ -70,15 +70,15 @@ module _ {m : Meaning} {xs es : List ℕ} {r : Reading} {xs₁ es₁ : List ℕ}
         let l : length (nodesRead m) ≡ usedNodes r = sym (ap length (h .nodes-are)) ∙ length-take-le (usedNodes r) (nodesIn xs₁) (h .nodes-room) in
         c .nodes-are ∙ rw (h .nodes-are, l, same-count) refl
 
-    rest-left : drop (4 * length (nodesIn xs)) xs₂ ≡ drop (4 * length (nodesIn xs)) xs
+    rest-left : drop (nodeWidth * length (nodesIn xs)) xs₂ ≡ drop (nodeWidth * length (nodesIn xs)) xs
     rest-left = rw same-count at (c .rest) ∙ h .framed .rest
 
-    table-left : xs₂ ≡ flat (filled (nodesRead m) (length (nodesIn xs)) unused) ++ drop (4 * length (nodesIn xs)) xs
+    table-left : xs₂ ≡ flat (filled (nodesRead m) (length (nodesIn xs)) unused) ++ drop (nodeWidth * length (nodesIn xs)) xs
     table-left =
         let n = length-nodesIn xs₂ in
         let f = flat-nodesIn xs₂ (length (nodesIn xs₂)) (omega arith) in
-        let g : flat (nodesIn xs₂) ≡ take (4 * length (nodesIn xs)) xs₂ = rw (take-length (nodesIn xs₂)) at f ∙ rw last-count refl in
-        sym (rw (← nodes-left, g, ← rest-left) (take-append-drop (4 * length (nodesIn xs)) xs₂))
+        let g : flat (nodesIn xs₂) ≡ take (nodeWidth * length (nodesIn xs)) xs₂ = rw (take-length (nodesIn xs₂)) at f ∙ rw last-count refl in
+        sym (rw (← nodes-left, g, ← rest-left) (take-append-drop (nodeWidth * length (nodesIn xs)) xs₂))
 
 pub left-so : (text xs es : List ℕ) {r : Reading} {xs₁ es₁ xs₂ es₂ : List ℕ} → Holds (tried text (length (nodesIn xs)) (length es)) xs es r xs₁ es₁ → Cleared (usedNodes r) xs₁ xs₂
     → es₂ ≡ take (usedEntries r) es₁ ++ replicate (length es₁ - usedEntries r) 0 → leaves r xs₂ es₂ ≡ readingIn text xs es
