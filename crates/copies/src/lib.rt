@@ -6,10 +6,10 @@ ghost use Rattle.script.specs.Flat.{nodesIn};
 ghost use Rattle.script.specs.Table.{nodeAt};
 ghost use Rattle.copies.specs.Copies.{CopiedOut, places};
 use script::Node;
-use script::table::FALSE;
 use script::table::WIDTH;
 use table::node_at;
 use table::put_node;
+use table::unused;
 
 // The record at place i.
 pub fn record_at(table: &[Node], i: usize) -> Node
@@ -44,12 +44,7 @@ fn place_at(flat: &[u32], i: usize) -> Node
     if i < flat.len() / WIDTH {
         return node_at(flat, i);
     }
-    Node {
-        kind: FALSE,
-        a: 0,
-        b: 0,
-        c: 0,
-    }
+    unused()
 }
 
 // Copies the records to flat form, as many as there is room for, and says how many.

@@ -1,4 +1,4 @@
-// A table in its flat form: the operand counts of the kinds, a well-formed node, and the one door to a node.
+// A table in its flat form: the operand counts of the kinds, a well-formed node, the unused node, and the one door to a node.
 ghost use mathlib.Core.Path.{_≡_};
 ghost use Prim.Native.Nat.{_*_};
 ghost use lib.Dec.{eqb};
@@ -6,10 +6,14 @@ ghost use lib.ListN.{getD};
 ghost use lib.Seq.{sets};
 ghost use Rattle.script.specs.Flat.{numbersOf, nodeWidth, nodesIn, HasNode};
 ghost use Rattle.script.specs.Rows.{rowOf, operandCount, takesOf, nodeOperands};
-ghost use Rattle.script.specs.Table.{nodeAt, fields, rightNode, isSymNode};
+ghost use Rattle.script.specs.Table.{unused, nodeAt, fields, rightNode, isSymNode};
 ghost use Rattle.script.specs.Code.TableTests.{rightField};
+
+pub mod clearing;
+
 use script::Node;
 use script::Script;
+use script::table::FALSE;
 use script::table::GET;
 use script::table::INT;
 use script::table::KINDS;
@@ -117,6 +121,18 @@ pub fn well_formed(n: Node, i: usize) -> bool
         }
     }
     false
+}
+
+// The node that an unused place holds: `false`.
+pub fn unused() -> Node
+    ensures { λ r. ⌜ r ≡ unused ⌝ }
+{
+    Node {
+        kind: FALSE,
+        a: 0,
+        b: 0,
+        c: 0,
+    }
 }
 
 // The node at place i of a table.

@@ -2,12 +2,12 @@
 -- Assumes nothing.
 use mathlib.Core.Bool.{true}
 use mathlib.Core.List.{List, [], _∷_, _++_}
-use mathlib.Core.Path.{_≡_, refl, sym, ap}
+use mathlib.Core.Path.{_≡_, refl, sym, ap, _∙_}
 use Prim.Native.Nat.{ℕ, zero, suc, _+_, _*_, _/_, _≤_, _<_}
 use native.Mathlib.Omega.{arith}
 use lib.Dec.{leb}
 use lib.ListN.{length, getD, take, drop, set}
-use lib.Seq.{sets}
+use lib.Seq.{sets, drop-set-lt}
 use borrow.Author.Tests.{le-leb}
 use Rattle.script.specs.Flat.{numbersOf, nodeWidth, flat, nodesIn, HasNode}
 use Rattle.script.specs.Limits.{nodeLimit}
@@ -105,6 +105,11 @@ pub stores-sets : (xs : List ℕ) (i : ℕ) (n : Node)
     → set (set (set (set xs (nodeWidth * i) (n .kind)) (nodeWidth * i + 1) (n .a)) (nodeWidth * i + 2) (n .b)) (nodeWidth * i + 3) (n .c)
     ≡ sets xs (nodeWidth * i) (numbersOf n)
 stores-sets xs i n = rw (place-1 i, place-2 i, place-3 i, place-0 i) refl
+
+-- stores before a place change nothing from there on
+pub drop-sets : (n : ℕ) (vs l : List ℕ) (i : ℕ) → i + length vs ≤ n → drop n (sets l i vs) ≡ drop n l
+drop-sets n [] l i h = refl
+drop-sets n (v ∷ vs) l i h = drop-sets n vs (set l i v) (suc i) (omega arith) ∙ drop-set-lt n l i v (omega arith)
 
 -- ---- there and back
 

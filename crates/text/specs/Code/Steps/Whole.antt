@@ -3,9 +3,10 @@ use mathlib.Core.List.{List, [], _++_}
 use mathlib.Core.Path.{_≡_, refl, sym, ap, _∙_}
 use Prim.Native.Nat.{ℕ, _-_, _*_, _/_, _≤_, _<_}
 use native.Mathlib.Omega.{arith}
-use lib.ListN.{length, take, drop, replicate, length-append, length-replicate, take-append-drop}
+use lib.ListN.{length, take, drop, replicate, take-append-drop}
 use lib.Seq.{length-take-le, take-length}
 use borrow.Author.Tests.{le-leb, lt-leb}
+use Rattle.script.specs.Code.Clearing.{Cleared}
 use Rattle.script.specs.Flat.{nodeWidth, flat, nodesIn}
 use Rattle.script.specs.Flat.Laws.{length-nodesIn, flat-nodesIn, enough-nodes}
 use Rattle.script.specs.Limits.{nodeLimit, entryLimit, byteLimit}
@@ -16,7 +17,7 @@ use Rattle.script.specs.declared.Refusal.the-variants.{TextTooLong, TableTooSma
 use Rattle.text.specs.Bytes.{lf}
 use Rattle.text.specs.Grammar.{Meaning, refused, linesFrom, parts, meaningOf}
 use Rattle.text.specs.Reading.{nodesRead, entriesRead, filled, tried, reading, leaves, readingIn}
-use Rattle.text.specs.Code.Steps.{usedNodes, usedEntries, Holds, Cleared}
+use Rattle.text.specs.Code.Steps.{usedNodes, usedEntries, Holds}
 use Rattle.text.specs.Code.Steps.Taken.{same-frame}
 
 -- ---- 32 and 31
@@ -48,9 +49,6 @@ module _ (text xs es : List ℕ) where
       not-too-long b = rw (enough-nodes xs h, le-leb entryLimit (length es) l, le-leb (length text) byteLimit b) refl
 
 -- ---- every lent number
-
-pub length-filled : (es : List ℕ) (n : ℕ) → n ≤ length es → length (take n es ++ replicate (length es - n) 0) ≡ length es
-length-filled es n h = length-append (take n es) (replicate (length es - n) 0) ∙ rw (length-take-le n es h, length-replicate {A = ℕ} (length es - n) 0) (omega arith)
 
 module _ {m : Meaning} {xs es : List ℕ} {r : Reading} {xs₁ es₁ : List ℕ} (h : Holds m xs es r xs₁ es₁) where
   entries-left : {es₂ : List ℕ} → es₂ ≡ take (usedEntries r) es₁ ++ replicate (length es₁ - usedEntries r) 0 → es₂ ≡ filled (entriesRead m) (length es) 0

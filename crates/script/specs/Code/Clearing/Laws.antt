@@ -1,15 +1,14 @@
--- The unused places, one at a time. Assumes nothing.
-use mathlib.Core.List.{List, [], _∷_, _++_, append-assoc, append-nil}
+-- The clearing of unused places, one at a time. Assumes nothing.
+use mathlib.Core.List.{List, _∷_, _++_, append-assoc, append-nil}
 use mathlib.Core.Path.{_≡_, refl, sym, ap, _∙_}
 use Prim.Native.Nat.{ℕ, zero, suc, _+_, _-_, _*_, _≤_, _<_}
 use native.Mathlib.Omega.{arith}
 use lib.ListN.{length, take, drop, set, replicate, length-append, length-replicate, take-append-drop}
 use lib.Seq.{sets, length-sets, length-take-le, drop-cons, drop-length, set-at}
 use Rattle.script.specs.Flat.{numbersOf, nodeWidth, nodesIn, HasNode}
-use Rattle.script.specs.Flat.Laws.{length-nodesIn, nodesIn-sets}
+use Rattle.script.specs.Flat.Laws.{length-nodesIn, nodesIn-sets, drop-sets}
 use Rattle.script.specs.Table.{unused}
-use Rattle.text.specs.Code.Steps.{Cleared}
-use Rattle.text.specs.Code.Steps.Taken.{drop-sets}
+use Rattle.script.specs.Code.Clearing.{Cleared}
 
 -- ---- a list of anything
 
@@ -39,6 +38,11 @@ module _ {A : Type 0} (v : A) (xs : List A) (from : ℕ) where
 
   pub fill-end : filledTo (length xs) ≡ take from xs ++ replicate (length xs - from) v
   fill-end = rw (drop-length xs, append-nil (take from xs ++ replicate (length xs - from) v)) refl
+
+-- entries that are cleared from n on are as many as before
+pub length-filled : (es : List ℕ) (n : ℕ) → n ≤ length es → length (take n es ++ replicate (length es - n) 0) ≡ length es
+length-filled es n h =
+    length-append (take n es) (replicate (length es - n) 0) ∙ rw (length-take-le n es h, length-replicate {A = ℕ} (length es - n) 0) (omega arith)
 
 -- ---- the nodes of a table
 
