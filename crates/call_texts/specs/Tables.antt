@@ -4,6 +4,7 @@ use mathlib.Core.List.{List}
 use mathlib.Core.Path.{_≡_}
 use Prim.Native.Nat.{ℕ, _/_, min}
 use lib.ListN.{length}
+use Rattle.script.specs.Flat.{nodeWidth}
 use Rattle.script.specs.Table.{Table}
 use Rattle.script.specs.declared.Reading.{Reading}
 use Rattle.text.specs.Reading.{reading}
@@ -20,5 +21,5 @@ tableAs xs nodes es entries = tableOf (places placeCount xs) nodes es entries
 -- after a reading: the places, as far as the numbers xs have room for them, and the m entries
 pub record ReadBack (text xs : List ℕ) (m : ℕ) (r : Reading) (left es : List ℕ) : Type 0 where
   pub answer-is : r ≡ reading text placeCount m .answer
-  pub nodes-are : left ≡ copied (reading text placeCount m .lentNodes) (min placeCount (length xs / 4)) xs
+  pub nodes-are : left ≡ copied (reading text placeCount m .lentNodes) (min placeCount (length xs / nodeWidth)) xs
   pub entries-are : es ≡ reading text placeCount m .lentEntries

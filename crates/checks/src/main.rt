@@ -9,6 +9,7 @@
 // Its line has fields parted by tabs: the name, then `accepted` and the letters of the type, or `refused`, number, and place or `-`.
 use script::Reading;
 use script::Script;
+use script::table::WIDTH;
 use trial::name_end;
 use trial::say;
 use trial::say_checked;
@@ -17,7 +18,7 @@ use trial::text_end;
 
 // Reads a text, checks it if it could be read, and prints what came of it. The line is left open.
 fn try_text(text: &[u8]) {
-    let mut table = [0u32; 4 * Script::NODES];
+    let mut table = [0u32; WIDTH * Script::NODES];
     let mut entries = [0u32; Script::ENTRIES];
     match call_texts::read(text, &mut table, &mut entries) {
         Reading::Read(script) => {

@@ -3,7 +3,8 @@ use mathlib.Core.List.{List, _++_}
 use mathlib.Core.Path.{_≡_}
 use Prim.Native.Nat.{ℕ, _*_, _/_, min}
 use lib.ListN.{length, take, drop}
-use Rattle.script.specs.Flat.{flat, nodesIn}
+use Rattle.script.specs.Flat.{nodeWidth, flat, nodesIn}
+use Rattle.script.specs.Limits.{nodeLimit}
 use Rattle.script.specs.Table.{Table, unused}
 use Rattle.script.specs.declared.Node.{Node}
 use Rattle.text.specs.Reading.{filled}
@@ -14,13 +15,17 @@ pub mod Laws
 abbrev pub tableOf : List Node → ℕ → List ℕ → ℕ → Table
 tableOf ns nodes es entries = record { lentNodes = ns; nodeCount = nodes; lentEntries = es; entryCount = entries }
 
+-- a call makes room for the numbers of as many nodes as a script can have
+abbrev pub flatSize : ℕ
+flatSize = nodeWidth * nodeLimit
+
 -- the numbers xs with the first n nodes in front
 abbrev pub copied : List Node → ℕ → List ℕ → List ℕ
-copied ns n xs = flat (take n ns) ++ drop (4 * n) xs
+copied ns n xs = flat (take n ns) ++ drop (nodeWidth * n) xs
 
 -- as many nodes are copied as there are and as there is room for
 abbrev pub CopiedOut : List Node → List ℕ → ℕ → List ℕ → Type 0
-CopiedOut ns xs r left = (r ≡ min (length ns) (length xs / 4)) × (left ≡ copied ns r xs)
+CopiedOut ns xs r left = (r ≡ min (length ns) (length xs / nodeWidth)) × (left ≡ copied ns r xs)
 
 -- n places: the nodes in xs, and `false` in those that xs has no node for
 abbrev pub places : ℕ → List ℕ → List Node

@@ -6,9 +6,10 @@ ghost use Rattle.script.specs.Flat.{nodesIn};
 ghost use Rattle.script.specs.Table.{nodeAt};
 ghost use Rattle.copies.specs.Copies.{CopiedOut, places};
 use script::Node;
-use script::table::FALSE;
+use script::table::WIDTH;
 use table::node_at;
 use table::put_node;
+use table::unused;
 
 // The record at place i.
 pub fn record_at(table: &[Node], i: usize) -> Node
@@ -40,22 +41,17 @@ pub fn lesser(a: usize, b: usize) -> usize
 fn place_at(flat: &[u32], i: usize) -> Node
     ensures { λ r. ⌜ r ≡ nodeAt (nodesIn (now (flat .entry))) i ⌝ }
 {
-    if i < flat.len() / 4 {
+    if i < flat.len() / WIDTH {
         return node_at(flat, i);
     }
-    Node {
-        kind: FALSE,
-        a: 0,
-        b: 0,
-        c: 0,
-    }
+    unused()
 }
 
 // Copies the records to flat form, as many as there is room for, and says how many.
 pub fn copy_out(table: &[Node], flat: &mut [u32]) -> usize
     ensures { λ r. ⌜ CopiedOut (now (table .entry)) (now (flat .entry)) r (now (flat .exit)) ⌝ }
 {
-    let n = lesser(table.len(), flat.len() / 4);
+    let n = lesser(table.len(), flat.len() / WIDTH);
     let mut i = 0;
     while i < n {
         put_node(flat, i, record_at(table, i));

@@ -9,12 +9,13 @@ use script::Checked;
 use script::Ran;
 use script::Reading;
 use script::Script;
+use script::table::WIDTH;
 
 // Reads a text and checks it: accepted with its type, or why not.
 pub fn check_text(text: &[u8]) -> Checked
     ensures { λ r. ⌜ r ≡ checkText (now (text .entry)) ⌝ }
 {
-    let mut table = [0u32; 4 * Script::NODES];
+    let mut table = [0u32; WIDTH * Script::NODES];
     let mut entries = [0u32; Script::ENTRIES];
     match reader::read(text, &mut table, &mut entries) {
         Reading::Read(script) => {
@@ -30,7 +31,7 @@ pub fn check_text(text: &[u8]) -> Checked
 pub fn run_text(text: &[u8], values: &[u8], cells: &mut [u8], used: u32) -> Ran
     ensures { λ r. ⌜ RanTo (runText (now (text .entry)) (now (values .entry)) (now (cells .entry)) used) r (now (cells .exit)) ⌝ }
 {
-    let mut table = [0u32; 4 * Script::NODES];
+    let mut table = [0u32; WIDTH * Script::NODES];
     let mut entries = [0u32; Script::ENTRIES];
     match reader::read(text, &mut table, &mut entries) {
         Reading::Read(script) => {

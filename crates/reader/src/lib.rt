@@ -1,10 +1,10 @@
 // The reader: from a text to a lent table in flat form and a lent list of entries.
-ghost use mathlib.Core.List.{[], _++_};
+ghost use mathlib.Core.List.{[]};
 ghost use mathlib.Core.Path.{_≡_};
-ghost use Prim.Native.Nat.{_-_, _*_, _≤_};
+ghost use Prim.Native.Nat.{_*_, _≤_};
 ghost use lib.Dec.{ltb};
-ghost use lib.ListN.{length, take, replicate};
-ghost use Rattle.script.specs.Flat.{nodesIn};
+ghost use lib.ListN.{length, take};
+ghost use Rattle.script.specs.Flat.{nodeWidth, nodesIn};
 ghost use Rattle.script.specs.Limits.{nodeLimit, entryLimit, byteLimit};
 ghost use Rattle.script.specs.Table.{treeTest};
 ghost use Rattle.script.specs.Flat.{FormedNodes};
@@ -13,7 +13,7 @@ ghost use Rattle.script.specs.declared.Refusal.the-variants.{NoNode};
 ghost use Rattle.text.specs.Bytes.{lf};
 ghost use Rattle.text.specs.Grammar.{linesFrom, parts};
 ghost use Rattle.text.specs.Reading.{leaves, readingIn, tried};
-ghost use Rattle.text.specs.Code.Steps.{Kept, Took, Holds, Cleared, entryStep, entryStored, nodeStep, nodeStored, endedBy};
+ghost use Rattle.text.specs.Code.Steps.{Kept, Took, Holds, entryStep, entryStored, nodeStep, nodeStored, endedBy};
 
 mod lines;
 
@@ -23,8 +23,10 @@ use script::Reading;
 use script::Refusal;
 use script::Script;
 use script::Sized;
-use script::table::FALSE;
 use script::table::Tested;
+use script::table::WIDTH;
+use table::clearing::clear_entries;
+use table::clearing::clear_nodes;
 use table::put_node;
 use table::well_formed;
 use tests::test_tree;
@@ -53,7 +55,7 @@ fn take_entry(entries: &mut [u32], script: Script, t: u32, next: usize, i: u32) 
 
 // Line i is a node.
 fn take_node(table: &mut [u32], script: Script, n: Node, next: usize, i: u32) -> Step
-    requires { ⌜ 4 * nodeLimit ≤ length (now table) ⌝ }
+    requires { ⌜ nodeWidth * nodeLimit ≤ length (now table) ⌝ }
     ensures { λ r. ⌜ (r ≡ nodeStep script n next i) × (now (table .exit) ≡ nodeStored script n (now (table .entry))) ⌝ }
 {
     match script.with_node() {
@@ -109,7 +111,7 @@ fn at_end(table: &[u32], script: Script) -> Reading
 // All lines, in one pass.
 fn read_lines(text: &[u8], table: &mut [u32], entries: &mut [u32]) -> Reading
     requires { ⌜ length (now text) ≤ byteLimit ⌝ }
-    requires { ⌜ 4 * nodeLimit ≤ length (now table) ⌝ }
+    requires { ⌜ nodeWidth * nodeLimit ≤ length (now table) ⌝ }
     requires { ⌜ entryLimit ≤ length (now entries) ⌝ }
     ensures { λ r. ⌜ Holds (linesFrom 0 [] [] (parts lf (now (text .entry)))) (now (table .entry)) (now (entries .entry)) r (now (table .exit)) (now (entries .exit)) ⌝ }
 {
@@ -135,7 +137,7 @@ fn read_lines(text: &[u8], table: &mut [u32], entries: &mut [u32]) -> Reading
 fn read_text(text: &[u8], table: &mut [u32], entries: &mut [u32]) -> Reading
     ensures { λ r. ⌜ Holds (tried (now (text .entry)) (length (nodesIn (now (table .entry)))) (length (now (entries .entry)))) (now (table .entry)) (now (entries .entry)) r (now (table .exit)) (now (entries .exit)) ⌝ }
 {
-    if table.len() / 4 < Script::NODES {
+    if table.len() / WIDTH < Script::NODES {
         return Reading::Refused(Refusal::TableTooSmall);
     }
     if entries.len() < Script::ENTRIES {
@@ -145,40 +147,6 @@ fn read_text(text: &[u8], table: &mut [u32], entries: &mut [u32]) -> Reading
         return Reading::Refused(Refusal::TextTooLong);
     }
     read_lines(text, table, entries)
-}
-
-// `false` in every place of the table from node `from` on.
-fn clear_nodes(table: &mut [u32], from: usize)
-    requires { ⌜ from ≤ length (nodesIn (now table)) ⌝ }
-    ensures { λ _. ⌜ Cleared from (now (table .entry)) (now (table .exit)) ⌝ }
-{
-    let n = table.len() / 4;
-    let mut i = from;
-    while i < n {
-        put_node(
-            table,
-            i,
-            Node {
-                kind: FALSE,
-                a: 0,
-                b: 0,
-                c: 0,
-            },
-        );
-        i += 1;
-    }
-}
-
-// 0 in every entry from `from` on.
-fn clear_entries(entries: &mut [u32], from: usize)
-    requires { ⌜ from ≤ length (now entries) ⌝ }
-    ensures { λ _. ⌜ now (entries .exit) ≡ take from (now (entries .entry)) ++ replicate (length (now (entries .entry)) - from) 0 ⌝ }
-{
-    let mut i = from;
-    while i < entries.len() {
-        entries[i] = 0;
-        i += 1;
-    }
 }
 
 // Reads a text into a lent table and a lent list of entries.

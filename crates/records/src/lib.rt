@@ -3,7 +3,7 @@
 ghost use mathlib.Core.Path.{_≡_};
 ghost use Prim.Native.Nat.{_*_, _≤_};
 ghost use lib.ListN.{length, take};
-ghost use Rattle.script.specs.Flat.{tableIn};
+ghost use Rattle.script.specs.Flat.{nodeWidth, tableIn};
 ghost use Rattle.copies.specs.Copies.{tableOf};
 ghost use Rattle.records.specs.Records.{Checks, Runs};
 use copies::copy_out;
@@ -11,6 +11,7 @@ use script::Checked;
 use script::Node;
 use script::Ran;
 use script::Script;
+use script::table::WIDTH;
 
 // Checks a flat table of which the first `lent` nodes are lent.
 fn check_flat(
@@ -20,10 +21,10 @@ fn check_flat(
     entries: &[u32],
     entry_count: usize,
 ) -> Checked
-    requires { ⌜ 4 * lent ≤ length (now flat) ⌝ }
-    ensures { λ r. ⌜ Checks (tableIn (take (4 * lent) (now (flat .entry))) nodes (now (entries .entry)) «entry_count») r ⌝ }
+    requires { ⌜ nodeWidth * lent ≤ length (now flat) ⌝ }
+    ensures { λ r. ⌜ Checks (tableIn (take (nodeWidth * lent) (now (flat .entry))) nodes (now (entries .entry)) «entry_count») r ⌝ }
 {
-    checker::check(&flat[..4 * lent], nodes, entries, entry_count)
+    checker::check(&flat[..WIDTH * lent], nodes, entries, entry_count)
 }
 
 // Runs a flat table of which the first `lent` nodes are lent.
@@ -37,11 +38,11 @@ fn run_flat(
     cells: &mut [u8],
     used: u32,
 ) -> Ran
-    requires { ⌜ 4 * lent ≤ length (now flat) ⌝ }
-    ensures { λ r. ⌜ Runs (tableIn (take (4 * lent) (now (flat .entry))) nodes (now (entries .entry)) «entry_count») (now (values .entry)) (now (cells .entry)) used r (now (cells .exit)) ⌝ }
+    requires { ⌜ nodeWidth * lent ≤ length (now flat) ⌝ }
+    ensures { λ r. ⌜ Runs (tableIn (take (nodeWidth * lent) (now (flat .entry))) nodes (now (entries .entry)) «entry_count») (now (values .entry)) (now (cells .entry)) used r (now (cells .exit)) ⌝ }
 {
     runner::run(
-        &flat[..4 * lent],
+        &flat[..WIDTH * lent],
         nodes,
         entries,
         entry_count,
@@ -55,7 +56,7 @@ fn run_flat(
 pub fn check(table: &[Node], nodes: usize, entries: &[u32], entry_count: usize) -> Checked
     ensures { λ r. ⌜ Checks (tableOf (now (table .entry)) nodes (now (entries .entry)) «entry_count») r ⌝ }
 {
-    let mut flat = [0u32; 4 * Script::NODES];
+    let mut flat = [0u32; WIDTH * Script::NODES];
     let lent = copy_out(table, &mut flat);
     check_flat(&flat, lent, nodes, entries, entry_count)
 }
@@ -73,7 +74,7 @@ pub fn run(
 ) -> Ran
     ensures { λ r. ⌜ Runs (tableOf (now (table .entry)) nodes (now (entries .entry)) «entry_count») (now (values .entry)) (now (cells .entry)) used r (now (cells .exit)) ⌝ }
 {
-    let mut flat = [0u32; 4 * Script::NODES];
+    let mut flat = [0u32; WIDTH * Script::NODES];
     let lent = copy_out(table, &mut flat);
     run_flat(
         &flat,

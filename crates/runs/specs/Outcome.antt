@@ -1,7 +1,9 @@
 -- What a trial leaves in the lent cells. Assumes nothing.
 use mathlib.Core.List.{List}
-use Prim.Native.Nat.{ℕ, min}
+use Prim.Native.Nat.{ℕ, _*_, min}
 use lib.ListN.{replicate}
+use Rattle.script.specs.Flat.{nodeWidth}
+use Rattle.script.specs.Limits.{nodeLimit}
 use Rattle.script.specs.declared.Reading.{Reading}
 use Rattle.script.specs.declared.Reading.the-variants.{Read, Refused}
 use Rattle.rules.specs.Running.{runTable}
@@ -17,5 +19,5 @@ cellsBy (Refused r) xs es values cells used = cells
 -- the text is read into 130 places and 16 entries; the flat table keeps the first 128 places
 abbrev pub cellsAfter : List ℕ → List ℕ → List ℕ → ℕ → List ℕ
 cellsAfter text values cells used =
-    cellsBy (reading text placeCount 16 .answer) (copied (reading text placeCount 16 .lentNodes) (min placeCount 128) (replicate 512 0))
+    cellsBy (reading text placeCount 16 .answer) (copied (reading text placeCount 16 .lentNodes) (min placeCount nodeLimit) (replicate (nodeWidth * nodeLimit) 0))
     (reading text placeCount 16 .lentEntries) values cells used

@@ -7,6 +7,8 @@ ghost use Rattle.call_texts.specs.Tables.{tableAs};
 ghost use Rattle.runs.specs.Outcome.{cellsAfter};
 use script::Ran;
 use script::Reading;
+use script::Script;
+use script::table::WIDTH;
 use trial::say;
 use trial::say_decimal;
 use trial::say_either;
@@ -114,7 +116,7 @@ fn try_script(
 pub fn try_text(text: &[u8], values: &[u8], before: &[u8], cells: &mut [u8], used: u32)
     ensures { λ _. ⌜ now (cells .exit) ≡ cellsAfter (now (text .entry)) (now (values .entry)) (now (cells .entry)) used ⌝ }
 {
-    let mut table = [0u32; 512];
+    let mut table = [0u32; WIDTH * Script::NODES];
     let mut entries = [0u32; 16];
     match call_texts::read(text, &mut table, &mut entries) {
         Reading::Read(script) => {

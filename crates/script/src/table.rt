@@ -1,5 +1,8 @@
-// The kinds of the nodes of a table, and what its functions hand to each other. The functions are in `table`.
+// The kinds of the nodes of a table, how wide a node is, and what its functions hand to each other. The functions are in `table`.
 use crate::Refusal;
+
+// How many numbers a node has in the flat form of a table.
+pub const WIDTH: usize = 4;
 
 // How many kinds of node there are.
 pub const KINDS: u32 = 15;

@@ -1,16 +1,19 @@
-// A table in its flat form, four numbers a node: the operand counts of the kinds, a well-formed node, and the one door to a node.
+// A table in its flat form: the operand counts of the kinds, a well-formed node, the unused node, and the one door to a node.
 ghost use mathlib.Core.Path.{_≡_};
-ghost use mathlib.Core.List.{[], _∷_};
-ghost use Prim.Native.Nat.{_+_, _*_, _<_};
+ghost use Prim.Native.Nat.{_*_};
 ghost use lib.Dec.{eqb};
-ghost use lib.ListN.{length, getD};
+ghost use lib.ListN.{getD};
 ghost use lib.Seq.{sets};
-ghost use Rattle.script.specs.Flat.{nodesIn};
+ghost use Rattle.script.specs.Flat.{numbersOf, nodeWidth, nodesIn, HasNode};
 ghost use Rattle.script.specs.Rows.{rowOf, operandCount, takesOf, nodeOperands};
-ghost use Rattle.script.specs.Table.{nodeAt, fields, rightNode, isSymNode};
+ghost use Rattle.script.specs.Table.{unused, nodeAt, fields, rightNode, isSymNode};
 ghost use Rattle.script.specs.Code.TableTests.{rightField};
+
+pub mod clearing;
+
 use script::Node;
 use script::Script;
+use script::table::FALSE;
 use script::table::GET;
 use script::table::INT;
 use script::table::KINDS;
@@ -20,6 +23,7 @@ use script::table::SYM;
 use script::table::TYPED;
 use script::table::Takes;
 use script::table::VAR;
+use script::table::WIDTH;
 
 // How many operands each kind takes: the one table of operand counts, for the reader, the writer and the tests of a table.
 const COUNTS: [u32; 15] = [1, 0, 0, 1, 2, 2, 1, 2, 3, 2, 1, 1, 2, 1, 1];
@@ -119,12 +123,24 @@ pub fn well_formed(n: Node, i: usize) -> bool
     false
 }
 
+// The node that an unused place holds: `false`.
+pub fn unused() -> Node
+    ensures { λ r. ⌜ r ≡ unused ⌝ }
+{
+    Node {
+        kind: FALSE,
+        a: 0,
+        b: 0,
+        c: 0,
+    }
+}
+
 // The node at place i of a table.
 pub fn node_at(table: &[u32], i: usize) -> Node
-    requires { ⌜ 4 * i + 3 < length (now table) ⌝ }
+    requires { ⌜ HasNode (now table) i ⌝ }
     ensures { λ r. ⌜ r ≡ nodeAt (nodesIn (now (table .entry))) i ⌝ }
 {
-    let at = 4 * i;
+    let at = WIDTH * i;
     Node {
         kind: table[at],
         a: table[at + 1],
@@ -135,10 +151,10 @@ pub fn node_at(table: &[u32], i: usize) -> Node
 
 // A table with this node at place i.
 pub fn put_node(table: &mut [u32], i: usize, n: Node)
-    requires { ⌜ 4 * i + 3 < length (now table) ⌝ }
-    ensures { λ _. ⌜ now (table .exit) ≡ sets (now (table .entry)) (4 * i) (n .kind ∷ n .a ∷ n .b ∷ n .c ∷ []) ⌝ }
+    requires { ⌜ HasNode (now table) i ⌝ }
+    ensures { λ _. ⌜ now (table .exit) ≡ sets (now (table .entry)) (nodeWidth * i) (numbersOf n) ⌝ }
 {
-    let at = 4 * i;
+    let at = WIDTH * i;
     table[at] = n.kind;
     table[at + 1] = n.a;
     table[at + 2] = n.b;

@@ -3,7 +3,7 @@
 // A table is three lines of the input, made to be read and edited:
 // - `NODES<tab>ENTRIES<tab>NAME`: the used counts, and a name that tells what is tried;
 // - the lent entries, decimal and parted by blanks, or nothing;
-// - the numbers of the nodes, four for each, likewise; the numbers after them, up to 130 places, are 0.
+// - the numbers of the nodes in flat form, likewise; the numbers after them, up to 130 places, are 0.
 // Entries and numbers of nodes are at most 255, and at most 20 entries are lent. A malformed table ends the trial.
 //
 // Its line has fields parted by tabs: the name, then `accepted` and the letters of the type, or `refused`, number, and place or `-`; then `wrote` and the
@@ -12,7 +12,9 @@ ghost use mathlib.Core.List.{_++_};
 ghost use mathlib.Core.Path.{_≡_};
 ghost use Prim.Native.Nat.{_≤_};
 ghost use lib.ListN.{length, drop};
+use call_texts::PLACES;
 use script::Writing;
+use script::table::WIDTH;
 use trial::Header;
 use trial::Number;
 use trial::given::bytes_line;
@@ -61,7 +63,7 @@ fn try_table(table: &[u32], nodes: usize, entries: &[u32], used: usize) {
 // Tries a table from the line of its entries on, and answers where the next table starts; 0 after a malformed one.
 fn try_given(input: &[u8], at: usize, nodes: usize, used: usize) -> usize {
     let mut codes = [0u8; 20];
-    let mut numbers = [0u8; 520];
+    let mut numbers = [0u8; WIDTH * PLACES];
     let Number::Is(lent, next) = bytes_line(input, at, &mut codes) else {
         return 0;
     };
@@ -69,7 +71,7 @@ fn try_given(input: &[u8], at: usize, nodes: usize, used: usize) -> usize {
         return 0;
     };
     let mut entries = [0u32; 20];
-    let mut table = [0u32; 520];
+    let mut table = [0u32; WIDTH * PLACES];
     if entries.len() < lent {
         return 0;
     }

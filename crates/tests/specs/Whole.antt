@@ -7,7 +7,7 @@ use native.Mathlib.Omega.{arith}
 use lib.Dec.{leb, ltb}
 use lib.ListN.{length, take, replicate}
 use borrow.Author.Tests.{le-leb, lt-leb, leb-true, lt-ltb, le-ltb, not-false}
-use Rattle.script.specs.Flat.{nodesIn, tableIn}
+use Rattle.script.specs.Flat.{nodeWidth, nodesIn, tableIn}
 use Rattle.script.specs.Flat.Laws.{length-nodesIn, enough-nodes}
 use Rattle.script.specs.Limits.{nodeLimit, entryLimit, typeLimit, sizeOf, pickSized, countsFit, scriptOf}
 use Rattle.script.specs.Rows.Laws.{same-anywhere}
@@ -75,11 +75,11 @@ fits-both true x y e = refl
 fits-both false x y e = let z : _≡_ {A = ℕ} 0 1 = cc in absurd (omega arith)
 
 module _ (xs : List ℕ) (n : ℕ) (es : List ℕ) (m : ℕ) where
-  pub table-few-nodes : length xs / 4 < nodeLimit → Refused TableTooSmall ≡ testedBy (tableTest (tableIn xs n es m))
+  pub table-few-nodes : length xs / nodeWidth < nodeLimit → Refused TableTooSmall ≡ testedBy (tableTest (tableIn xs n es m))
   unfolding tableTest
   table-few-nodes h = let l = length-nodesIn xs in rw (lt-leb nodeLimit (length (nodesIn xs)) (omega arith)) refl
 
-  module _ (nodes-lent : nodeLimit ≤ length xs / 4) where
+  module _ (nodes-lent : nodeLimit ≤ length xs / nodeWidth) where
     pub table-few-entries : length es < entryLimit → Refused TableTooSmall ≡ testedBy (tableTest (tableIn xs n es m))
     unfolding tableTest
     table-few-entries h = rw (enough-nodes xs nodes-lent, lt-leb entryLimit (length es) h) refl

@@ -14,6 +14,7 @@ use script::Refusal;
 use script::Script;
 use script::Sized;
 use script::table::Tested;
+use script::table::WIDTH;
 use table::is_sym;
 use table::node_at;
 use table::node_operands;
@@ -238,7 +239,7 @@ fn test_used(table: &[u32], nodes: usize, entries: &[u32], entry_count: usize) -
 pub fn test_table(table: &[u32], nodes: usize, entries: &[u32], entry_count: usize) -> Tested
     ensures { λ r. ⌜ r ≡ testedBy (tableTest (tableIn (now (table .entry)) nodes (now (entries .entry)) «entry_count»)) ⌝ }
 {
-    if table.len() / 4 < Script::NODES {
+    if table.len() / WIDTH < Script::NODES {
         return Tested::Refused(Refusal::TableTooSmall);
     }
     if entries.len() < Script::ENTRIES {

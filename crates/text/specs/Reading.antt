@@ -7,7 +7,7 @@ use Prim.Native.Nat.{ℕ, _*_, _-_}
 use lib.Dec.{leb}
 use lib.ListN.{length, drop, replicate}
 use Rattle.script.specs.Answers.{Report, reportOfReading}
-use Rattle.script.specs.Flat.{flat, nodesIn}
+use Rattle.script.specs.Flat.{nodeWidth, flat, nodesIn}
 use Rattle.script.specs.Limits.{nodeLimit, entryLimit, sizeOf}
 use Rattle.script.specs.Table.{Table, unused}
 use Rattle.script.specs.Tests.{pick}
@@ -72,4 +72,4 @@ abbrev pub leftBy : Outcome → List ℕ → Left
 leftBy o rest = leaves (o .answer) (flat (o .lentNodes) ++ rest) (o .lentEntries)
 
 unfoldable pub readingIn : List ℕ → List ℕ → List ℕ → Left
-readingIn text xs es = leftBy (reading text (length (nodesIn xs)) (length es)) (drop (4 * length (nodesIn xs)) xs)
+readingIn text xs es = leftBy (reading text (length (nodesIn xs)) (length es)) (drop (nodeWidth * length (nodesIn xs)) xs)

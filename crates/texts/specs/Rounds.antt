@@ -3,6 +3,7 @@ use mathlib.Core.List.{List}
 use mathlib.Core.Path.{_≡_, refl, sym, ap, _∙_}
 use Prim.Native.Nat.{ℕ, _/_, min}
 use lib.ListN.{length, replicate, length-replicate}
+use Rattle.script.specs.Flat.{nodeWidth}
 use Rattle.script.specs.declared.Reading.{Reading}
 use Rattle.script.specs.declared.Reading.the-variants.{Read, Refused}
 use Rattle.script.specs.declared.Refusal.{Refusal}
@@ -26,7 +27,7 @@ outputBy (Refused r) xs es out = out
 
 -- the table and the entries after the reading of a text, over sevens
 abbrev pub tableAfter : List ℕ → List ℕ → List ℕ → List ℕ
-tableAfter text table entries = copied (reading text placeCount (length entries) .lentNodes) (min placeCount (length table / 4)) (replicate (length table) 7)
+tableAfter text table entries = copied (reading text placeCount (length entries) .lentNodes) (min placeCount (length table / nodeWidth)) (replicate (length table) 7)
 
 abbrev pub entriesAfter : List ℕ → List ℕ → List ℕ
 entriesAfter text entries = reading text placeCount (length entries) .lentEntries

@@ -8,7 +8,9 @@ ghost use Rattle.texts.specs.Frames.{frameAt, lent, Framed, afterFrames}
 mod rounds;
 mod slices;
 
+use call_texts::PLACES;
 use rounds::try_text;
+use script::table::WIDTH;
 use trial::Header;
 use trial::header_at;
 use trial::name_end;
@@ -72,7 +74,7 @@ fn try_all(input: &[u8], table: &mut [u32], entries: &mut [u32], out: &mut [u8])
 fn main() {
     let mut input = [0u8; 262144];
     let n = io::read_full(libc::STDIN_FILENO, &mut input);
-    let mut table = [0u32; 520];
+    let mut table = [0u32; WIDTH * PLACES];
     let mut entries = [0u32; 16];
     let mut out = [0u8; 8193];
     try_all(&input[..n], &mut table, &mut entries, &mut out);

@@ -6,6 +6,7 @@ ghost use Rattle.script.specs.Flat.{nodesIn};
 ghost use Rattle.script.specs.Tests.{all};
 ghost use Rattle.texts.specs.Slices.{isUnused};
 use script::Node;
+use script::table::WIDTH;
 use table::node_at;
 
 // Puts `w` into every place.
@@ -78,7 +79,7 @@ fn is_false(n: Node) -> bool
 pub fn nodes_clear(table: &[u32], from: usize) -> bool
     ensures { λ r. ⌜ r ≡ all isUnused (drop from (nodesIn (now (table .entry)))) ⌝ }
 {
-    let nodes = table.len() / 4;
+    let nodes = table.len() / WIDTH;
     let mut i = from;
     while i < nodes {
         if !is_false(node_at(table, i)) {

@@ -3,7 +3,7 @@ ghost use mathlib.Core.Option.{none};
 ghost use mathlib.Core.Path.{_≡_};
 ghost use Prim.Native.Nat.{ℕ, _+_, _*_, _^_, _≤_, _<_};
 ghost use lib.ListN.{length, take};
-ghost use Rattle.script.specs.Flat.{nodesIn, tableIn};
+ghost use Rattle.script.specs.Flat.{nodeWidth, nodesIn, tableIn};
 ghost use Rattle.script.specs.Rows.{kindCount};
 ghost use Rattle.script.specs.Table.{nodeAt, tableTest};
 ghost use Rattle.text.specs.Code.Output.{Put, operandIf, textIn};
@@ -80,7 +80,7 @@ fn put_entries(out: &mut [u8], entries: &[u32], count: usize) -> usize
 
 // The lines of the first `count` nodes, from place `from` on.
 fn put_nodes(out: &mut [u8], from: usize, table: &[u32], count: usize) -> usize
-    requires { ⌜ 4 * count ≤ length (now table) ⌝ }
+    requires { ⌜ nodeWidth * count ≤ length (now table) ⌝ }
     requires { ⌜ ((i : ℕ) → i < count → nodeAt (nodesIn (now table)) i .kind < kindCount) ⌝ }
     requires { ⌜ from + length (nodesText (take count (nodesIn (now table)))) < 2 ^ 64 ⌝ }
     ensures { λ r. ⌜ Put (nodesText (take count (nodesIn (now (table .entry))))) from (now (out .entry)) r (now (out .exit)) ⌝ }

@@ -34,6 +34,7 @@ use denote.Triple.Spec.{Meets, tripleOf}
 use denote.Triple.Statement.{Contract, Triple}
 use denote.Triple.Table.{entered, cited}
 use denote.Triple.Walked.{says}
+use Rattle.script.specs.Flat.{nodeWidth}
 use Rattle.script.specs.declared.Node.{Node}
 use Rattle.script.specs.declared.Reading.{Reading}
 use Rattle.script.proofs.Node as T
@@ -74,7 +75,7 @@ told-back : (n : ℕ) → n ≡ placeCount → (text xs : List ℕ) (m : ℕ) (r
 told-back n many text xs m r ns es k left len told c =
     let e = subst (λ (l : ℕ). Reads text l m r ns es) many told in record {
       answer-is = ap (λ (o : Read.Outcome). o .answer) e;
-      nodes-are = c .1 ∙ ap (λ (i : ℕ). copied ns i xs) (c .0 ∙ ap (λ (l : ℕ). min l (length xs / 4)) (len ∙ many)) ∙ ap (λ (o : Read.Outcome). copied (o .lentNodes) (min placeCount (length xs / 4)) xs) e;
+      nodes-are = c .1 ∙ ap (λ (i : ℕ). copied ns i xs) (c .0 ∙ ap (λ (l : ℕ). min l (length xs / nodeWidth)) (len ∙ many)) ∙ ap (λ (o : Read.Outcome). copied (o .lentNodes) (min placeCount (length xs / nodeWidth)) xs) e;
       entries-are = ap (λ (o : Read.Outcome). o .lentEntries) e;
     }
 

@@ -45,6 +45,7 @@ use denote.Triple.Table.{entered, cited}
 use denote.Triple.Walked.{says, Stays, stay-none-slice, stay-slice, walkOf, goes-none-slice, goes-slice, Walks, ends-at, walked, walk-meets}
 use denote.Exit.{yes}
 use denote.Signature.{plain}
+use Rattle.script.specs.Flat.{numbersOf, nodeWidth, HasNode}
 use Rattle.script.specs.declared.Node.{Node}
 use Rattle.script.specs.Table.{nodeAt}
 use Rattle.script.proofs.Node as T
@@ -104,7 +105,7 @@ module _ {M : Type 1} (𝓤 : URA M) (H : Heap 𝓤) (A : Atoms 𝓤) (W : Given
   ns = x .now
 
   abbrev n : ℕ
-  n = min (length ns) (length xs / 4)
+  n = min (length ns) (length xs / nodeWidth)
 
   abbrev s : Val
   s = sliceVal (x .ptr) (length ns)
@@ -148,22 +149,22 @@ module _ {M : Type 1} (𝓤 : URA M) (H : Heap 𝓤) (A : Atoms 𝓤) (W : Given
 
   -- the call of `lesser`
   abbrev to-lesser : Lesser 𝓤 H A mem run .Ghost
-  to-lesser = ((tt, tt, tt, (length ns, (length xs / 4, tt)), (vint w64 (length ns) ∷ [], (vint w64 (length xs / 4) ∷ [], tt))), tt)
+  to-lesser = ((tt, tt, tt, (length ns, (length xs / nodeWidth, tt)), (vint w64 (length ns) ∷ [], (vint w64 (length xs / nodeWidth) ∷ [], tt))), tt)
 
   abbrev Least : Val → Item 𝓤
   Least w = later (given ((w ≡ vint w64 n) × (n < 2 ^ 64)) (‵ ftrue))
 
   least : (f : Fun 𝓤) → FmF 𝓤 f → Triple 𝓤 f (Lesser 𝓤 H A mem run) → length ns < 2 ^ 64 → length xs < 2 ^ 64
-      → ent 𝓤 (emp 𝓤) (f (vint w64 (length ns) ∷ vint w64 (length xs / 4) ∷ []) (λ w. mean 𝓤 H A (Least w)))
+      → ent 𝓤 (emp 𝓤) (f (vint w64 (length ns) ∷ vint w64 (length xs / nodeWidth) ∷ []) (λ w. mean 𝓤 H A (Least w)))
   least f fm met a-fits b-fits =
       via 𝓤 (Lesser 𝓤 H A mem run .pre to-lesser)
-      (qed W [] ∵ nothing ! $ nothing ! $ owned ! usize (Is usize) (uint-makes 𝓤 H A W w64) (length xs / 4) _ (refl, omega (arith, b-fits)) $ fjoin ! $
+      (qed W [] ∵ nothing ! $ nothing ! $ owned ! usize (Is usize) (uint-makes 𝓤 H A W w64) (length xs / nodeWidth) _ (refl, omega (arith, b-fits)) $ fjoin ! $
       owned ! usize (Is usize) (uint-makes 𝓤 H A W w64) (length ns) _ (refl, a-fits) $ fjoin ! $ nothing ! $ join ! $ done !)
       (via 𝓤 _ (met to-lesser) (fm→mono 𝓤 (f _) (fm _) (Lesser 𝓤 H A mem run .post to-lesser) (λ w. mean 𝓤 H A (Least w)) (λ w.
       qed W (raw (Lesser 𝓤 H A mem run .post to-lesser w) ∷ []) ∵ updating ! $
-      use1 W (later (some (λ (r : ℕ). (‵ ftrue ⊛ ‵ (usize .own r (w ∷ []))) ⊛ raw (ensured 𝓤 H A lesser.ended (lesser.clauses 𝓤 H A mem run) tt (length ns, (length xs / 4, tt)) tt r)))) (id⊢ 𝓤 _) $
+      use1 W (later (some (λ (r : ℕ). (‵ ftrue ⊛ ‵ (usize .own r (w ∷ []))) ⊛ raw (ensured 𝓤 H A lesser.ended (lesser.clauses 𝓤 H A mem run) tt (length ns, (length xs / nodeWidth, tt)) tt r)))) (id⊢ 𝓤 _) $
       await ! tt $ pick ! (λ r.
-      split ! $ move ! (1 ∷ []) $ use1 W (raw (fact 𝓤 (r ≡ n))) (exE 𝓤 _ (λ ws. snd∗ 𝓤 (sem 𝓤 H A (lasts lesser.ended tt (length ns, (length xs / 4, tt)) ws)) (fact 𝓤 (r ≡ n)))) $
+      split ! $ move ! (1 ∷ []) $ use1 W (raw (fact 𝓤 (r ≡ n))) (exE 𝓤 _ (λ ws. snd∗ 𝓤 (sem 𝓤 H A (lasts lesser.ended tt (length ns, (length xs / nodeWidth, tt)) ws)) (fact 𝓤 (r ≡ n)))) $
       heard ! (r ≡ n) (λ e. split ! $ move ! (1 ∷ []) $
       facts ! usize (Is usize) (shows 𝓤 H A usize) r (w ∷ []) (λ is. at-once ! $ check ! (ap only (is .0) ∙ ap (vint w64) e, subst (λ (m : ℕ). m < 2 ^ 64) e (is .1)) $ done !))))))
 
@@ -203,8 +204,8 @@ module _ {M : Type 1} (𝓤 : URA M) (H : Heap 𝓤) (A : Atoms 𝓤) (W : Given
       put u is = puts 𝓤 H A W u32 (𝓣 .C #table·put-node) (fm #table·put-node) κ′ q′ i i-fits (put-node.clauses 𝓤 H A mem run) b o γ (node i) u is (copied ns i xs)
           (copied ns (suc i) xs) (λ ν δ. tt)
           (length xs) (keeps-length i (omega (arith, small))) known-put
-          (λ ν δ. factI 𝓤 (4 * i + 3 < length (copied ns i xs)) (emp 𝓤) (subst (λ (m : ℕ). 4 * i + 3 < m) (sym (keeps-length i (omega (arith, small)))) (omega (arith, small))))
-          (λ ν δ e. fact-mono 𝓤 (now (e .0) ≡ sets (copied ns i xs) (4 * i) (node i .kind ∷ node i .a ∷ node i .b ∷ node i .c ∷ [])) (now (e .0) ≡ copied ns (suc i) xs)
+          (λ ν δ. factI 𝓤 (HasNode (copied ns i xs) i) (emp 𝓤) (subst (λ (m : ℕ). nodeWidth * suc i ≤ m) (sym (keeps-length i (omega (arith, small)))) (omega (arith, small))))
+          (λ ν δ e. fact-mono 𝓤 (now (e .0) ≡ sets (copied ns i xs) (nodeWidth * i) (numbersOf (node i))) (now (e .0) ≡ copied ns (suc i) xs)
           (λ p. p ∙ copied-next ns xs i (omega (arith, small)) (omega (arith, small))))
 
     more : (i : ℕ) (X : SProp 𝓤) → i < n → ent 𝓤 (⋆ 𝓤 H A (At (suc i))) X → ent 𝓤 (⋆ 𝓤 H A (At i)) (Wp 𝓤 H (𝓣 .C) (𝓣 .Λ) E Mir′.turn-1 (afterTurn 𝓤 H X Left))
@@ -257,8 +258,8 @@ module _ {M : Type 1} (𝓤 : URA M) (H : Heap 𝓤) (A : Atoms 𝓤) (W : Given
       -- local i stands at 2 * (12 - i), and after them the tokens and what the two slices own
       assigns ! (of-opd ! (load ! (from ! (fld ! refl (stop !))) (look-in ! 22 (sub ! 1 refl (whole !))))) (from ! (stop !)) (init ! 14 refl (tt, record { fits = room .0 })) $
       assigns ! (of-opd ! (load ! (from ! (fld ! refl (stop !))) (look-in ! 20 (sub ! 1 refl (whole !))))) (from ! (stop !)) (init ! 12 refl (tt, record { fits = room′ .0 })) $
-      assigns ! (bin ! (load ! (from ! (stop !)) (look ! 12 refl)) (lit ! tt) (lit< tt)) (from ! (stop !)) (init ! 10 refl (tt, record { fits = fourth-fits (room′ .0) })) $
-      use0 W (raw (𝓣 .C #copies·lesser (vint w64 (length ns) ∷ vint w64 (length xs / 4) ∷ []) (λ w. mean 𝓤 H A (Least w)))) (least (𝓣 .C #copies·lesser)
+      assigns ! (bin ! (load ! (from ! (stop !)) (look ! 12 refl)) (lit ! tt) (lit< tt)) (from ! (stop !)) (init ! 10 refl (tt, record { fits = nodes-fit (room′ .0) })) $
+      use0 W (raw (𝓣 .C #copies·lesser (vint w64 (length ns) ∷ vint w64 (length xs / nodeWidth) ∷ []) (λ w. mean 𝓤 H A (Least w)))) (least (𝓣 .C #copies·lesser)
       (fmOf 𝓤 H (W .laws) 𝓣 #copies·lesser) known-less (room .0) (room′ .0)) $
       calls ! (fmOf 𝓤 H (W .laws) 𝓣) Least (and-then ! (load ! (from ! (stop !)) (look ! 15 refl)) (and-then ! (load ! (from ! (stop !)) (look ! 11 refl)) (no-more !))) (λ w. await ! tt $
       learn ! (λ e. drop ! $
@@ -271,8 +272,8 @@ module _ {M : Type 1} (𝓤 : URA M) (H : Heap 𝓤) (A : Atoms 𝓤) (W : Given
       keep ! (20 ∷ 0 ∷ 1 ∷ 12 ∷ 10 ∷ 8 ∷ 6 ∷ 4 ∷ 26 ∷ 24 ∷ 22 ∷ 28 ∷ 18 ∷ 16 ∷ 14 ∷ 29 ∷ 27 ∷ 25 ∷ 23 ∷ 21 ∷ 19 ∷ 17 ∷ 15 ∷ 13 ∷ 11 ∷ 9 ∷ 7 ∷ 5 ∷ []) $
       by ! (loops 𝓣 known-at known-put (room′ .0) (e .1) l₀ l₁ l₂ l₃ l₄ l₅ l₆ l₇ l₈ l₉ l₁₀ l₁₁ l₁₂))))))))))))))))
     where
-      fourth-fits : length xs < 2 ^ 64 → length xs / 4 < 2 ^ 64
-      fourth-fits h = omega (arith, h)
+      nodes-fit : length xs < 2 ^ 64 → length xs / nodeWidth < 2 ^ 64
+      nodes-fit h = omega (arith, h)
 
 module _ {M : Type 1} (𝓤 : URA M) (H : Heap 𝓤) (A : Atoms 𝓤) (W : Given 𝓤 H A) (mem : Memory → SProp 𝓤) (run : Routine → Fun 𝓤) (𝓣 : Tables 𝓤 H)
     (known-less : Triple 𝓤 (𝓣 .C #copies·lesser) (Lesser 𝓤 H A mem run)) (known-at : Triple 𝓤 (𝓣 .C #copies·record-at) (RecordAt 𝓤 H A mem run))

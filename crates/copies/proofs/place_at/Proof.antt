@@ -1,6 +1,6 @@
 -- `copies::place_at` meets its contract: behind the last whole node there is none. Assumes nothing.
 use borrow.Author.Needs.{needs}
-use mathlib.Core.Path.{sym}
+use mathlib.Core.Path.{sym, _∙_}
 use native.Mathlib.Omega.{arith}
 use lib.ListN.{List·getD-eq-default}
 use Rattle.script.specs.Flat.{nodesIn}
@@ -11,9 +11,9 @@ use Rattle.copies.proofs.place_at.Tie as tie
 
 returns-2 : tie.Need-returns-2
 returns-2 c =
-    let a = c .before .before .args in
+    let a = c .before .before .before .args in
     let l = length-nodesIn (a .flat .now) in
-    sym (List·getD-eq-default (nodesIn (a .flat .now)) unused {n = a .i} (omega arith))
+    c .unused .ensures ∙ sym (List·getD-eq-default (nodesIn (a .flat .now)) unused {n = a .i} (omega arith))
 
 pub place-at-spec : {M : Type 1} → statement M
-place-at-spec = tie.close (tie.spec (λ c κs. search needs) (λ c. search needs) returns-2)
+place-at-spec = tie.close (tie.spec (λ c κs. search needs) (λ c. search needs) (λ c κs. search needs) returns-2)

@@ -10,14 +10,14 @@ use lib.Dec.{leb}
 use lib.ListN.{length, take, drop}
 use lib.Seq.{length-take-le, take-at, take-all, take-take}
 use borrow.Author.Tests.{le-leb, leb-true, leb-false}
-use Rattle.script.specs.Flat.{flat, nodesIn, tableIn}
+use Rattle.script.specs.Flat.{nodeWidth, flat, nodesIn, tableIn}
 use Rattle.script.specs.Flat.Laws.{nodesIn-flat}
 use Rattle.script.specs.Limits.{nodeLimit}
 use Rattle.script.specs.Table.{tableTest}
 use Rattle.script.specs.Table.Laws.{passes}
 use Rattle.script.specs.declared.Node.{Node}
 use Rattle.script.specs.declared.Refusal.{Refusal}
-use Rattle.copies.specs.Copies.{CopiedOut, tableOf}
+use Rattle.copies.specs.Copies.{flatSize, CopiedOut, tableOf}
 use Rattle.copies.specs.Copies.Laws.{length-front}
 
 pub nodesIn-none : (ns : List Node) → ns ++ nodesIn [] ≡ ns
@@ -70,23 +70,23 @@ module _ (ns : List Node) (n : ℕ) (es : List ℕ) (m : ℕ) where
 
 -- ---- a table that was copied
 
-module _ (ns : List Node) (xs : List ℕ) (lent : ℕ) (left : List ℕ) (size : length xs ≡ 4 * nodeLimit) (c : CopiedOut ns xs lent left) where
+module _ (ns : List Node) (xs : List ℕ) (lent : ℕ) (left : List ℕ) (size : length xs ≡ flatSize) (c : CopiedOut ns xs lent left) where
   -- how many places are copied
   lent-is : lent ≡ min (length ns) nodeLimit
   lent-is =
       let e = c .0 in
-      let q : length xs / 4 ≡ nodeLimit = omega arith in
+      let q : length xs / nodeWidth ≡ nodeLimit = omega arith in
       rw q at e
 
-  nodes-copied : nodesIn (take (4 * lent) left) ≡ take lent ns
+  nodes-copied : nodesIn (take (nodeWidth * lent) left) ≡ take lent ns
   nodes-copied =
       let e = lent-is in
-      let t : take (4 * lent) left ≡ flat (take lent ns) = ap (take (4 * lent)) (c .1) ∙ take-at (flat (take lent ns)) (drop (4 * lent) xs) (4 * lent) (length-front ns lent (omega arith)) in
+      let t : take (nodeWidth * lent) left ≡ flat (take lent ns) = ap (take (nodeWidth * lent)) (c .1) ∙ take-at (flat (take lent ns)) (drop (nodeWidth * lent) xs) (nodeWidth * lent) (length-front ns lent (omega arith)) in
       ap nodesIn (t ∙ sym (append-nil (flat (take lent ns)))) ∙ nodesIn-flat (take lent ns) [] ∙ nodesIn-none (take lent ns)
 
   module _ (n : ℕ) (es : List ℕ) (m : ℕ) where
     pub alike : Alike (take lent ns) ns n es m
     alike = lent-alike ns n es m lent lent-is
 
-    pub table-copied : tableIn (take (4 * lent) left) n es m ≡ tableOf (take lent ns) n es m
+    pub table-copied : tableIn (take (nodeWidth * lent) left) n es m ≡ tableOf (take lent ns) n es m
     table-copied = ap (λ ks. tableOf ks n es m) nodes-copied

@@ -6,7 +6,7 @@ use native.Mathlib.Nat.{suc-sub-suc}
 use native.Mathlib.Omega.{arith}
 use lib.ListN.{length, take, drop, set, replicate, length-append, length-replicate, getD-replicate, length-take, length-drop}
 use lib.Seq.{sets, sets-eq, length-take-le, take-suc, take-at, drop-append-add, drop-drop, drop-cons, drop-length, append-snoc, set-at, take-all}
-use Rattle.script.specs.Flat.{flat, nodesIn}
+use Rattle.script.specs.Flat.{numbersOf, nodeWidth, flat, nodesIn, HasNode}
 use Rattle.script.specs.Flat.Laws.{length-flat}
 use Rattle.script.specs.Table.{nodeAt, unused}
 use Rattle.script.specs.declared.Node.{Node}
@@ -18,47 +18,44 @@ use Rattle.copies.specs.Copies.{copied, CopiedOut, places, placed}
 flat-append : (ns ms : List Node) → flat (ns ++ ms) ≡ flat ns ++ flat ms
 unfolding flat
 flat-append [] ms = refl
-flat-append (n ∷ ns) ms = ap (λ r. n .kind ∷ n .a ∷ n .b ∷ n .c ∷ r) (flat-append ns ms)
+flat-append (n ∷ ns) ms = ap (_++_ (numbersOf n)) (flat-append ns ms)
 
 pub copied-start : (ns : List Node) (xs : List ℕ) → copied ns 0 xs ≡ xs
 unfolding flat
 copied-start ns xs = refl
 
 -- the numbers of the first i nodes
-pub length-front : (ns : List Node) (i : ℕ) → i ≤ length ns → length (flat (take i ns)) ≡ 4 * i
-length-front ns i h = length-flat (take i ns) ∙ ap (λ n. 4 * n) (length-take-le i ns h)
+pub length-front : (ns : List Node) (i : ℕ) → i ≤ length ns → length (flat (take i ns)) ≡ nodeWidth * i
+length-front ns i h = length-flat (take i ns) ∙ ap (λ n. nodeWidth * n) (length-take-le i ns h)
 
-pub length-copied : (ns : List Node) (xs : List ℕ) (i : ℕ) → i ≤ length ns → 4 * i ≤ length xs → length (copied ns i xs) ≡ length xs
+pub length-copied : (ns : List Node) (xs : List ℕ) (i : ℕ) → i ≤ length ns → nodeWidth * i ≤ length xs → length (copied ns i xs) ≡ length xs
 length-copied ns xs i h l =
-    let a = length-append (flat (take i ns)) (drop (4 * i) xs) in
+    let a = length-append (flat (take i ns)) (drop (nodeWidth * i) xs) in
     let f = length-front ns i h in
-    let d = length-drop (4 * i) xs in
+    let d = length-drop (nodeWidth * i) xs in
     omega arith
 
-abbrev four : Node → List ℕ
-four n = n .kind ∷ n .a ∷ n .b ∷ n .c ∷ []
-
-flat-one : (n : Node) → flat (n ∷ []) ≡ four n
+flat-one : (n : Node) → flat (n ∷ []) ≡ numbersOf n
 unfolding flat
 flat-one n = refl
 
 -- the first i nodes and one more
-front-next : (ns : List Node) (i : ℕ) → i < length ns → flat (take (suc i) ns) ≡ flat (take i ns) ++ four (nodeAt ns i)
+front-next : (ns : List Node) (i : ℕ) → i < length ns → flat (take (suc i) ns) ≡ flat (take i ns) ++ numbersOf (nodeAt ns i)
 front-next ns i h = ap flat (take-suc ns i unused h) ∙ flat-append (take i ns) (nodeAt ns i ∷ []) ∙ ap (_++_ (flat (take i ns))) (flat-one (nodeAt ns i))
 
-pub copied-next : (ns : List Node) (xs : List ℕ) (i : ℕ) → i < length ns → 4 * i + 3 < length xs
-    → sets (copied ns i xs) (4 * i) (nodeAt ns i .kind ∷ nodeAt ns i .a ∷ nodeAt ns i .b ∷ nodeAt ns i .c ∷ []) ≡ copied ns (suc i) xs
+pub copied-next : (ns : List Node) (xs : List ℕ) (i : ℕ) → i < length ns → HasNode xs i
+    → sets (copied ns i xs) (nodeWidth * i) (numbersOf (nodeAt ns i)) ≡ copied ns (suc i) xs
 copied-next ns xs i h l =
     let F = flat (take i ns) in
-    let f : length F ≡ 4 * i = length-front ns i (omega arith) in
+    let f : length F ≡ nodeWidth * i = length-front ns i (omega arith) in
     let s = length-copied ns xs i (omega arith) (omega arith) in
-    let k : 4 * i + 4 ≡ length F + 4 = omega arith in
-    let e : 4 * i + 4 ≡ 4 * suc i = omega arith in
-    sets-eq (four (nodeAt ns i)) (copied ns i xs) (4 * i) (omega arith)
-    ∙ rw (take-at F (drop (4 * i) xs) (4 * i) f, k, drop-append-add F (drop (4 * i) xs) 4, drop-drop 4 (4 * i) xs, e, front-next ns i h) refl
+    let k : nodeWidth * i + nodeWidth ≡ length F + nodeWidth = omega arith in
+    let e : nodeWidth * i + nodeWidth ≡ nodeWidth * suc i = omega arith in
+    sets-eq (numbersOf (nodeAt ns i)) (copied ns i xs) (nodeWidth * i) (omega arith)
+    ∙ rw (take-at F (drop (nodeWidth * i) xs) (nodeWidth * i) f, k, drop-append-add F (drop (nodeWidth * i) xs) nodeWidth, drop-drop nodeWidth (nodeWidth * i) xs, e, front-next ns i h) refl
 
 -- what is copied has room
-pub copied-fits : (ns : List Node) (xs : List ℕ) (r : ℕ) (left : List ℕ) → CopiedOut ns xs r left → 4 * r ≤ length left
+pub copied-fits : (ns : List Node) (xs : List ℕ) (r : ℕ) (left : List ℕ) → CopiedOut ns xs r left → nodeWidth * r ≤ length left
 copied-fits ns xs r left c =
     let m = c .0 in
     let l : length left ≡ length xs = ap length (c .1) ∙ length-copied ns xs r (omega arith) (omega arith) in

@@ -6,7 +6,7 @@ use Prim.Native.Nat.{ℕ, _+_, _*_}
 use native.Mathlib.Omega.{arith}
 use lib.ListN.{length, drop}
 use lib.Seq.{drop-length}
-use Rattle.script.specs.Flat.{flat, nodesIn, tableIn}
+use Rattle.script.specs.Flat.{nodeWidth, flat, nodesIn, tableIn}
 use Rattle.script.specs.Flat.Laws.{length-nodesIn, nodesIn-flat}
 use Rattle.script.specs.Limits.{nodeLimit, entryLimit, sizeOf}
 use Rattle.script.specs.Table.{unused, tableTest}
@@ -42,12 +42,12 @@ tables-same : {left : List ℕ} {s : Script} {n m : ℕ} (table es : List ℕ) (
     → tableIn table (s .nodes) left (s .entries) ≡ tableRead es ns nodeLimit entryLimit
 tables-same table es ns a b c d e = rw (a, b, c, d, e) refl
 
-module _ (text xs es : List ℕ) (nodes : length xs ≡ 4 * nodeLimit) (entries : length es ≡ entryLimit) where
+module _ (text xs es : List ℕ) (nodes : length xs ≡ nodeWidth * nodeLimit) (entries : length es ≡ entryLimit) where
   full : length (nodesIn xs) ≡ nodeLimit
   full = length-nodesIn xs ∙ omega (arith, nodes)
 
-  no-more : drop (4 * length (nodesIn xs)) xs ≡ []
-  no-more = let e : 4 * length (nodesIn xs) ≡ length xs = omega (arith, full, nodes) in rw e (drop-length xs)
+  no-more : drop (nodeWidth * length (nodesIn xs)) xs ≡ []
+  no-more = let e : nodeWidth * length (nodesIn xs) ≡ length xs = omega (arith, full, nodes) in rw e (drop-length xs)
 
   module _ {r : Reading} {table left : List ℕ} (e : leaves r table left ≡ readingIn text xs es) where
     pub was-read : (s : Script) → r ≡ Reading.Read s → ReadTo text table left s

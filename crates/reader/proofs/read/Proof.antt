@@ -2,7 +2,8 @@
 use borrow.Author.Needs.{needs}
 use mathlib.Core.Path.{ap, _∙_}
 use lib.ListN.{length}
-use Rattle.text.specs.Code.Steps.Whole.{left-so, length-filled}
+use Rattle.script.specs.Code.Clearing.Laws.{length-filled}
+use Rattle.text.specs.Code.Steps.Whole.{left-so}
 use Rattle.reader.proofs.read.Statement.{statement}
 use Rattle.reader.proofs.read.Tie as tie
 

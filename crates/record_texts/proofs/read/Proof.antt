@@ -40,7 +40,7 @@ use Rattle.script.specs.declared.Reading.{Reading}
 use Rattle.script.proofs.Node as T
 use Rattle.script.proofs.Reading as Z
 use Rattle.script.proofs.Reading.Laws as Z′
-use Rattle.copies.specs.Copies.{places}
+use Rattle.copies.specs.Copies.{flatSize, places}
 use Rattle.copies.proofs.Calling.{Toks, called, Walk, ends, proves}
 use Rattle.copies.proofs.Lent.{refAt, let-go, back-mut, back-shr}
 use Rattle.copies.proofs.Locals.{var, freed}
@@ -63,7 +63,7 @@ use Rattle.record_texts.proofs.read.Code as code
 abbrev spells : (κs : Lfts 3) → Spells (typesAt (read.signature .params) κs)
 spells κs = (slice-vals, (slice-vals, (slice-vals, tt)))
 
-room : Room u32 512
+room : Room u32 flatSize
 room = (lit< tt, lit< tt)
 
 module _ {M : Type 1} (𝓤 : URA M) (H : Heap 𝓤) (A : Atoms 𝓤) (mem : Memory → SProp 𝓤) (run : Routine → Fun 𝓤) where
@@ -91,10 +91,10 @@ module _ {M : Type 1} (𝓤 : URA M) (H : Heap 𝓤) (A : Atoms 𝓤) (mem : Mem
       -- what the calls are given: the flat table xs at l, lent for α under the name γ, and the text, the table's length and the entries, or the table
       abbrev to-read : List ℕ → ℕ → ℕ → GName → ReadFlat .Ghost
       to-read xs l α γ =
-          (((κs .0, (α ∷ [], κs .1 .1)), (qs .0, (fullShare, qs .1 .1)), tt, (a .0, (n, (refAt l 0 γ xs, a .1 .1))), (vals .0, (vint w64 n ∷ [], (sliceVal (l, 0) 512 ∷ [], vals .1 .1)))), tt)
+          (((κs .0, (α ∷ [], κs .1 .1)), (qs .0, (fullShare, qs .1 .1)), tt, (a .0, (n, (refAt l 0 γ xs, a .1 .1))), (vals .0, (vint w64 n ∷ [], (sliceVal (l, 0) flatSize ∷ [], vals .1 .1)))), tt)
 
       abbrev to-copy : List ℕ → ℕ → ℕ → GName → CopyIn .Ghost
-      to-copy xs l α γ = (((κs .1 .0, (α ∷ [], tt)), (qs .1 .0, (fullShare, tt)), tt, (a .1 .0, (refAt l 0 γ xs, tt)), (vals .1 .0, (sliceVal (l, 0) 512 ∷ [], tt))), tt)
+      to-copy xs l α γ = (((κs .1 .0, (α ∷ [], tt)), (qs .1 .0, (fullShare, tt)), tt, (a .1 .0, (refAt l 0 γ xs, tt)), (vals .1 .0, (sliceVal (l, 0) flatSize ∷ [], tt))), tt)
 
       walk : Walk 𝓤 H A W read.ended (read.clauses 𝓤 H A mem run) spells κs qs tt a tt code.function 𝓣
       walk are =
@@ -106,9 +106,9 @@ module _ {M : Type 1} (𝓤 : URA M) (H : Heap 𝓤) (A : Atoms 𝓤) (mem : Mem
           pass1 ! (init ! 28 refl (tt, (tt, (record { fits = are .0 .0 .1 .0 }, tt)))) $ pass1 ! (init ! 26 refl (tt, (tt, (record { fits = are .1 .0 .0 .1 .0 }, tt)))) $
           pass1 ! (init ! 24 refl (tt, (tt, (record { fits = are .1 .1 .0 .0 .1 .0 }, tt)))) $ pass0 ! $
           -- [_15; …; _0; …; text's token; the table's; the entries'; what text owns; what the table owns; what the entries own]
-          move ! (22 ∷ []) $ zeroed ! 512 refl (λ xs len.
+          move ! (22 ∷ []) $ zeroed ! flatSize refl (λ xs len.
           assigns ! (of-opd ! (load ! (from ! (fld ! refl (stop !))) (look-in ! 26 (sub ! 1 refl (whole !))))) (from ! (stop !)) (init ! 19 refl (tt, record { fits = are .1 .0 .0 .1 .0 })) $
-          move ! (0 ∷ 17 ∷ 15 ∷ []) $ sliced-mut ! u32 512 room xs refl refl refl (λ α γ.
+          move ! (0 ∷ 17 ∷ 15 ∷ []) $ sliced-mut ! u32 flatSize room xs refl refl refl (λ α γ.
           -- [flat's slice; its token; the lender's part; _7; _8; room for each of _15 to _9, and the right to free it; that of _8 and _7; _6; …; room for _5; …; that of _4; _3; …; _2; …; _1; …;
           -- room for _0; …; the tokens; what the parameters own]
           move ! (17 ∷ 15 ∷ 26 ∷ []) $ again ! (are .1 .1 .0 .0 .1 .0) refl refl refl $ owned ! usize (Is usize) (uint-makes 𝓤 H A W w64) n _ (refl, are .1 .0 .0 .1 .0) $
@@ -121,8 +121,8 @@ module _ {M : Type 1} (𝓤 : URA M) (H : Heap 𝓤) (A : Atoms 𝓤) (mem : Mem
           -- [text's token; flat's; the entries'; true; what the answer owns; what says the last values; _9; _10; _3; the lender's part; _7; _8; room for each of _15 to _11, …]
           land ! (from ! (stop !)) (init ! 28 refl (typed W r w is)) $ move ! (5 ∷ []) $ fsplit ! $ drop ! $ fsplit ! $ drop ! $ fsplit ! $ fsplit ! $
           -- [flat's last list; its length; what says the entries' last list; text's token; flat's; the entries'; true; what the answer owns; _9; …]. Flat is back, and lent again
-          move ! (1 ∷ 6 ∷ 4 ∷ 11 ∷ 0 ∷ []) $ drop ! $ drop ! $ back-mut ! tt u32 512 (ws .1 .1 .0) l₄ 0 $ move ! (16 ∷ 14 ∷ 30 ∷ []) $ again ! (are .1 .0 .0 .1 .0) refl refl refl $
-          move ! (3 ∷ 15 ∷ 13 ∷ []) $ sliced-shr ! u32 512 room (ws .1 .1 .0) refl refl refl (λ β δ.
+          move ! (1 ∷ 6 ∷ 4 ∷ 11 ∷ 0 ∷ []) $ drop ! $ drop ! $ back-mut ! tt u32 flatSize (ws .1 .1 .0) l₄ 0 $ move ! (16 ∷ 14 ∷ 30 ∷ []) $ again ! (are .1 .0 .0 .1 .0) refl refl refl $
+          move ! (3 ∷ 15 ∷ 13 ∷ []) $ sliced-shr ! u32 flatSize room (ws .1 .1 .0) refl refl refl (λ β δ.
           -- [the slice; its token; the lender's part; _14; _15; _12; _13; _2; what says the entries' last list; text's token; the entries'; what the answer owns; _9; _10; _3; _7; _8; …]
           nothing ! $ nothing ! $ move ! (40 ∷ 3 ∷ 0 ∷ 41 ∷ 2 ∷ 1 ∷ []) $
           called ! (fmOf 𝓤 H (W .laws) 𝓣) copy-in.ended (copy-in.clauses 𝓤 H A mem run) known-copy (to-copy (ws .1 .1 .0) l₄ β δ)
@@ -130,10 +130,10 @@ module _ {M : Type 1} (𝓤 : URA M) (H : Heap 𝓤) (A : Atoms 𝓤) (mem : Mem
           (and-then ! (var ! 5 refl) (and-then ! (var ! 3 refl) (no-more !))) (λ v u ns at-unit.
           heard ! (ns .0 ≡ places n (ws .1 .1 .0)) (λ filled.
           -- [the table's token; the slice's; true; what the unit owns; what says the last values; the lender's part; _14; _15; _12; _13; _2; …]
-          land ! (from ! (stop !)) (init ! 24 refl (nothing-lawful 𝓤 H A W .typed u _ at-unit .0)) $ move ! (4 ∷ []) $ fsplit ! $ move ! (3 ∷ 6 ∷ []) $ back-shr ! tt u32 512 (ws .1 .1 .0) l₄ 0 $
+          land ! (from ! (stop !)) (init ! 24 refl (nothing-lawful 𝓤 H A W .typed u _ at-unit .0)) $ move ! (4 ∷ []) $ fsplit ! $ move ! (3 ∷ 6 ∷ []) $ back-shr ! tt u32 flatSize (ws .1 .1 .0) l₄ 0 $
           -- [flat; what says the table's last list; the rest of that; the table's token; true; what the unit owns; _14; _15; _12; _13; _2; what says the entries' last list; text's token; the
           -- entries'; what the answer owns; _9; _10; _3; _7; _8; the right to free each of _15 to _12; _11; …; that of _10 to _7; _6; …; _5; …; that of _4 to _2; _1; …; room for _0; …]
-          assigns ! (of-opd ! (var ! 32 refl)) (from ! (stop !)) (init ! 39 refl (typed W r w is)) $ returns ! (look ! 39 refl) $ let-go ! u32 512 (ws .1 .1 .0) l₄ 0 $
+          assigns ! (of-opd ! (var ! 32 refl)) (from ! (stop !)) (init ! 39 refl (typed W r w is)) $ returns ! (look ! 39 refl) $ let-go ! u32 flatSize (ws .1 .1 .0) l₄ 0 $
           move ! (39 ∷ 40 ∷ 37 ∷ 38 ∷ 10 ∷ 36 ∷ 17 ∷ 35 ∷ 0 ∷ 34 ∷ 32 ∷ 33 ∷ 30 ∷ 31 ∷ 18 ∷ 29 ∷ 19 ∷ 28 ∷ 15 ∷ 27 ∷ 16 ∷ 26 ∷ 24 ∷ 25 ∷ 8 ∷ 23 ∷ 9 ∷ 22 ∷ 6 ∷ 21 ∷ 7 ∷ 20 ∷ []) $
           freed ! $ freed ! $ freed ! $ freed ! $ free1 ! $ freed ! $ freed ! $ freed ! $ freed ! $ freed ! $ freed ! $ freed ! $ freed ! $ freed ! $ freed ! $ freed ! $ free0 ! $
           -- [what says the table's last list; the rest of that; the table's token; true; what the unit owns; what says the entries' last list; text's token; the entries'; what the answer owns]

@@ -4,6 +4,7 @@ use mathlib.Core.Path.{sym}
 use Prim.Native.Nat.{_*_}
 use native.Mathlib.Omega.{arith}
 use lib.Seq.{length-take-le}
+use Rattle.script.specs.Flat.{nodeWidth}
 use Rattle.record_texts.specs.Code.Whole.{read-left}
 use Rattle.record_texts.proofs.read_flat.Statement.{statement}
 use Rattle.record_texts.proofs.read_flat.Tie as tie
@@ -14,7 +15,7 @@ slice-aggregate-read c =
     let n = c .before .lesser in
     let p = s .pre in
     let k = n .ensures in
-    sym (length-take-le (4 * n .result) (s .args .flat .now) (omega arith))
+    sym (length-take-le (nodeWidth * n .result) (s .args .flat .now) (omega arith))
 
 returns : tie.Need-returns
 returns c =

@@ -34,10 +34,11 @@ use denote.Triple.Spec.{Meets, tripleOf}
 use denote.Triple.Statement.{Contract, Triple}
 use denote.Triple.Table.{entered, cited}
 use denote.Triple.Walked.{says}
-use Rattle.script.specs.Flat.{tableIn}
+use Rattle.script.specs.Flat.{nodeWidth, tableIn}
 use Rattle.script.proofs.Writing as T
 use Rattle.script.proofs.Writing.Laws as T′
 use Rattle.script.proofs.Node as N
+use Rattle.copies.specs.Copies.{flatSize}
 use Rattle.copies.specs.Copies.Laws.{copied-fits}
 use Rattle.copies.proofs.Answered.{answers}
 use Rattle.copies.proofs.Calling.{Toks, Walk, ends, proves}
@@ -73,7 +74,7 @@ module _ {M : Type 1} (𝓤 : URA M) (H : Heap 𝓤) (A : Atoms 𝓤) (mem : Mem
 
       -- what the call of `write_flat` is given: flat and lent, and the rest as it was passed
       abbrev to-flat : ℕ → ℕ → GName → ℕ → List ℕ → WriteFlat .Ghost
-      to-flat l α γ r zs = (((α ∷ [], κs .1), (fullShare, qs .1), tt, (refAt l 0 γ zs, (r, a .1)), (sliceVal (l, 0) 512 ∷ [], (vint w64 r ∷ [], vals .1))), tt)
+      to-flat l α γ r zs = (((α ∷ [], κs .1), (fullShare, qs .1), tt, (refAt l 0 γ zs, (r, a .1)), (sliceVal (l, 0) flatSize ∷ [], (vint w64 r ∷ [], vals .1))), tt)
 
       walk : Walk 𝓤 H A W write.ended (write.clauses 𝓤 H A mem run) spells κs qs tt a tt code.function 𝓣
       walk are =
@@ -85,15 +86,15 @@ module _ {M : Type 1} (𝓤 : URA M) (H : Heap 𝓤) (A : Atoms 𝓤) (mem : Mem
           pass1 ! (init ! 20 refl (tt, (tt, (record { fits = are .1 .1 .0 .0 .1 .0 }, tt)))) $ pass1 ! (init ! 18 refl (tt, record { fits = are .1 .1 .1 .0 .1 })) $
           pass1 ! (init ! 16 refl (tt, (tt, (record { fits = are .1 .1 .1 .1 .0 .0 .1 .0 }, tt)))) $ pass0 ! $
           -- [_13; …; _0; …; the table's token; what it owns; the other tokens; what the other parameters own]
-          move ! (14 ∷ 12 ∷ 10 ∷ 8 ∷ 6 ∷ 4 ∷ 24 ∷ 28 ∷ 29 ∷ []) $ copies ! mem run (fmOf 𝓤 H (W .laws) 𝓣) known-copy (a .0) 512 (lit< tt, lit< tt) refl refl refl refl refl refl refl
+          move ! (14 ∷ 12 ∷ 10 ∷ 8 ∷ 6 ∷ 4 ∷ 24 ∷ 28 ∷ 29 ∷ []) $ copies ! mem run (fmOf 𝓤 H (W .laws) 𝓣) known-copy (a .0) flatSize (lit< tt, lit< tt) refl refl refl refl refl refl refl
           (λ xs len r zs c α γ.
           -- [flat's slice; its token; the lender's part; _10; _11; the table's token; what lent owns; _8; _9; _7; _1; room for _13; …; room for _12; …; the right to free each of _11 to _6; _5; …; _4; …;
           -- _3; …; _2; …; that of _1; room for _0; …; the other tokens; what the other parameters own]
           move ! (13 ∷ 11 ∷ 21 ∷ []) $ again ! (are .1 .1 .1 .1 .0 .0 .1 .0) refl refl refl $ move ! (4 ∷ 32 ∷ 3 ∷ 9 ∷ 33 ∷ 5 ∷ 30 ∷ []) $
           answers ! (fmOf 𝓤 H (W .laws) 𝓣) write-flat.ended (write-flat.clauses 𝓤 H A mem run) known-flat (to-flat l₆ α γ r zs) (Toks 2 (κs .1) (qs .1)) (_ ∷ _ ∷ _ ∷ [])
-          (factI 𝓤 _ (emp 𝓤) (copied-fits (a .0 .now) xs r zs c)) (id⊢ 𝓤 _) (id⊢ 𝓤 _) u32 512 zs (λ d w is. EL.lawful T.the-type T′.the-laws 𝓤 H A W tt .typed d _ is .0) refl
+          (factI 𝓤 _ (emp 𝓤) (copied-fits (a .0 .now) xs r zs c)) (id⊢ 𝓤 _) (id⊢ 𝓤 _) u32 flatSize zs (λ d w is. EL.lawful T.the-type T′.the-laws 𝓤 H A W tt .typed d _ is .0) refl
           (and-then ! (var ! 7 refl) (and-then ! (var ! 11 refl) (and-then ! (var ! 26 refl) (and-then ! (var ! 24 refl) (and-then ! (var ! 22 refl) (and-then ! (var ! 4 refl) (no-more !))))))) (λ w d ws.
-          heard ! (Writes (tableIn (take (4 * r) zs) (a .1 .0) (a .1 .1 .0 .now) (a .1 .1 .1 .0)) (a .1 .1 .1 .1 .0 .now) d (ws .1 .1 .1 .1 .1 .0)) (λ told.
+          heard ! (Writes (tableIn (take (nodeWidth * r) zs) (a .1 .0) (a .1 .1 .0 .now) (a .1 .1 .1 .0)) (a .1 .1 .1 .1 .0 .now) d (ws .1 .1 .1 .1 .1 .0)) (λ told.
           -- [room for _6; the other tokens; what the answer owns; what says the last values; _0; _12; _13; _5; _10; _11; the table's token; _8; _9; _7; _1; the right to free each of _13 to _5; _4; …;
           -- _3; …; _2; …; that of _1; that of _0]
           move ! (4 ∷ 31 ∷ 14 ∷ 30 ∷ 28 ∷ 29 ∷ 26 ∷ 27 ∷ 24 ∷ 25 ∷ 7 ∷ 23 ∷ 0 ∷ 22 ∷ 13 ∷ 21 ∷ 11 ∷ 20 ∷ 12 ∷ 19 ∷ 8 ∷ 18 ∷ 9 ∷ 17 ∷ 5 ∷ 16 ∷ 6 ∷ 15 ∷ []) $

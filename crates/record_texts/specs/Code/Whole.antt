@@ -10,7 +10,7 @@ use lib.Dec.{leb}
 use lib.ListN.{length, take, drop, replicate, replicate-append-replicate, drop-of-length-le}
 use lib.Seq.{length-take-le, take-at, take-all}
 use borrow.Author.Tests.{leb-true, leb-false}
-use Rattle.script.specs.Flat.{flat, nodesIn, tableIn}
+use Rattle.script.specs.Flat.{nodeWidth, flat, nodesIn, tableIn}
 use Rattle.script.specs.Flat.Laws.{length-nodesIn, nodesIn-flat}
 use Rattle.script.specs.Limits.{nodeLimit, entryLimit}
 use Rattle.script.specs.Table.{unused}
@@ -25,7 +25,7 @@ use Rattle.text.specs.Grammar.{Meaning, means, refused, meaningOf}
 use Rattle.text.specs.OneSpelling.{read-passes}
 use Rattle.text.specs.Reading.{outcomeOf as readTo, nodesRead, filled, tableRead, tried, reading, leaves, leftBy, readingIn}
 use Rattle.text.specs.Writing.{textOf, outcomeOf, writing}
-use Rattle.copies.specs.Copies.{CopiedOut, places, tableOf}
+use Rattle.copies.specs.Copies.{flatSize, CopiedOut, places, tableOf}
 use Rattle.copies.specs.Copies.Alike.{Alike, same-answer, alike, table-copied, nodesIn-none}
 use Rattle.copies.specs.Copies.Laws.{filled-length}
 use Rattle.record_texts.specs.Texts.{Writes, Reads}
@@ -37,8 +37,8 @@ module _ (ns ms : List Node) (n : ℕ) (es : List ℕ) (m : ℕ) (a : Alike ns m
   unfolding writing
   write-alike out = same-answer ns ms n es m a (λ o ks. outcomeOf o (textOf (take m es) ks) out) (λ r. refl)
 
-module _ (ns : List Node) (xs : List ℕ) (lent : ℕ) (left : List ℕ) (size : length xs ≡ 4 * nodeLimit) (c : CopiedOut ns xs lent left) (n : ℕ) (es : List ℕ) (m : ℕ) where
-  pub write-copied : (out : List ℕ) (r : Writing) (bs : List ℕ) → Writes (tableIn (take (4 * lent) left) n es m) out r bs → Writes (tableOf ns n es m) out r bs
+module _ (ns : List Node) (xs : List ℕ) (lent : ℕ) (left : List ℕ) (size : length xs ≡ flatSize) (c : CopiedOut ns xs lent left) (n : ℕ) (es : List ℕ) (m : ℕ) where
+  pub write-copied : (out : List ℕ) (r : Writing) (bs : List ℕ) → Writes (tableIn (take (nodeWidth * lent) left) n es m) out r bs → Writes (tableOf ns n es m) out r bs
   write-copied out r bs e =
       e ∙ ap (λ t. writing t out) (table-copied ns xs lent left size c n es m) ∙ write-alike (take lent ns) ns n es m (alike ns xs lent left size c n es m) out
 
@@ -78,33 +78,33 @@ tried-most text n m = by (leb nodeLimit n && leb entryLimit m) refl
         omega arith
     by false e = omega arith
 
-module _ (text : List ℕ) (lent : ℕ) (xs es : List ℕ) (n : ℕ) (size : length xs ≡ 4 * nodeLimit) (least : n ≡ min lent nodeLimit) where
+module _ (text : List ℕ) (lent : ℕ) (xs es : List ℕ) (n : ℕ) (size : length xs ≡ flatSize) (least : n ≡ min lent nodeLimit) where
   abbrev m : ℕ
   m = length es
 
   -- what a reading into the first n nodes of xs leaves there
-  left-first : readingIn text (take (4 * n) xs) es ≡ leftBy (reading text n m) []
+  left-first : readingIn text (take (nodeWidth * n) xs) es ≡ leftBy (reading text n m) []
   unfolding readingIn
   left-first =
-      let l : length (take (4 * n) xs) ≡ 4 * n = length-take-le (4 * n) xs (omega arith) in
-      let k : length (nodesIn (take (4 * n) xs)) ≡ n = length-nodesIn (take (4 * n) xs) ∙ rw l (omega arith) in
-      rw (k, drop-of-length-le (take (4 * n) xs) {i = 4 * n} (omega arith)) refl
+      let l : length (take (nodeWidth * n) xs) ≡ nodeWidth * n = length-take-le (nodeWidth * n) xs (omega arith) in
+      let k : length (nodesIn (take (nodeWidth * n) xs)) ≡ n = length-nodesIn (take (nodeWidth * n) xs) ∙ rw l (omega arith) in
+      rw (k, drop-of-length-le (take (nodeWidth * n) xs) {i = nodeWidth * n} (omega arith)) refl
 
   -- fewer places than a script can have are all read into; of more, the first 128, and xs has nothing behind these
-  first-or-all : ((tried text n m ≡ tried text lent m) × ((n ≡ lent) ⊎ (drop (4 * n) xs ≡ [])))
+  first-or-all : ((tried text n m ≡ tried text lent m) × ((n ≡ lent) ⊎ (drop (nodeWidth * n) xs ≡ [])))
   first-or-all = by (leb nodeLimit lent) refl
     where
-      by : (b : Bool) → leb nodeLimit lent ≡ b → ((tried text n m ≡ tried text lent m) × ((n ≡ lent) ⊎ (drop (4 * n) xs ≡ [])))
+      by : (b : Bool) → leb nodeLimit lent ≡ b → ((tried text n m ≡ tried text lent m) × ((n ≡ lent) ⊎ (drop (nodeWidth * n) xs ≡ [])))
       by true t =
           let h = leb-true nodeLimit lent t in
           let k : n ≡ nodeLimit = omega arith in
-          (rw (k, t) refl, inr (drop-of-length-le xs {i = 4 * n} (omega arith)))
+          (rw (k, t) refl, inr (drop-of-length-le xs {i = nodeWidth * n} (omega arith)))
       by false t =
           let h = leb-false nodeLimit lent t in
           let k : n ≡ lent = omega arith in
           (rw k refl, inl k)
 
-  module _ (r : Reading) (ys es′ : List ℕ) (e : leaves r ys es′ ≡ readingIn text (take (4 * n) xs) es) where
+  module _ (r : Reading) (ys es′ : List ℕ) (e : leaves r ys es′ ≡ readingIn text (take (nodeWidth * n) xs) es) where
     abbrev t : Meaning
     t = tried text n m
 
@@ -112,13 +112,13 @@ module _ (text : List ℕ) (lent : ℕ) (xs es : List ℕ) (n : ℕ) (size : len
     unfolding reading
     whole = e ∙ left-first
 
-    nodes-left : places lent (ys ++ drop (4 * n) xs) ≡ filled (nodesRead t) lent unused
+    nodes-left : places lent (ys ++ drop (nodeWidth * n) xs) ≡ filled (nodesRead t) lent unused
     nodes-left =
         let numbers : ys ≡ flat (filled (nodesRead t) n unused) = ap (λ l. l .table) whole ∙ append-nil (flat (filled (nodesRead t) n unused)) in
-        ap (λ zs. places lent (zs ++ drop (4 * n) xs)) numbers
-        ∙ places-left (nodesRead t) n lent (drop (4 * n) xs) (tried-most text n m) (omega arith) (first-or-all .1)
+        ap (λ zs. places lent (zs ++ drop (nodeWidth * n) xs)) numbers
+        ∙ places-left (nodesRead t) n lent (drop (nodeWidth * n) xs) (tried-most text n m) (omega arith) (first-or-all .1)
 
-    pub read-left : Reads text lent m r (places lent (ys ++ drop (4 * n) xs)) es′
+    pub read-left : Reads text lent m r (places lent (ys ++ drop (nodeWidth * n) xs)) es′
     unfolding reading
     read-left =
         (λ i. record { answer = ap (λ l. l .answer) whole i; lentNodes = nodes-left i; lentEntries = ap (λ l. l .entries) whole i })

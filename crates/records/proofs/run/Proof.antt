@@ -34,10 +34,11 @@ use denote.Triple.Spec.{Meets, tripleOf}
 use denote.Triple.Statement.{Contract, Triple}
 use denote.Triple.Table.{entered, cited}
 use denote.Triple.Walked.{says}
-use Rattle.script.specs.Flat.{tableIn}
+use Rattle.script.specs.Flat.{nodeWidth, tableIn}
 use Rattle.script.proofs.Ran as T
 use Rattle.script.proofs.Ran.Laws as T′
 use Rattle.script.proofs.Node as N
+use Rattle.copies.specs.Copies.{flatSize}
 use Rattle.copies.specs.Copies.Laws.{copied-fits}
 use Rattle.copies.proofs.Answered.{answers}
 use Rattle.copies.proofs.Calling.{Toks, Walk, ends, proves}
@@ -73,7 +74,7 @@ module _ {M : Type 1} (𝓤 : URA M) (H : Heap 𝓤) (A : Atoms 𝓤) (mem : Mem
 
       -- what the call of `run_flat` is given: flat and lent, and the rest as it was passed
       abbrev to-flat : ℕ → ℕ → GName → ℕ → List ℕ → RunFlat .Ghost
-      to-flat l α γ r zs = (((α ∷ [], κs .1), (fullShare, qs .1), tt, (refAt l 0 γ zs, (r, a .1)), (sliceVal (l, 0) 512 ∷ [], (vint w64 r ∷ [], vals .1))), tt)
+      to-flat l α γ r zs = (((α ∷ [], κs .1), (fullShare, qs .1), tt, (refAt l 0 γ zs, (r, a .1)), (sliceVal (l, 0) flatSize ∷ [], (vint w64 r ∷ [], vals .1))), tt)
 
       walk : Walk 𝓤 H A W run.ended (run.clauses 𝓤 H A mem run′) spells κs qs tt a tt code.function 𝓣
       walk are =
@@ -87,16 +88,16 @@ module _ {M : Type 1} (𝓤 : URA M) (H : Heap 𝓤) (A : Atoms 𝓤) (mem : Mem
           pass1 ! (init ! 20 refl (tt, (tt, (record { fits = are .1 .1 .1 .1 .0 .0 .1 .0 }, tt)))) $
           pass1 ! (init ! 18 refl (tt, (tt, (record { fits = are .1 .1 .1 .1 .1 .0 .0 .1 .0 }, tt)))) $ pass1 ! (init ! 16 refl (tt, record { fits = are .1 .1 .1 .1 .1 .1 .0 .1 })) $ pass0 ! $
           -- [_15; …; _0; …; the table's token; what it owns; the other tokens; what the other parameters own]
-          move ! (14 ∷ 12 ∷ 10 ∷ 8 ∷ 6 ∷ 4 ∷ 28 ∷ 32 ∷ 33 ∷ []) $ copies ! mem run′ (fmOf 𝓤 H (W .laws) 𝓣) known-copy (a .0) 512 (lit< tt, lit< tt) refl refl refl refl refl refl refl
+          move ! (14 ∷ 12 ∷ 10 ∷ 8 ∷ 6 ∷ 4 ∷ 28 ∷ 32 ∷ 33 ∷ []) $ copies ! mem run′ (fmOf 𝓤 H (W .laws) 𝓣) known-copy (a .0) flatSize (lit< tt, lit< tt) refl refl refl refl refl refl refl
           (λ xs len r zs c α γ.
           -- [flat's slice; its token; the lender's part; _12; _13; the table's token; what lent owns; _10; _11; _9; _1; room for _15; …; room for _14; …; the right to free each of _13 to _8; _7; …; _6; …;
           -- _5; …; _4; …; _3; …; _2; …; that of _1; room for _0; …; the other tokens; what the other parameters own]
           move ! (13 ∷ 11 ∷ 23 ∷ []) $ again ! (are .1 .1 .1 .1 .1 .0 .0 .1 .0) refl refl refl $ move ! (4 ∷ 36 ∷ 3 ∷ 9 ∷ 37 ∷ 5 ∷ 34 ∷ []) $
           answers ! (fmOf 𝓤 H (W .laws) 𝓣) run-flat.ended (run-flat.clauses 𝓤 H A mem run′) known-flat (to-flat l₈ α γ r zs) (Toks 3 (κs .1) (qs .1)) (_ ∷ _ ∷ _ ∷ [])
-          (factI 𝓤 _ (emp 𝓤) (copied-fits (a .0 .now) xs r zs c)) (id⊢ 𝓤 _) (id⊢ 𝓤 _) u32 512 zs (λ d w is. EL.lawful T.the-type T′.the-laws 𝓤 H A W tt .typed d _ is .0) refl
+          (factI 𝓤 _ (emp 𝓤) (copied-fits (a .0 .now) xs r zs c)) (id⊢ 𝓤 _) (id⊢ 𝓤 _) u32 flatSize zs (λ d w is. EL.lawful T.the-type T′.the-laws 𝓤 H A W tt .typed d _ is .0) refl
           (and-then ! (var ! 7 refl) (and-then ! (var ! 11 refl) (and-then ! (var ! 30 refl) (and-then ! (var ! 28 refl) (and-then ! (var ! 26 refl) (and-then ! (var ! 24 refl)
           (and-then ! (var ! 4 refl) (and-then ! (var ! 21 refl) (no-more !))))))))) (λ w d ws.
-          heard ! (Runs (tableIn (take (4 * r) zs) (a .1 .0) (a .1 .1 .0 .now) (a .1 .1 .1 .0)) (a .1 .1 .1 .1 .0 .now) (a .1 .1 .1 .1 .1 .0 .now) (a .1 .1 .1 .1 .1 .1 .0) d
+          heard ! (Runs (tableIn (take (nodeWidth * r) zs) (a .1 .0) (a .1 .1 .0 .now) (a .1 .1 .1 .0)) (a .1 .1 .1 .1 .0 .now) (a .1 .1 .1 .1 .1 .0 .now) (a .1 .1 .1 .1 .1 .1 .0) d
           (ws .1 .1 .1 .1 .1 .1 .0)) (λ told.
           -- [room for _8; the other tokens; what the answer owns; what says the last values; _0; _14; _15; _6; _12; _13; the table's token; _10; _11; _9; _1; the right to free each of _15 to _8; _7; …;
           -- that of _6; _5; …; _4; …; _3; …; _2; …; that of _1; that of _0]

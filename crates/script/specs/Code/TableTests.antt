@@ -7,6 +7,7 @@ use mathlib.Core.Path.{_≡_}
 use Prim.Native.Nat.{ℕ, suc, _+_, _*_, _≤_, _<_, pred}
 use lib.Dec.{leb, ltb, eqb}
 use lib.ListN.{length, drop, getD}
+use Rattle.script.specs.Flat.{nodeWidth}
 use Rattle.script.specs.Limits.{nodeLimit, nestingLimit, wordLimit, typeLimit}
 use Rattle.script.specs.Rows.{Row, numberUpTo}
 use Rattle.script.specs.Table.{Table, nodesOf, entriesOf, nodeAt, wellFormed, isSymNode, timesIn, uses, symsAround, tooDeep, nodesTest}
@@ -19,7 +20,7 @@ pub mod Laws
 -- the first n nodes are lent, and within the limit
 pub record Lent (xs : List ℕ) (n : ℕ) : Type 0 where
   pub most : n ≤ nodeLimit
-  pub room : 4 * n ≤ length xs
+  pub room : nodeWidth * n ≤ length xs
 
 -- ---- 4
 

@@ -1,4 +1,4 @@
--- `table::node_at` meets its contract: the four numbers from place 4 * i on are node i. Assumes nothing.
+-- `table::node_at` meets its contract: the numbers from the node's place on are node i. Assumes nothing.
 use borrow.Author.Needs.{needs}
 use mathlib.Core.Path.{sym}
 use Rattle.script.specs.Flat.Laws.{nodeAt-nodesIn}

@@ -1,4 +1,4 @@
--- `table::put_node` meets its contract: its four stores are those of `sets`. Assumes nothing.
+-- `table::put_node` meets its contract: its stores are those of `sets`. Assumes nothing.
 use borrow.Author.Needs.{needs}
 use native.Mathlib.Omega.{arith}
 use lib.ListN.{length-set}
@@ -21,6 +21,6 @@ put-node-spec =
     (λ c. simp length-set (omega arith))
     (λ c. search needs)
     (λ c. search needs)
+    (λ c. simp length-set (omega arith))
     (λ c. search needs)
-    (λ c. search needs)
-    (λ c. let n = c .args .n in stores-sets (c .args .table .now) (c .args .i) (n .kind) (n .a) (n .b) (n .c)))
+    (λ c. stores-sets (c .args .table .now) (c .args .i) (c .args .n)))

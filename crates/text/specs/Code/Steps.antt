@@ -1,17 +1,17 @@
 -- The reader's state from line to line, for the contracts of its parts: the used places of the lent table and entries are the nodes and entries so far.
 -- Nothing here has to be believed: the laws tie it to the grammar. Assumes nothing.
 use mathlib.Core.Bool.{true}
-use mathlib.Core.List.{List, [], _∷_, _++_}
+use mathlib.Core.List.{List}
 use mathlib.Core.Option.{Option, none, some}
 use mathlib.Core.Path.{_≡_}
-use Prim.Native.Nat.{ℕ, _+_, _*_, _-_, _≤_, _<_}
+use Prim.Native.Nat.{ℕ, _+_, _*_, _≤_, _<_}
 use lib.Dec.{ltb, eqb}
-use lib.ListN.{length, take, drop, set, replicate}
+use lib.ListN.{length, take, drop, set}
 use lib.Seq.{sets}
-use Rattle.script.specs.Flat.{nodesIn}
+use Rattle.script.specs.Flat.{numbersOf, nodeWidth, nodesIn}
 use Rattle.script.specs.Limits.{nodeLimit, entryLimit, sizeOf}
 use Rattle.script.specs.Rows.{rowOf}
-use Rattle.script.specs.Table.{unused, rightNode, wellFormed}
+use Rattle.script.specs.Table.{rightNode, wellFormed}
 use Rattle.script.specs.Tests.{pick}
 use Rattle.script.specs.declared.Node.{Node}
 use Rattle.script.specs.declared.Reading.{Reading}
@@ -23,7 +23,6 @@ use Rattle.text.specs.Grammar.{Line, Meaning, goOn, stop, admit, lineOf}
 use Rattle.text.specs.Reading.{answerOf, nodesRead, entriesRead}
 use Rattle.text.specs.Code.Scan.{lineIn, lineEnds}
 use Rattle.text.specs.declared.Step.{Step}
-pub mod Clearing
 pub mod Laws
 pub mod Taken
 pub mod Walk
@@ -40,7 +39,7 @@ entriesBy s es = take (s .entries) es
 
 -- room for a whole script; the counts are within the limits, and the nodes so far are well formed
 pub record Kept (s : Script) (xs es : List ℕ) : Type 0 where
-  pub lent-nodes : 4 * nodeLimit ≤ length xs
+  pub lent-nodes : nodeWidth * nodeLimit ≤ length xs
   pub lent-entries : entryLimit ≤ length es
   pub nodes-most : s .nodes ≤ nodeLimit
   pub entries-most : s .entries ≤ entryLimit
@@ -50,7 +49,7 @@ pub record Kept (s : Script) (xs es : List ℕ) : Type 0 where
 pub record Framed (xs es xs′ es′ : List ℕ) : Type 0 where
   pub table-length : length xs′ ≡ length xs
   pub entries-length : length es′ ≡ length es
-  pub rest : drop (4 * length (nodesIn xs)) xs′ ≡ drop (4 * length (nodesIn xs)) xs
+  pub rest : drop (nodeWidth * length (nodesIn xs)) xs′ ≡ drop (nodeWidth * length (nodesIn xs)) xs
 
 -- ---- a line
 
@@ -74,7 +73,7 @@ nodeStep s n next i =
 abbrev pub nodeStored : Script → Node → List ℕ → List ℕ
 nodeStored s n xs =
     pick (ltb (s .nodes) nodeLimit)
-    (pick (rightNode (rowOf (n .kind)) (s .nodes) n) (sets xs (4 * s .nodes) (n .kind ∷ n .a ∷ n .b ∷ n .c ∷ [])) xs)
+    (pick (rightNode (rowOf (n .kind)) (s .nodes) n) (sets xs (nodeWidth * s .nodes) (numbersOf n)) xs)
     xs
 
 -- the line that starts here, if it ends in LF and is of the form
@@ -120,11 +119,3 @@ pub record Holds (m : Meaning) (xs es : List ℕ) (r : Reading) (xs′ es′ : L
   pub nodes-room : usedNodes r ≤ length (nodesIn xs′)
   pub entries-room : usedEntries r ≤ length es′
   pub framed : Framed xs es xs′ es′
-
--- ---- the unused places
-
--- the nodes before `from` are as they were, `false` stands in every place from there on, and the numbers after the last whole node are as they were
-pub record Cleared (from : ℕ) (xs xs′ : List ℕ) : Type 0 where
-  pub table-length : length xs′ ≡ length xs
-  pub nodes-are : nodesIn xs′ ≡ take from (nodesIn xs) ++ replicate (length (nodesIn xs) - from) unused
-  pub rest : drop (4 * length (nodesIn xs)) xs′ ≡ drop (4 * length (nodesIn xs)) xs

@@ -5,6 +5,7 @@ use Prim.Native.Nat.{ℕ, suc, _+_, _*_, _≤_, _<_}
 use native.Mathlib.Omega.{arith}
 use lib.ListN.{length, getD}
 use Rattle.script.specs.Code.Forms.{formOf, leaf-kinds, nodeIn, treeIn, some-operand, formed-less}
+use Rattle.script.specs.Flat.{HasNode}
 use Rattle.script.specs.Limits.{nodeLimit}
 use Rattle.script.specs.Rows.{typedForm, kindFor, leafKinds, nodeOperands}
 use Rattle.script.specs.declared.Checked.{Checked}
@@ -196,7 +197,7 @@ module _ {table ws fs : List ℕ} {n : ℕ} (x : Leafable table ws fs n) where
   abbrev e : Entering (x .limit) table (x .enterable .bound) (x .enterable .base) (x .enterable .ground) ws fs n (x .enterable .to-come)
   e = x .enterable .entering
 
-  pub leaf-node : 4 * n + 3 < length table
+  pub leaf-node : HasNode table n
   leaf-node = omega (arith, enters-formed e .room)
 
   pub leaf-space : spaceSize ≤ length ws
@@ -233,7 +234,7 @@ module _ {limit : ℕ} {table ws fs : List ℕ} {n : ℕ} (x : Enterable limit t
   some : 1 ≤ nodeOperands (nodeIn table n .kind)
   some = some-operand (enters-formed (x .entering)) (omega arith)
 
-  pub up-node : 4 * n + 3 < length table
+  pub up-node : HasNode table n
   up-node = omega (arith, enters-formed (x .entering) .room)
 
   pub up-space : spaceSize ≤ length ws

@@ -9,6 +9,7 @@ use lib.ListN.{length, set, length-set}
 use lib.Seq.{getD-set-same, getD-set-other}
 use borrow.Author.Tests.{eqb-true, eqb-false}
 use Rattle.script.specs.Code.Forms.{formOf, nodeIn}
+use Rattle.script.specs.Flat.{HasNode}
 use Rattle.script.specs.Limits.{nodeLimit}
 use Rattle.script.specs.Rows.{ifForm, letForm, kindFor, nodeOperands}
 use Rattle.terms.specs.Places.{symbolLimit}
@@ -52,7 +53,7 @@ module _ {table ws fs : List ℕ} {t q : ℕ} (x : Returnable table ws fs t q) (
   pub back-framed : framesSize ≤ length fs₁
   back-framed = omega (arith, x .returning .stands .framed, length-set fs goalAt (goesTo fs (frameIn fs)))
 
-  pub back-node : 4 * n + 3 < length table
+  pub back-node : HasNode table n
   back-node = let l = up (x .returning) some .low in omega (arith, l, x .returning .stands .formed .room)
 
   falls : frameIn fs₁ < frameIn fs

@@ -5,6 +5,7 @@ use Prim.Native.Nat.{ℕ, suc, _+_, _*_, _-_, _≤_, _<_}
 use native.Mathlib.Omega.{arith}
 use lib.ListN.{length, getD}
 use Rattle.script.specs.Code.Forms.{nodeIn, treeIn}
+use Rattle.script.specs.Flat.{HasNode}
 use Rattle.script.specs.Limits.{nodeLimit}
 use Rattle.script.specs.Tree.{size}
 use Rattle.rules.specs.Paths.{Path, Leaf}
@@ -284,7 +285,7 @@ module _ {table ws fs : List ℕ} (x : Resumable table ws fs) where
       pub guard-lent : spaceSize ≤ length ws₂
       guard-lent = guard-room (x .stands) (forkedIn fs - 1) some-is w v .lent
 
-      pub branch-node : 4 * nodeOf hs (frameIn hs) + 3 < length table
+      pub branch-node : HasNode table (nodeOf hs (frameIn hs))
       branch-node =
           let e = node-is (x .stands) (forkedIn fs - 1) some-is w v in
           let l = last-low (x .stands) (forkedIn fs - 1) some-is w in

@@ -9,7 +9,7 @@ use native.Mathlib.Nat.{zero-add}
 use native.Mathlib.Omega.{arith}
 use lib.ListN.{length, take, length-append}
 use lib.Seq.{getD-take}
-use Rattle.script.specs.Flat.{nodesIn, tableIn}
+use Rattle.script.specs.Flat.{nodeWidth, nodesIn, tableIn}
 use Rattle.script.specs.Flat.Laws.{length-nodesIn}
 use Rattle.script.specs.Rows.{kindCount}
 use Rattle.script.specs.Rows.Laws.{row-kind}
@@ -31,7 +31,7 @@ module _ (xs : List ℕ) (n : ℕ) (es : List ℕ) (m : ℕ) (e : tableTest (tab
   pub entries-lent : m ≤ length es
   entries-lent = let p = passes (tableIn xs n es m) e in omega arith
 
-  pub nodes-lent : 4 * n ≤ length xs
+  pub nodes-lent : nodeWidth * n ≤ length xs
   nodes-lent = let p = passes (tableIn xs n es m) e in let l = length-nodesIn xs in omega arith
 
   pub kinds-known : (i : ℕ) → i < n → nodeAt (nodesIn xs) i .kind < kindCount

@@ -3,15 +3,15 @@ use mathlib.Core.Bool.{Bool, true, false}
 use mathlib.Core.List.{List, [], _∷_, _++_}
 use mathlib.Core.Option.{Option, none, some}
 use mathlib.Core.Path.{_≡_, refl, sym, ap, _∙_}
-use Prim.Native.Nat.{ℕ, suc, _+_, _*_, _≤_, _<_}
+use Prim.Native.Nat.{ℕ, _+_, _*_, _≤_, _<_}
 use native.Mathlib.Numerals.{add-one}
 use native.Mathlib.Omega.{arith}
 use lib.Dec.{ltb, eqb}
 use lib.ListN.{length, take, drop, set, length-drop, length-set, length-append}
-use lib.Seq.{sets, length-sets, length-take-le, take-suc-set, drop-set-lt}
+use lib.Seq.{sets, length-sets, length-take-le, take-suc-set}
 use borrow.Author.Tests.{eqb-true, eqb-false, ltb-true}
-use Rattle.script.specs.Flat.{nodesIn}
-use Rattle.script.specs.Flat.Laws.{length-nodesIn, nodesIn-sets}
+use Rattle.script.specs.Flat.{numbersOf, nodeWidth, nodesIn, HasNode}
+use Rattle.script.specs.Flat.Laws.{length-nodesIn, nodesIn-sets, drop-sets}
 use Rattle.script.specs.Limits.{nodeLimit, entryLimit, sizeOf, pickSized}
 use Rattle.script.specs.Rows.{rowOf}
 use Rattle.script.specs.Table.{unused, rightNode, wellFormed}
@@ -82,11 +82,6 @@ sized-large true s e = let z : _≡_ {A = ℕ} 0 1 = cc in absurd (omega arith)
 sized-large false s e = refl
 
 -- ---- frames
-
--- stores before a place change nothing from there on
-pub drop-sets : (n : ℕ) (vs l : List ℕ) (i : ℕ) → i + length vs ≤ n → drop n (sets l i vs) ≡ drop n l
-drop-sets n [] l i h = refl
-drop-sets n (v ∷ vs) l i h = drop-sets n vs (set l i v) (suc i) (omega arith) ∙ drop-set-lt n l i v (omega arith)
 
 pub same-frame : (xs es : List ℕ) → Framed xs es xs es
 same-frame xs es = record { table-length = refl; entries-length = refl; rest = refl }
@@ -179,10 +174,10 @@ module _ (text : List ℕ) (at i : ℕ) (s : Script) (xs es : List ℕ) (k : Kep
   node-admitted n (m ∷ ns) h = rw (← h) refl
 
   abbrev stored : Node → List ℕ
-  stored n = sets xs (4 * s .nodes) (n .kind ∷ n .a ∷ n .b ∷ n .c ∷ [])
+  stored n = sets xs (nodeWidth * s .nodes) (numbersOf n)
 
   module _ (n : Node) (m : s .nodes < nodeLimit) where
-    room : 4 * s .nodes + 3 < length xs
+    room : HasNode xs (s .nodes)
     room = let a = k .lent-nodes in omega arith
 
     nodes-stored : take (s .nodes + 1) (nodesIn (stored n)) ≡ nodesBy s xs ++ (n ∷ [])
@@ -196,9 +191,9 @@ module _ (text : List ℕ) (at i : ℕ) (s : Script) (xs es : List ℕ) (k : Kep
         let l = length-nodesIn xs in
         let a = k .lent-nodes in
         record {
-          table-length = length-sets xs (4 * s .nodes) (n .kind ∷ n .a ∷ n .b ∷ n .c ∷ []);
+          table-length = length-sets xs (nodeWidth * s .nodes) (numbersOf n);
           entries-length = refl;
-          rest = drop-sets (4 * length (nodesIn xs)) (n .kind ∷ n .a ∷ n .b ∷ n .c ∷ []) xs (4 * s .nodes) (omega arith);
+          rest = drop-sets (nodeWidth * length (nodesIn xs)) (numbersOf n) xs (nodeWidth * s .nodes) (omega arith);
         }
 
     formed-more : rightNode (rowOf (n .kind)) (s .nodes) n ≡ true → (j : ℕ) → j < s .nodes + 1 → wellFormed (nodesBy s xs ++ (n ∷ [])) j ≡ true

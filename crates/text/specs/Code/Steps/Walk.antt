@@ -8,6 +8,7 @@ use native.Mathlib.Omega.{arith}
 use lib.Dec.{ltb}
 use lib.ListN.{length, drop, drop-of-length-le}
 use Rattle.script.specs.Flat.Laws.{length-nodesIn}
+use Rattle.script.specs.Flat.{nodeWidth}
 use Rattle.script.specs.Limits.{nodeLimit, entryLimit, sizeOf}
 use Rattle.script.specs.Table.{treeTest}
 use Rattle.script.specs.Tests.{need}
@@ -31,7 +32,7 @@ pub record Walked (text xs₀ es₀ : List ℕ) (s : Script) (xs es : List ℕ) 
   pub framed : Framed xs₀ es₀ xs es
   pub same : linesFrom i (entriesBy s es) (nodesBy s xs) (parts lf (drop at text)) ≡ linesFrom 0 [] [] (parts lf text)
 
-pub walk-start : (text xs es : List ℕ) → 4 * nodeLimit ≤ length xs → entryLimit ≤ length es → Walked text xs es (sizeOf 0 0) xs es 0 0
+pub walk-start : (text xs es : List ℕ) → nodeWidth * nodeLimit ≤ length xs → entryLimit ≤ length es → Walked text xs es (sizeOf 0 0) xs es 0 0
 walk-start text xs es h l =
     record {
       within = omega arith;

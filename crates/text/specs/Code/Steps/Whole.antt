@@ -3,10 +3,11 @@ use mathlib.Core.List.{List, [], _++_}
 use mathlib.Core.Path.{_≡_, refl, sym, ap, _∙_}
 use Prim.Native.Nat.{ℕ, _-_, _*_, _/_, _≤_, _<_}
 use native.Mathlib.Omega.{arith}
-use lib.ListN.{length, take, drop, replicate, length-append, length-replicate, take-append-drop}
+use lib.ListN.{length, take, drop, replicate, take-append-drop}
 use lib.Seq.{length-take-le, take-length}
 use borrow.Author.Tests.{le-leb, lt-leb}
-use Rattle.script.specs.Flat.{flat, nodesIn}
+use Rattle.script.specs.Code.Clearing.{Cleared}
+use Rattle.script.specs.Flat.{nodeWidth, flat, nodesIn}
 use Rattle.script.specs.Flat.Laws.{length-nodesIn, flat-nodesIn, enough-nodes}
 use Rattle.script.specs.Limits.{nodeLimit, entryLimit, byteLimit}
 use Rattle.script.specs.Table.{unused}
@@ -16,7 +17,7 @@ use Rattle.script.specs.declared.Refusal.the-variants.{TextTooLong, TableTooSma
 use Rattle.text.specs.Bytes.{lf}
 use Rattle.text.specs.Grammar.{Meaning, refused, linesFrom, parts, meaningOf}
 use Rattle.text.specs.Reading.{nodesRead, entriesRead, filled, tried, reading, leaves, readingIn}
-use Rattle.text.specs.Code.Steps.{usedNodes, usedEntries, Holds, Cleared}
+use Rattle.text.specs.Code.Steps.{usedNodes, usedEntries, Holds}
 use Rattle.text.specs.Code.Steps.Taken.{same-frame}
 
 -- ---- 32 and 31
@@ -29,12 +30,12 @@ module _ (text xs es : List ℕ) where
   abbrev triedIn : Meaning
   triedIn = tried text (length (nodesIn xs)) (length es)
 
-  pub few-nodes : length xs / 4 < nodeLimit → triedIn ≡ refused TableTooSmall
+  pub few-nodes : length xs / nodeWidth < nodeLimit → triedIn ≡ refused TableTooSmall
   few-nodes h =
       let l = length-nodesIn xs in
       rw (lt-leb nodeLimit (length (nodesIn xs)) (omega arith)) refl
 
-  module _ (h : nodeLimit ≤ length xs / 4) where
+  module _ (h : nodeLimit ≤ length xs / nodeWidth) where
     pub few-entries : length es < entryLimit → triedIn ≡ refused TableTooSmall
     few-entries l = rw (enough-nodes xs h, lt-leb entryLimit (length es) l) refl
 
@@ -48,9 +49,6 @@ module _ (text xs es : List ℕ) where
       not-too-long b = rw (enough-nodes xs h, le-leb entryLimit (length es) l, le-leb (length text) byteLimit b) refl
 
 -- ---- every lent number
-
-pub length-filled : (es : List ℕ) (n : ℕ) → n ≤ length es → length (take n es ++ replicate (length es - n) 0) ≡ length es
-length-filled es n h = length-append (take n es) (replicate (length es - n) 0) ∙ rw (length-take-le n es h, length-replicate {A = ℕ} (length es - n) 0) (omega arith)
 
 module _ {m : Meaning} {xs es : List ℕ} {r : Reading} {xs₁ es₁ : List ℕ} (h : Holds m xs es r xs₁ es₁) where
   entries-left : {es₂ : List ℕ} → es₂ ≡ take (usedEntries r) es₁ ++ replicate (length es₁ - usedEntries r) 0 → es₂ ≡ filled (entriesRead m) (length es) 0
@@ -70,15 +68,15 @@ module _ {m : Meaning} {xs es : List ℕ} {r : Reading} {xs₁ es₁ : List ℕ}
         let l : length (nodesRead m) ≡ usedNodes r = sym (ap length (h .nodes-are)) ∙ length-take-le (usedNodes r) (nodesIn xs₁) (h .nodes-room) in
         c .nodes-are ∙ rw (h .nodes-are, l, same-count) refl
 
-    rest-left : drop (4 * length (nodesIn xs)) xs₂ ≡ drop (4 * length (nodesIn xs)) xs
+    rest-left : drop (nodeWidth * length (nodesIn xs)) xs₂ ≡ drop (nodeWidth * length (nodesIn xs)) xs
     rest-left = rw same-count at (c .rest) ∙ h .framed .rest
 
-    table-left : xs₂ ≡ flat (filled (nodesRead m) (length (nodesIn xs)) unused) ++ drop (4 * length (nodesIn xs)) xs
+    table-left : xs₂ ≡ flat (filled (nodesRead m) (length (nodesIn xs)) unused) ++ drop (nodeWidth * length (nodesIn xs)) xs
     table-left =
         let n = length-nodesIn xs₂ in
         let f = flat-nodesIn xs₂ (length (nodesIn xs₂)) (omega arith) in
-        let g : flat (nodesIn xs₂) ≡ take (4 * length (nodesIn xs)) xs₂ = rw (take-length (nodesIn xs₂)) at f ∙ rw last-count refl in
-        sym (rw (← nodes-left, g, ← rest-left) (take-append-drop (4 * length (nodesIn xs)) xs₂))
+        let g : flat (nodesIn xs₂) ≡ take (nodeWidth * length (nodesIn xs)) xs₂ = rw (take-length (nodesIn xs₂)) at f ∙ rw last-count refl in
+        sym (rw (← nodes-left, g, ← rest-left) (take-append-drop (nodeWidth * length (nodesIn xs)) xs₂))
 
 pub left-so : (text xs es : List ℕ) {r : Reading} {xs₁ es₁ xs₂ es₂ : List ℕ} → Holds (tried text (length (nodesIn xs)) (length es)) xs es r xs₁ es₁ → Cleared (usedNodes r) xs₁ xs₂
     → es₂ ≡ take (usedEntries r) es₁ ++ replicate (length es₁ - usedEntries r) 0 → leaves r xs₂ es₂ ≡ readingIn text xs es

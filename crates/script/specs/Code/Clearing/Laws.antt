@@ -1,15 +1,14 @@
--- The unused places, one at a time. Assumes nothing.
-use mathlib.Core.List.{List, [], _∷_, _++_, append-assoc, append-nil}
+-- The clearing of unused places, one at a time. Assumes nothing.
+use mathlib.Core.List.{List, _∷_, _++_, append-assoc, append-nil}
 use mathlib.Core.Path.{_≡_, refl, sym, ap, _∙_}
 use Prim.Native.Nat.{ℕ, zero, suc, _+_, _-_, _*_, _≤_, _<_}
 use native.Mathlib.Omega.{arith}
 use lib.ListN.{length, take, drop, set, replicate, length-append, length-replicate, take-append-drop}
 use lib.Seq.{sets, length-sets, length-take-le, drop-cons, drop-length, set-at}
-use Rattle.script.specs.Flat.{nodesIn}
-use Rattle.script.specs.Flat.Laws.{length-nodesIn, nodesIn-sets}
+use Rattle.script.specs.Flat.{numbersOf, nodeWidth, nodesIn, HasNode}
+use Rattle.script.specs.Flat.Laws.{length-nodesIn, nodesIn-sets, drop-sets}
 use Rattle.script.specs.Table.{unused}
-use Rattle.text.specs.Code.Steps.{Cleared}
-use Rattle.text.specs.Code.Steps.Taken.{drop-sets}
+use Rattle.script.specs.Code.Clearing.{Cleared}
 
 -- ---- a list of anything
 
@@ -40,6 +39,11 @@ module _ {A : Type 0} (v : A) (xs : List A) (from : ℕ) where
   pub fill-end : filledTo (length xs) ≡ take from xs ++ replicate (length xs - from) v
   fill-end = rw (drop-length xs, append-nil (take from xs ++ replicate (length xs - from) v)) refl
 
+-- entries that are cleared from n on are as many as before
+pub length-filled : (es : List ℕ) (n : ℕ) → n ≤ length es → length (take n es ++ replicate (length es - n) 0) ≡ length es
+length-filled es n h =
+    length-append (take n es) (replicate (length es - n) 0) ∙ rw (length-take-le n es h, length-replicate {A = ℕ} (length es - n) 0) (omega arith)
+
 -- ---- the nodes of a table
 
 -- the nodes from `from` on are `false` as far as node i
@@ -48,28 +52,28 @@ pub record Clearing (from : ℕ) (xs xs′ : List ℕ) (i : ℕ) : Type 0 where
   pub most : i ≤ length (nodesIn xs)
   pub table-length : length xs′ ≡ length xs
   pub nodes-are : nodesIn xs′ ≡ filledTo unused (nodesIn xs) from i
-  pub rest : drop (4 * length (nodesIn xs)) xs′ ≡ drop (4 * length (nodesIn xs)) xs
+  pub rest : drop (nodeWidth * length (nodesIn xs)) xs′ ≡ drop (nodeWidth * length (nodesIn xs)) xs
 
 pub clear-start : (from : ℕ) (xs : List ℕ) → from ≤ length (nodesIn xs) → Clearing from xs xs from
 clear-start from xs h =
     record { least = omega arith; most = h; table-length = refl; nodes-are = sym (fill-start unused (nodesIn xs) from); rest = refl }
 
 module _ {from : ℕ} {xs xs′ : List ℕ} {i : ℕ} (c : Clearing from xs xs′ i) where
-  pub clear-room : i < length (nodesIn xs) → 4 * i + 3 < length xs′
+  pub clear-room : i < length (nodesIn xs) → HasNode xs′ i
   clear-room h =
       let l = length-nodesIn xs in
       let t = c .table-length in
       omega arith
 
-  pub clear-next : i < length (nodesIn xs) → Clearing from xs (sets xs′ (4 * i) (2 ∷ 0 ∷ 0 ∷ 0 ∷ [])) (suc i)
+  pub clear-next : i < length (nodesIn xs) → Clearing from xs (sets xs′ (nodeWidth * i) (numbersOf unused)) (suc i)
   clear-next h =
       let a = c .least in
       record {
         least = omega arith;
         most = omega arith;
-        table-length = length-sets xs′ (4 * i) (2 ∷ 0 ∷ 0 ∷ 0 ∷ []) ∙ c .table-length;
+        table-length = length-sets xs′ (nodeWidth * i) (numbersOf unused) ∙ c .table-length;
         nodes-are = nodesIn-sets xs′ i unused (clear-room h) ∙ rw (c .nodes-are) (fill-next unused (nodesIn xs) from i (c .least) h);
-        rest = drop-sets (4 * length (nodesIn xs)) (2 ∷ 0 ∷ 0 ∷ 0 ∷ []) xs′ (4 * i) (omega arith) ∙ c .rest;
+        rest = drop-sets (nodeWidth * length (nodesIn xs)) (numbersOf unused) xs′ (nodeWidth * i) (omega arith) ∙ c .rest;
       }
 
   pub clear-end : length (nodesIn xs) ≤ i → Cleared from xs xs′

@@ -1,13 +1,13 @@
--- `reader::clear_entries` meets its contract. Assumes nothing.
+-- `table::clearing::clear_entries` meets its contract. Assumes nothing.
 use borrow.Author.Needs.{needs}
 use mathlib.Core.Path.{_≡_, refl, sym, _∙_}
 use Prim.Native.Nat.{_-_, _≤_}
 use native.Mathlib.Omega.{arith}
 use native.Mathlib.Numerals.{add-one}
 use lib.ListN.{length, length-set}
-use Rattle.text.specs.Code.Steps.Clearing.{filledTo, fill-start, fill-next, fill-end}
-use Rattle.reader.proofs.clear_entries.Statement.{statement}
-use Rattle.reader.proofs.clear_entries.Tie as tie
+use Rattle.script.specs.Code.Clearing.Laws.{filledTo, fill-start, fill-next, fill-end}
+use Rattle.table.proofs.clearing.clear_entries.Statement.{statement}
+use Rattle.table.proofs.clearing.clear_entries.Tie as tie
 
 abbrev Inv-loop : tie.InvT-loop
 Inv-loop entries₀ from i₀ entries i = (from ≤ i) × (i ≤ length entries₀) × (length entries ≡ length entries₀) × (entries ≡ filledTo 0 entries₀ from i)
