@@ -1,4 +1,4 @@
-// The fifteen words: compared with fields in reading, copied out in writing.
+// The words of the kinds: compared with fields in reading, copied out in writing.
 ghost use mathlib.Core.Path.{_≡_};
 ghost use Rattle.text.specs.Fields.{sameBytes, kindOf};
 ghost use Rattle.text.specs.Code.Scan.{saidBy};
@@ -6,11 +6,11 @@ use script::table::KINDS;
 use text::Said;
 
 // The words in the order of the kinds, each in five places.
-pub const WORDS: [u8; 75] =
+pub const WORDS: [u8; 5 * KINDS as usize] =
     *b"int  true falsevar  add  eq   not  and  if   let  ref  get  set  typedsym  ";
 
 // How long each word is.
-pub const LENGTHS: [usize; 15] = [3, 4, 5, 3, 3, 2, 3, 3, 2, 3, 3, 3, 3, 5, 3];
+pub const LENGTHS: [usize; KINDS as usize] = [3, 4, 5, 3, 3, 2, 3, 3, 2, 3, 3, 3, 3, 5, 3];
 
 // Whether two byte strings are the same.
 pub fn same(a: &[u8], b: &[u8]) -> bool

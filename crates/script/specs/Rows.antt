@@ -1,4 +1,4 @@
--- The fifteen words (docs/SCRIPTS.md, 'Nodes') as one table of rows, in the order of the kinds: the word's bytes, its operand count, and the
+-- The words (docs/SCRIPTS.md, 'Nodes') as one table of rows, in the order of the kinds: the word's bytes, its operand count, and the
 -- form of tree that a node of that kind makes. Assumes nothing.
 use mathlib.Core.Bool.{Bool, true, false}
 use mathlib.Core.List.{List, [], _∷_}

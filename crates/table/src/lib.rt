@@ -26,7 +26,7 @@ use script::table::VAR;
 use script::table::WIDTH;
 
 // How many operands each kind takes: the one table of operand counts, for the reader, the writer and the tests of a table.
-const COUNTS: [u32; 15] = [1, 0, 0, 1, 2, 2, 1, 2, 3, 2, 1, 1, 2, 1, 1];
+const COUNTS: [u32; KINDS as usize] = [1, 0, 0, 1, 2, 2, 1, 2, 3, 2, 1, 1, 2, 1, 1];
 
 // How many operands a kind takes.
 pub fn operand_count(kind: u32) -> u32

@@ -5,7 +5,7 @@ use mathlib.Core.Path.{_≡_, refl}
 use Prim.Native.Nat.{ℕ}
 use lib.ListN.{replicate}
 use Rattle.script.specs.Answers.{Report, tableOf, bytesOf, refusedWith, reportOfReading, reportOfWriting}
-use Rattle.script.specs.Rows.{rows, rowOf}
+use Rattle.script.specs.Rows.{rows, rowOf, kindCount}
 use Rattle.script.specs.Table.{Table, nodeOf, wellFormed, operands, timesIn, uses, symsAround, tooDeep, treeTest, nodesTest, tableTest}
 use Rattle.script.specs.Table.Cases.{lend, int′, true′, add′, sym′}
 use Rattle.script.specs.Tests.{lowestFrom}
@@ -138,7 +138,7 @@ outputs =
     ∷ record { table = two; lent = []; answer = refusedWith 36 Nowhere; bytes = [] }
     -- the tests of the table come before 36
     ∷ record { table = lend (32 ∷ []) (add′ 0 0 ∷ []); lent = dots 3; answer = refusedWith 33 Nowhere; bytes = dots 3 }
-    ∷ record { table = lend [] (true′ ∷ nodeOf 15 0 0 0 ∷ []); lent = dots 3; answer = refusedWith 4 (At 1); bytes = dots 3 }
+    ∷ record { table = lend [] (true′ ∷ nodeOf kindCount 0 0 0 ∷ []); lent = dots 3; answer = refusedWith 4 (At 1); bytes = dots 3 }
     ∷ record { table = lend [] []; lent = dots 99; answer = refusedWith 3 Nowhere; bytes = dots 99 }
     ∷ []
 

@@ -6,12 +6,13 @@ use Prim.Native.Nat.{ℕ, suc, _≤_, _<_}
 use lib.Dec.{eqb}
 use lib.ListN.{length, drop, getD, drop-of-length-le}
 use lib.Seq.{drop-cons}
+use Rattle.script.specs.Rows.{truthForm, kindFor}
 use Rattle.script.specs.Tests.{all}
 use Rattle.script.specs.declared.Node.{Node}
 
--- `false`: kind 2, operands 0
+-- `false`, with operands 0
 abbrev pub isUnused : Node → Bool
-isUnused n = eqb (n .kind) 2 && (eqb (n .a) 0 && (eqb (n .b) 0 && eqb (n .c) 0))
+isUnused n = eqb (n .kind) (kindFor (truthForm false)) && (eqb (n .a) 0 && (eqb (n .b) 0 && eqb (n .c) 0))
 
 module _ {A : Type 0} (p : A → Bool) (xs : List A) (i : ℕ) where
   pub all-fails : (d : A) → i < length xs → p (getD xs i d) ≡ false → all p (drop i xs) ≡ false

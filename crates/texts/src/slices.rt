@@ -6,6 +6,7 @@ ghost use Rattle.script.specs.Flat.{nodesIn};
 ghost use Rattle.script.specs.Tests.{all};
 ghost use Rattle.texts.specs.Slices.{isUnused};
 use script::Node;
+use script::table::FALSE;
 use script::table::WIDTH;
 use table::node_at;
 
@@ -59,11 +60,11 @@ pub fn entries_clear(entries: &[u32], from: usize) -> bool
     true
 }
 
-// Whether this is `false`, kind 2 with operands 0, which unused places hold.
+// Whether this is `false`, with operands 0, which unused places hold.
 fn is_false(n: Node) -> bool
     ensures { λ r. ⌜ r ≡ isUnused n ⌝ }
 {
-    if n.kind != 2 {
+    if n.kind != FALSE {
         return false;
     }
     if n.a != 0 {

@@ -12,7 +12,7 @@ use Rattle.script.specs.Code.TableTests.Laws.{same-node}
 use Rattle.script.specs.Flat.{FormedNodes, nodesIn}
 use Rattle.script.specs.Flat.Laws.{nodesIn-holds}
 use Rattle.script.specs.Rows.{Row, Form, typedForm, symForm, truthForm, rows, rowOf, kindFor, kindCount, leafKinds, numberUpTo, countBy, operandCount, takesBy, takesIn, takesOf, nodesOnly, nodeOperands}
-use Rattle.script.specs.Rows.Laws.{formBy, row-form, form-row, countOf, row-count, row-kind, row-some, NoneOf, unaryForms, elsewhere, other-row}
+use Rattle.script.specs.Rows.Laws.{formBy, row-form, form-row, countOf, row-count, row-kind, NoneOf, unaryForms, elsewhere, other-row}
 use Rattle.script.specs.Table.{nodeAt, rightNode, wellFormed}
 use Rattle.script.specs.Table.Laws.{formed-at}
 use Rattle.script.specs.Tests.{lowestFrom}
@@ -26,12 +26,12 @@ use Rattle.script.specs.declared.Node.{Node}
 unfoldable pub formOf : ℕ → Form
 formOf k = formBy (rowOf k)
 
--- a form by its kind
+-- the form of a form's kind
 pub form-at : (f : Form) (k : ℕ) → k ≡ kindFor f → formOf k ≡ f
 unfolding formOf
 form-at f k e = ap formOf e ∙ form-row f
 
--- no other kind has a form, but that of `false`
+-- no other kind has it, unless it is `false`, which a kind without a word stands for
 pub no-form : (f : Form) (k : ℕ) → eqb (kindFor (truthForm false)) (kindFor f) ≡ false → (k ≡ kindFor f → ⊥) → formOf k ≡ f → ⊥
 unfolding formOf
 no-form f k h d e = go (rowOf k) refl e
@@ -73,9 +73,9 @@ pub kind-operands : (f : Form) (k : ℕ) → k ≡ kindFor f → nodeOperands k 
 unfolding nodeOperands takesOf operandCount
 kind-operands f k e = go (rowOf k) refl (ap (λ (m : ℕ). formBy (rowOf m)) e ∙ form-row f)
   where
-    go : (o : Option Row) → rowOf k ≡ o → formBy o ≡ f → nodesBy o ≡ nodesOfForm f
-    go none q s = ap nodesOfForm s
-    go (some r) q s = ap (nodesOnly (takesBy (numberUpTo (r .form)))) (row-count k r q) ∙ ap nodesOfForm s
+    go : (o : Option Row) → rowOf k ≡ o → formBy o ≡ f → nodeOperands k ≡ nodesOfForm f
+    go none q s = ap nodesBy q ∙ ap nodesOfForm s
+    go (some r) q s = form-operands k q s
 
 -- a leaf has none
 pub leaf-kinds : (k : ℕ) → k < leafKinds → nodeOperands k ≡ 0
@@ -89,7 +89,7 @@ other-kinds k h l =
     let e : leb leafKinds k && not (leb 1 (nodeOperands k)) ≡ false = lowest-none (λ k. leb leafKinds k && not (leb 1 (nodeOperands k))) kindCount refl k l in
     leb-true 1 (nodeOperands k) (not-false _ (rw (le-leb leafKinds k h) at e))
 
--- one of these five kinds
+-- no kind but these five has just one
 pub not-one : (k : ℕ) → NoneOf k (typedForm ∷ symForm ∷ unaryForms) → eqb (nodeOperands k) 1 ≡ false
 unfolding nodeOperands takesOf operandCount rows
 not-one k n = other-row (λ o. eqb (nodesBy o) 1) _ k refl n

@@ -2,11 +2,11 @@
 use mathlib.Core.Path.{_≡_, refl}
 use mathlib.Core.List.{List, [], _∷_, _++_, map}
 use mathlib.Core.Option.{Option, none, some}
-use Prim.Native.Nat.{ℕ, _-_}
+use Prim.Native.Nat.{ℕ, suc, _-_}
 use lib.ListN.{length, replicate}
 use Rattle.script.specs.Answers.{numberOf, placeOf}
 use Rattle.script.specs.Limits.{nodeLimit, entryLimit}
-use Rattle.script.specs.Rows.{rows, rowOf}
+use Rattle.script.specs.Rows.{rows, rowOf, kindCount}
 use Rattle.script.specs.Table.{Table, nodeOf, unused, wellFormed, operands, timesIn, uses, symsAround, tooDeep, treeTest, nodesTest, tableTest}
 use Rattle.script.specs.Tests.{lowestFrom}
 use Rattle.script.specs.declared.Node.{Node}
@@ -109,7 +109,7 @@ cases =
     -- 4: an operand that is no earlier node, also the node itself; a kind with no word; a number out of its range; an unused operand; before 5
     ∷ tests [] (true′ ∷ true′ ∷ add′ 1 2 ∷ []) (unsound 4 (At 2))
     ∷ tests [] (sym′ 0 ∷ []) (unsound 4 (At 0))
-    ∷ tests [] (true′ ∷ nodeOf 15 0 0 0 ∷ nodeOf 16 0 0 0 ∷ []) (unsound 4 (At 1))
+    ∷ tests [] (true′ ∷ nodeOf kindCount 0 0 0 ∷ nodeOf (suc kindCount) 0 0 0 ∷ []) (unsound 4 (At 1))
     ∷ tests [] (var′ 144 ∷ []) (unsound 4 (At 0))
     ∷ tests [] (var′ 143 ∷ []) sound
     ∷ tests [] (int′ 4294967296 ∷ []) (unsound 4 (At 0))

@@ -1,12 +1,12 @@
 -- Uses and `sym` around, for lists that hold them: one operand more, how large they get, and where the climb may begin. Assumes nothing.
 use mathlib.Core.Bool.{Bool, true, false}
-use mathlib.Core.List.{List, [], _∷_, _++_, map}
+use mathlib.Core.List.{List, [], _∷_, _++_}
 use mathlib.Core.Option.{Option, none, some}
 use mathlib.Core.Path.{_≡_, refl, sym, _∙_}
 use Prim.Native.Nat.{ℕ, zero, suc, _+_, _*_, _≤_, _<_}
 use native.Mathlib.Omega.{arith}
 use lib.Dec.{eqb}
-use lib.ListN.{length, replicate, getElem?, take, drop, getD, List·getD-eq-default}
+use lib.ListN.{length, take, drop, getD, List·getD-eq-default}
 use lib.Seq.{take-suc, drop-cons, length-take-le, getD-take}
 use borrow.Author.Tests.{eqb-true, eqb-false}
 use Rattle.script.specs.Rows.{Row, symForm, rows, rowOf, kindFor, numberUpTo, takesBy, takesIn, takesOf, countBy, operandCount, nodesOnly, nodeOperands}
