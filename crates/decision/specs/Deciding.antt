@@ -341,9 +341,9 @@ module _ (ws : List ℕ) (c g : ℕ) (f h : Formula) (space : Space ws 0) (disti
 
       go : Dec (i ≡ j) → Dec (i < j) → ⊥
       go (yes r) d = let m : 2 ≤ getD marks i 0 = rw r q in no-shared i li (omega arith) (atom-op a) e
-      go (no r) (yes l) = let w = within in true-or-false (sameAtom x y) same (distinct .apart i j x y l (omega arith) a b)
+      go (no r) (yes l) = let w = within in true-or-false (sameAtom x y) same (distinct .different i j x y l (omega arith) a b)
       go (no r) (no l) =
-          let w = within in true-or-false (sameAtom y x) (sameAtom-sym x y same) (distinct .apart j i y x (omega arith) (omega arith) b a)
+          let w = within in true-or-false (sameAtom y x) (sameAtom-sym x y same) (distinct .different j i y x (omega arith) (omega arith) b a)
 
   guard-apart : rank ws marks 3 (above c g) ≡ 0 → Apart f h
   guard-apart e =

@@ -1,6 +1,6 @@
 // The words of the kinds: compared with fields in reading, copied out in writing.
 ghost use mathlib.Core.Path.{_≡_};
-ghost use Rattle.text.specs.Fields.{sameBytes, kindOf};
+ghost use Rattle.text.specs.Fields.{sameBytes, kindNamed};
 ghost use Rattle.text.specs.Code.Scan.{saidBy};
 use script::table::KINDS;
 use text::Said;
@@ -31,7 +31,7 @@ pub fn same(a: &[u8], b: &[u8]) -> bool
 
 // The kind whose word the field is.
 pub fn kind_of(f: &[u8]) -> Said
-    ensures { λ r. ⌜ r ≡ saidBy (kindOf (now (f .entry))) ⌝ }
+    ensures { λ r. ⌜ r ≡ saidBy (kindNamed (now (f .entry))) ⌝ }
 {
     let words = WORDS;
     let lengths = LENGTHS;

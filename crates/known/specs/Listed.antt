@@ -146,7 +146,7 @@ module _ {ws ms : List ℕ} {least : ℕ} where
   listed-below d listed-none j y h k r = refl
   listed-below d (listed-skip e l) j y h k r = listed-below d l j y (omega arith) k r
   listed-below d (listed-more {i = i} {x = x} c a l) j y h k r =
-      rw (d .apart i j x y (omega arith) k a r, listed-below d l j y (omega arith) k r)
+      rw (d .different i j x y (omega arith) k a r, listed-below d l j y (omega arith) k r)
 
   pub listed-apart : Distinct ws → {n : ℕ} {xs : List Atom} → Listed ws ms least n xs → n ≤ countIn ws → Apart xs
   listed-apart d listed-none h = apart-none
@@ -174,4 +174,4 @@ module _ {ws ms : List ℕ} {least : ℕ} where
           let e : x ≡ y = atom-one a (rw q at r) in
           let n : length xs ≡ rank ws ms least i = rw q (listed-length l) in
           rw (e, sameAtom-refl y, n)
-      go (no q) ih = rw (same-turned y x (d .apart i j y x (omega arith) (omega arith) r a)) (ih (omega arith))
+      go (no q) ih = rw (same-turned y x (d .different i j y x (omega arith) (omega arith) r a)) (ih (omega arith))

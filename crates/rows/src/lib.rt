@@ -33,7 +33,7 @@ pub struct Counts {
 pub const ATOMS: u32 = 10;
 
 // How many numbers are kept of what is known of a condition.
-pub const KNOWN: usize = 44;
+pub const KNOWN_SIZE: usize = 44;
 
 // What a mark says: the condition reaches the row, the guard does, or both do. So a row that the guard reaches has at least its mark.
 pub const CONDITION: u8 = 1;

@@ -103,7 +103,7 @@ pub data SomeAtom (ws : List ℕ) (i : ℕ) : Type 0 where
 -- every row with the operator of a difference is that of an atom, so its operands are words; and different rows of atoms are different atoms
 pub record Distinct (ws : List ℕ) : Type 0 where
   pub differences : (i : ℕ) → i < countIn ws → rowIn ws i .op ≡ ofDifference → SomeAtom ws i
-  pub apart : (i j : ℕ) (x y : Atom) → i < j → j < countIn ws → AtomRow ws i x → AtomRow ws j y → sameAtom x y ≡ false
+  pub different : (i j : ℕ) (x y : Atom) → i < j → j < countIn ws → AtomRow ws i x → AtomRow ws j y → sameAtom x y ≡ false
 
 -- ---- more rows
 

@@ -19,7 +19,7 @@ pub const VARIABLES: usize = Script::ENTRIES + Script::NODES;
 pub const COUNT: usize = 2 * VARIABLES;
 
 // Where the rows begin.
-pub const FIRST: usize = COUNT + 1;
+pub const FIRST_ROW: usize = COUNT + 1;
 
 // At most how many rows a node makes.
 pub const ROWS_A_NODE: usize = 1;
@@ -32,7 +32,7 @@ pub const ROWS: usize = 1 + Script::ENTRIES + ROWS_A_NODE * Script::NODES;
 pub type RowNumber = u8;
 
 // Where the rows end.
-pub const END: usize = FIRST + 3 * ROWS;
+pub const END: usize = FIRST_ROW + 3 * ROWS;
 
 // What a row is: a word (a number, a symbol, the sum of two rows), a truth (a constant, the negation of a row, the conjunction or the equality of two,
 // the first of two without the second), or an atom (a truth symbol, a pair of reference symbols, the difference of two words). The order counts: truths with operands stand together, and the
@@ -75,9 +75,9 @@ pub fn row_at(space: &[u32], i: usize) -> Row
     ensures { λ r. ⌜ r ≡ rowIn (now (space .entry)) i ⌝ }
 {
     Row {
-        op: space[FIRST + 3 * i],
-        a: space[FIRST + 3 * i + 1],
-        b: space[FIRST + 3 * i + 2],
+        op: space[FIRST_ROW + 3 * i],
+        a: space[FIRST_ROW + 3 * i + 1],
+        b: space[FIRST_ROW + 3 * i + 2],
     }
 }
 
@@ -88,7 +88,7 @@ pub fn push(space: &mut [u32], op: u32, a: u32, b: u32) -> u32
     ensures { λ r. ⌜ now (space .exit) ≡ pushed (now (space .entry)) op a b ⌝ }
 {
     let n = space[COUNT];
-    let at = FIRST + 3 * (n as usize);
+    let at = FIRST_ROW + 3 * (n as usize);
     space[at] = op;
     space[at + 1] = a;
     space[at + 2] = b;

@@ -11,7 +11,7 @@ use Rattle.script.specs.Table.Cases.{lend, int′, true′, add′, sym′}
 use Rattle.script.specs.Tests.{lowestFrom}
 use Rattle.script.specs.declared.Place.the-variants.{Nowhere, At}
 use Rattle.text.specs.Bytes.{lf, tab, letter-b, letter-i, letter-r, entryWord}
-use Rattle.text.specs.Fields.{valueAfter, decimalUpTo, typeAfter, typeOf, sameBytes, kindOf}
+use Rattle.text.specs.Fields.{valueAfter, decimalUpTo, typeAfter, typeOf, sameBytes, kindNamed}
 use Rattle.text.specs.Grammar.{parts, numbersUpTo, lineOf, atEnd, linesFrom, meaningOf}
 use Rattle.text.specs.Code.Output.{wordOf}
 use Rattle.text.specs.Reading.{reading}
@@ -102,7 +102,7 @@ cases =
     ∷ []
 
 pub cases-hold : map asking cases ≡ map right cases
-unfolding cases rows rowOf wellFormed operands timesIn uses symsAround tooDeep treeTest lowestFrom valueAfter decimalUpTo typeAfter typeOf sameBytes kindOf parts numbersUpTo lineOf atEnd linesFrom meaningOf wordOf reading digitsIn
+unfolding cases rows rowOf wellFormed operands timesIn uses symsAround tooDeep treeTest lowestFrom valueAfter decimalUpTo typeAfter typeOf sameBytes kindNamed parts numbersUpTo lineOf atEnd linesFrom meaningOf wordOf reading digitsIn
 cases-hold = refl
 
 -- ---- outputs

@@ -66,5 +66,5 @@ wordIs none f = false
 wordIs (some r) f = sameBytes (r .word) f
 
 -- the kind whose word this is
-unfoldable pub kindOf : List ℕ → Option ℕ
-kindOf f = lowest (λ k. wordIs (rowOf k) f) (length rows)
+unfoldable pub kindNamed : List ℕ → Option ℕ
+kindNamed f = lowest (λ k. wordIs (rowOf k) f) (length rows)

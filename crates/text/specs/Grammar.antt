@@ -13,7 +13,7 @@ use Rattle.script.specs.declared.Node.{Node}
 use Rattle.script.specs.declared.Refusal.{Refusal}
 use Rattle.script.specs.declared.Refusal.the-variants.{BadLine, TooManyAt, BadOperand, NoNode, TextTooLong}
 use Rattle.text.specs.Bytes.{lf, tab, entryWord}
-use Rattle.text.specs.Fields.{decimalUpTo, typeOf, sameBytes, kindOf}
+use Rattle.text.specs.Fields.{decimalUpTo, typeOf, sameBytes, kindNamed}
 pub mod Bounds
 
 -- ---- lines and fields: the parts of a list between separators, at least one
@@ -74,7 +74,7 @@ entryFrom (f ∷ g ∷ fs) = none
 
 abbrev pub lineFrom : List (List ℕ) → Option Line
 lineFrom [] = none
-lineFrom (w ∷ fs) = pick (sameBytes entryWord w) (entryFrom fs) (nodeFrom (kindOf w) fs)
+lineFrom (w ∷ fs) = pick (sameBytes entryWord w) (entryFrom fs) (nodeFrom (kindNamed w) fs)
 
 -- a line without its LF
 unfoldable pub lineOf : List ℕ → Option Line

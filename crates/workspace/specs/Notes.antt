@@ -46,8 +46,8 @@ baseIn ws = getD ws baseAt 0
 abbrev pub operandIn : List ℕ → ℕ → ℕ
 operandIn ws at = getD ws at 0
 
-abbrev pub depthIn : List ℕ → ℕ → ℕ
-depthIn ws at = getD ws (at + 1) 0
+abbrev pub noteDepth : List ℕ → ℕ → ℕ
+noteDepth ws at = getD ws (at + 1) 0
 
 abbrev pub typeIn : List ℕ → ℕ → ℕ
 typeIn ws at = getD ws (at + 2) 0
@@ -75,7 +75,7 @@ pub record Readable (ws : List ℕ) (at : ℕ) : Type 0 where
 pub record Recallable (ws : List ℕ) (at depth : ℕ) : Type 0 where
   pub lent : at + noteWidth ≤ length ws
   pub small : depth ≤ symbolLimit
-  pub readable : depthIn ws at ≡ depth + 1 → Readable ws at
+  pub readable : noteDepth ws at ≡ depth + 1 → Readable ws at
 
 -- so have all
 pub record Recallables (ws : List ℕ) (depth : ℕ) : Type 0 where
@@ -90,7 +90,7 @@ abbrev pub agreesOn : List ℕ → ℕ → Bool
 agreesOn ws at = agreesFrom ws at 0 (namesIn ws at)
 
 abbrev pub isOf : List ℕ → ℕ → ℕ → ℕ → Bool
-isOf ws at depth a = eqb (operandIn ws at) a && (eqb (depthIn ws at) (depth + 1) && agreesOn ws at)
+isOf ws at depth a = eqb (operandIn ws at) a && (eqb (noteDepth ws at) (depth + 1) && agreesOn ws at)
 
 -- what the notes from the i-th on say
 unfoldable pub recalledOn : List ℕ → ℕ → ℕ → ℕ → ℕ → Known
@@ -158,7 +158,7 @@ pub record NoteOf (limit : ℕ) (table ws : List ℕ) (at depth : ℕ) : Type 0 
 
 -- every note is right or says nothing
 pub record Kept (limit : ℕ) (table ws : List ℕ) : Type 0 where
-  pub notes : (i : ℕ) → i < noteLimit → (depth : ℕ) → depthIn ws (noteAt i) ≡ suc depth → NoteOf limit table ws (noteAt i) depth
+  pub notes : (i : ℕ) → i < noteLimit → (depth : ℕ) → noteDepth ws (noteAt i) ≡ suc depth → NoteOf limit table ws (noteAt i) depth
 
 -- the whole note, if it can name all; else it says nothing, and the turn stays
 unfoldable pub notedAs : ℕ → ℕ → ℕ → ℕ → ℕ × List ℕ → List ℕ
@@ -193,7 +193,7 @@ pub record Holding (limit : ℕ) (table ws left : List ℕ) : Type 0 where
 -- no note yet
 pub record Bare (depth : ℕ) (ws : List ℕ) : Type 0 where
   pub base : baseIn ws ≡ depth
-  pub none : (i : ℕ) → i < noteLimit → depthIn ws (noteAt i) ≡ 0
+  pub none : (i : ℕ) → i < noteLimit → noteDepth ws (noteAt i) ≡ 0
 
 -- how a typed block on a path answers: only what stands behind the first variables changes, and the notes
 pub record Blocked (limit : ℕ) (table : List ℕ) (c : Checked) (depth : ℕ) (ws : List ℕ) (r : Checked) (left : List ℕ) : Type 0 where

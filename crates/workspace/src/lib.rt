@@ -49,7 +49,7 @@ pub const KEPT: usize = 8;
 pub const KNOWN: usize = NOTES + KEPT * NOTE;
 
 // How many numbers a workspace has.
-pub const SPACE: usize = KNOWN + rows::KNOWN;
+pub const SPACE: usize = KNOWN + rows::KNOWN_SIZE;
 
 // ---- the frames and the forks
 

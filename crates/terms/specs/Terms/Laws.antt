@@ -172,7 +172,7 @@ some-kept g (SomeAtom.some-atom u) h = SomeAtom.some-atom (atom-kept g u h)
 pub still-distinct : {ws left : List ℕ} → Grown ws left → countIn left ≤ countIn ws → Distinct ws → Distinct left
 still-distinct g h d = record {
   differences = λ i l e. some-kept g (d .differences i (omega arith) (sym (op-kept g i (omega arith)) ∙ e)) (omega arith);
-  apart = λ i j x y l m u v. d .apart i j x y l (omega arith) (atom-from g u (omega arith)) (atom-from g v (omega arith));
+  different = λ i j x y l m u v. d .different i j x y l (omega arith) (atom-from g u (omega arith)) (atom-from g v (omega arith));
 }
 
 -- a pushed row that is no earlier atom, but an atom if it has the operator of a difference
@@ -181,7 +181,7 @@ pub pushed-distinct : {ws : List ℕ} (s : Space ws 1) (d : Distinct ws) (op a b
     → Distinct (pushed ws op a b)
 pushed-distinct {ws} s d op a b one new = record {
   differences = λ i m e. old i e (eq-or-lt-of-le (let c = pushed-count s op a b in omega arith));
-  apart = λ i j x y l m u v. go i j x y l u v (eq-or-lt-of-le (let c = pushed-count s op a b in omega arith));
+  different = λ i j x y l m u v. go i j x y l u v (eq-or-lt-of-le (let c = pushed-count s op a b in omega arith));
 }
   where
     g : Grown ws (pushed ws op a b)
@@ -194,7 +194,7 @@ pushed-distinct {ws} s d op a b one new = record {
     go : (i j : ℕ) (x y : Atom) → i < j → AtomRow (pushed ws op a b) i x → AtomRow (pushed ws op a b) j y
         → (j ≡ countIn ws) ⊎ (j < countIn ws) → sameAtom x y ≡ false
     go i j x y l u v (inl e) = new i x y (omega arith) (atom-from g u (omega arith)) (rw e at v)
-    go i j x y l u v (inr h) = d .apart i j x y l h (atom-from g u (omega arith)) (atom-from g v h)
+    go i j x y l u v (inr h) = d .different i j x y l h (atom-from g u (omega arith)) (atom-from g v h)
 
 -- a pushed row that is no atom
 pub plain-distinct : {ws : List ℕ} (s : Space ws 1) (d : Distinct ws) (op a b : ℕ) → op < firstAtom → Distinct (pushed ws op a b)

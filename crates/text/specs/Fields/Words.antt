@@ -13,7 +13,7 @@ use Rattle.script.specs.Rows.{Row, rows, rowOf, kindCount}
 use Rattle.script.specs.Rows.Laws.{row-some}
 use Rattle.script.specs.Tests.{all, lowest}
 use Rattle.script.specs.Tests.Laws.{both-true, lowest-some}
-use Rattle.text.specs.Fields.{sameBytes, wordIs, kindOf}
+use Rattle.text.specs.Fields.{sameBytes, wordIs, kindNamed}
 use Rattle.text.specs.Code.Output.{wordBy, wordOf}
 
 -- ---- the words as the code keeps them
@@ -86,9 +86,9 @@ word-is k f h = go (rowOf k) refl
 abbrev pub isKindOf : List ℕ → ℕ → Bool
 isKindOf f k = wordIs (rowOf k) f
 
-pub kind-lowest : (f : List ℕ) → kindOf f ≡ lowest (isKindOf f) kindCount
-unfolding kindOf
+pub kind-lowest : (f : List ℕ) → kindNamed f ≡ lowest (isKindOf f) kindCount
+unfolding kindNamed
 kind-lowest f = refl
 
-pub kind-below : (f : List ℕ) (k : ℕ) → kindOf f ≡ some k → k < kindCount
+pub kind-below : (f : List ℕ) (k : ℕ) → kindNamed f ≡ some k → k < kindCount
 kind-below f k e = lowest-some (isKindOf f) kindCount k (sym (kind-lowest f) ∙ e) .below

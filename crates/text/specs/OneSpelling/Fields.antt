@@ -13,7 +13,7 @@ use Rattle.script.specs.Rows.{Row, rows, rowOf}
 use Rattle.script.specs.Tests.{pick}
 use Rattle.script.specs.Tests.Laws.{both-true, true-or-false, some-not-none, lowest-some}
 use Rattle.text.specs.Bytes.{letter-b, letter-i, letter-r}
-use Rattle.text.specs.Fields.{given, lastLetter, typeAfter, typeUpTo, typeOf, sameBytes, wordIs, kindOf}
+use Rattle.text.specs.Fields.{given, lastLetter, typeAfter, typeUpTo, typeOf, sameBytes, wordIs, kindNamed}
 use Rattle.text.specs.Writing.{typeText}
 
 -- where something is said, the test passed
@@ -91,8 +91,8 @@ pub record WordField (f : List ℕ) (k : ℕ) : Type 0 where
   pub is-row : rowOf k ≡ some row
   pub same : row .word ≡ f
 
-pub word-spelled : (f : List ℕ) (k : ℕ) → kindOf f ≡ some k → WordField f k
-unfolding kindOf
+pub word-spelled : (f : List ℕ) (k : ℕ) → kindNamed f ≡ some k → WordField f k
+unfolding kindNamed
 word-spelled f k e = go (rowOf k) refl (lowest-some (λ k. wordIs (rowOf k) f) (length rows) k e .holds)
   where
     go : (o : Option Row) → rowOf k ≡ o → wordIs o f ≡ true → WordField f k

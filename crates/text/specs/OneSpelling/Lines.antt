@@ -15,7 +15,7 @@ use Rattle.script.specs.Tests.{pick}
 use Rattle.script.specs.Tests.Laws.{some-not-none}
 use Rattle.script.specs.declared.Node.{Node}
 use Rattle.text.specs.Bytes.{tab, entryWord}
-use Rattle.text.specs.Fields.{decimalUpTo, typeOf, sameBytes, kindOf}
+use Rattle.text.specs.Fields.{decimalUpTo, typeOf, sameBytes, kindNamed}
 use Rattle.text.specs.Grammar.{onFirst, parts, Line, entryLine, nodeLine, upTo, onNumbers, numbersUpTo, nodeWith, nodeFrom, entryFrom, entryWith, lineFrom, lineOf}
 use Rattle.text.specs.Writing.{operandsText}
 use Rattle.text.specs.OneSpelling.Fields.{type-spelled, same-bytes, word-spelled}
@@ -103,8 +103,8 @@ entry-fields (f ∷ []) l e = go (typeOf f) refl e
         rw (append-nil, ← z) (entry-spelled (q .most) (rw (q .same) refl))
 entry-fields (f ∷ g ∷ fs) l e = absurd (some-not-none l (sym e))
 
-node-fields : (w : List ℕ) (fs : List (List ℕ)) (l : Line) → nodeFrom (kindOf w) fs ≡ some l → Spelled (w ++ led tab fs) l
-node-fields w fs l e = go (kindOf w) refl e
+node-fields : (w : List ℕ) (fs : List (List ℕ)) (l : Line) → nodeFrom (kindNamed w) fs ≡ some l → Spelled (w ++ led tab fs) l
+node-fields w fs l e = go (kindNamed w) refl e
   where
     counted : (k : ℕ) (r : Row) → rowOf k ≡ some r → r .word ≡ w → length fs ≡ r .count → nodeWith k (numbersUpTo (upTo (Rows.numberUpTo (r .form))) fs) ≡ some l → Spelled (w ++ led tab fs) l
     counted k r p q c e =
@@ -117,7 +117,7 @@ node-fields w fs l e = go (kindOf w) refl e
     by-count k r p q true c e = counted k r p q (eqb-true (length fs) (r .count) c) e
     by-count k r p q false c e = absurd (some-not-none l (sym e))
 
-    go : (o : Option ℕ) → kindOf w ≡ o → nodeFrom o fs ≡ some l → Spelled (w ++ led tab fs) l
+    go : (o : Option ℕ) → kindNamed w ≡ o → nodeFrom o fs ≡ some l → Spelled (w ++ led tab fs) l
     go none p e = absurd (some-not-none l (sym e))
     go (some k) p e = let s = word-spelled w k p in by-count k (s .row) (s .is-row) (s .same) (eqb (length fs) (s .row .count)) refl (rw (s .is-row) at e)
 
@@ -125,7 +125,7 @@ fields-spelled : (ps : List (List ℕ)) (l : Line) → lineFrom ps ≡ some l �
 fields-spelled [] l e = absurd (some-not-none l (sym e))
 fields-spelled (w ∷ fs) l e = go (sameBytes entryWord w) refl e
   where
-    go : (b : Bool) → sameBytes entryWord w ≡ b → pick b (entryFrom fs) (nodeFrom (kindOf w) fs) ≡ some l → Spelled (w ++ led tab fs) l
+    go : (b : Bool) → sameBytes entryWord w ≡ b → pick b (entryFrom fs) (nodeFrom (kindNamed w) fs) ≡ some l → Spelled (w ++ led tab fs) l
     go true q e = rw (← same-bytes entryWord w q) (entry-fields fs l e)
     go false q e = node-fields w fs l e
 

@@ -11,7 +11,7 @@ use Rattle.script.specs.Rows.Laws.{row-kind, operands-most}
 use Rattle.script.specs.Tests.{all, lowestFrom}
 use Rattle.script.specs.Tests.Laws.{all-getElem?, lowest-none, true-or-false}
 use Rattle.text.specs.Bytes.{tab, lf, entryWord}
-use Rattle.text.specs.Fields.{sameBytes, kindOf}
+use Rattle.text.specs.Fields.{sameBytes, kindNamed}
 use Rattle.text.specs.SameTable.Parts.{Free, isFree, is-free}
 
 -- ---- the kind of a word
@@ -28,13 +28,13 @@ is-some-true (some j) k e = ap some (eqb-true j k e)
 -- the word of the kind is the word of no lower kind
 tellsKind : Option Row → ℕ → Bool
 tellsKind none k = true
-tellsKind (some r) k = is-some (kindOf (r .word)) k
+tellsKind (some r) k = is-some (kindNamed (r .word)) k
 
 tells-kind : (k : ℕ) → k < kindCount → not (tellsKind (rowOf k) k) ≡ false
-unfolding rowOf rows lowestFrom tellsKind is-some kindOf sameBytes
+unfolding rowOf rows lowestFrom tellsKind is-some kindNamed sameBytes
 tells-kind k h = lowest-none (λ k. not (tellsKind (rowOf k) k)) kindCount refl k h
 
-pub word-kind : (k : ℕ) (r : Row) → rowOf k ≡ some r → kindOf (r .word) ≡ some k
+pub word-kind : (k : ℕ) (r : Row) → rowOf k ≡ some r → kindNamed (r .word) ≡ some k
 unfolding tellsKind
 word-kind k r e = is-some-true _ k (rw e at (not-false (tellsKind (rowOf k) k) (tells-kind k (row-kind k r e))))
 

@@ -21,7 +21,7 @@ use Rattle.terms.specs.Search.{nowhere-each, each-nowhere}
 use Rattle.terms.specs.Terms.{rowIn, SumRow}
 use Rattle.words.specs.Sums.{placeCount, added, gather, spread, passed, numbersOf, noNumbers, rowsTo, startWeights, hasSymbol, constantNumbers, differsAt, sameNumbers, remainsAt, oppositeNumbers, alike}
 use Rattle.words.specs.Sums.Laws.{agrees, symbol-of, of-symbol, joined-joins, gather-number, gather-symbol, gather-other, gather-length, symbol-op}
-use Rattle.words.specs.Sums.Values.{modulus, unit, unit-here, unit-other, Kind, kindOf, value, value-number, value-symbol, value-sum, numbers-value}
+use Rattle.words.specs.Sums.Values.{modulus, unit, unit-here, unit-other, RowCase, caseOf, value, value-number, value-symbol, value-sum, numbers-value}
 
 -- ---- numbers modulo 2^32
 
@@ -130,16 +130,16 @@ small-added xs at y h small k = go (eqb k at) refl
     go false e = rw (getD-set-other xs at k ((getD xs at 0 + y) % 2 ^ 32) 0 (eqb-false k at e)) (small k)
 
 small-gather : (ws xs : List ℕ) (i w : ℕ) → placeCount ≤ length xs → ((k : ℕ) → getD xs k 0 < modulus) → (k : ℕ) → getD (gather xs (rowIn ws i) w) k 0 < modulus
-small-gather ws xs i w h small k = go (kindOf (rowIn ws i) i)
+small-gather ws xs i w h small k = go (caseOf (rowIn ws i) i)
   where
-    go : Kind (rowIn ws i) i → getD (gather xs (rowIn ws i) w) k 0 < modulus
-    go (Kind.aNumber e) =
+    go : RowCase (rowIn ws i) i → getD (gather xs (rowIn ws i) w) k 0 < modulus
+    go (RowCase.aNumber e) =
         rw (sym (gather-number xs (rowIn ws i) w _ _ e refl refl)) (small-added xs 0 (w * rowIn ws i .a % 2 ^ 32) (omega arith) small k)
-    go (Kind.aSymbol n t) =
+    go (RowCase.aSymbol n t) =
         let s = symbol-of (rowIn ws i) t in
         rw (sym (gather-symbol xs (rowIn ws i) w _ n t refl)) (small-added xs (rowIn ws i .a + 1) w (omega arith) small k)
-    go (Kind.aSum n t j) = rw (sym (gather-other xs (rowIn ws i) w n t)) (small k)
-    go (Kind.noWord n t j) = rw (sym (gather-other xs (rowIn ws i) w n t)) (small k)
+    go (RowCase.aSum n t j) = rw (sym (gather-other xs (rowIn ws i) w n t)) (small k)
+    go (RowCase.noWord n t j) = rw (sym (gather-other xs (rowIn ws i) w n t)) (small k)
 
 small-passed : (ws : List ℕ) (i : ℕ) (weights xs : List ℕ) → placeCount ≤ length xs → ((k : ℕ) → getD xs k 0 < modulus)
     → (k : ℕ) → getD (passed ws i weights xs) k 0 < modulus

@@ -36,16 +36,16 @@ unit-other k at n = rw (ne-eqb k at n) refl
 
 -- ---- what a row is
 
-pub data Kind (row : Row) (i : ℕ) : Type 0 where
-  aNumber : row .op ≡ ofNumber → Kind row i
-  aSymbol : (row .op ≡ ofNumber → ⊥) → isSymbol row ≡ true → Kind row i
-  aSum : (row .op ≡ ofNumber → ⊥) → isSymbol row ≡ false → joins row ofSum i ≡ true → Kind row i
-  noWord : (row .op ≡ ofNumber → ⊥) → isSymbol row ≡ false → joins row ofSum i ≡ false → Kind row i
+pub data RowCase (row : Row) (i : ℕ) : Type 0 where
+  aNumber : row .op ≡ ofNumber → RowCase row i
+  aSymbol : (row .op ≡ ofNumber → ⊥) → isSymbol row ≡ true → RowCase row i
+  aSum : (row .op ≡ ofNumber → ⊥) → isSymbol row ≡ false → joins row ofSum i ≡ true → RowCase row i
+  noWord : (row .op ≡ ofNumber → ⊥) → isSymbol row ≡ false → joins row ofSum i ≡ false → RowCase row i
 
-pub kindOf : (row : Row) (i : ℕ) → Kind row i
-kindOf row i = go (eqb (row .op) ofNumber) refl (isSymbol row) refl (joins row ofSum i) refl
+pub caseOf : (row : Row) (i : ℕ) → RowCase row i
+caseOf row i = go (eqb (row .op) ofNumber) refl (isSymbol row) refl (joins row ofSum i) refl
   where
-    go : (t : Bool) → eqb (row .op) ofNumber ≡ t → (u : Bool) → isSymbol row ≡ u → (v : Bool) → joins row ofSum i ≡ v → Kind row i
+    go : (t : Bool) → eqb (row .op) ofNumber ≡ t → (u : Bool) → isSymbol row ≡ u → (v : Bool) → joins row ofSum i ≡ v → RowCase row i
     go true e u f v g = aNumber (eqb-true (row .op) ofNumber e)
     go false e true f v g = aSymbol (eqb-false (row .op) ofNumber e) f
     go false e false f true g = aSum (eqb-false (row .op) ofNumber e) f g
@@ -203,7 +203,7 @@ module _ (ws : List ℕ) (k i w : ℕ) (weights numbers : List ℕ) (h : i < len
       rw (sym (spread-other weights (rowIn ws i) i w j), sym (gather-other numbers (rowIn ws i) w n t), value-none ws k i n t j, mul-zero w)
       (same-eq (omega arith))
 
-  pass-row : Kind (rowIn ws i) i → Same modulus afterRow beforeRow
+  pass-row : RowCase (rowIn ws i) i → Same modulus afterRow beforeRow
   pass-row (aNumber e) = pass-number e
   pass-row (aSymbol n t) = pass-symbol n t
   pass-row (aSum n t j) = pass-sum n t j
@@ -219,7 +219,7 @@ module _ (ws : List ℕ) (k : ℕ) where
       let a = spread-length weights (rowIn ws i) i (getD weights i 0) in
       let b = gather-length numbers (rowIn ws i) (getD weights i 0) in
       same-trans (passed-value i (spread weights (rowIn ws i) i (getD weights i 0)) (gather numbers (rowIn ws i) (getD weights i 0)) (omega arith) (omega arith))
-      (pass-row ws k i (getD weights i 0) weights numbers (omega arith) l (kindOf (rowIn ws i) i))
+      (pass-row ws k i (getD weights i 0) weights numbers (omega arith) l (caseOf (rowIn ws i) i))
 
   -- the numbers of row p less row q
   pub numbers-value : (p q : ℕ) → p < rowLimit → q < rowLimit

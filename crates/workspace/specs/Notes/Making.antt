@@ -19,7 +19,7 @@ use Rattle.script.specs.declared.Checked.the-variants.{Accepted}
 use Rattle.rules.specs.Checking.{check}
 use Rattle.rules.specs.Checking.Mentions.{mentions, check-same}
 use Rattle.terms.specs.Places.{symbolLimit}
-use Rattle.workspace.specs.Notes.{baseIn, operandIn, depthIn, typeIn, namesIn, nameIn, namedType, Named, named, Nameable, namesFrom, namesTo, Naming, Names, notedAs, Agrees, NoteOf, Kept, Noted}
+use Rattle.workspace.specs.Notes.{baseIn, operandIn, noteDepth, typeIn, namesIn, nameIn, namedType, Named, named, Nameable, namesFrom, namesTo, Naming, Names, notedAs, Agrees, NoteOf, Kept, Noted}
 use Rattle.workspace.specs.Notes.Keeping.{note-same}
 use Rattle.workspace.specs.Places.{baseAt, nameLimit, noteAt, noteLimit, noteWidth, notesAt, spaceSize, turnAt}
 use Rattle.workspace.specs.State.{typesOn}
@@ -212,10 +212,10 @@ module _ {ws left : List ℕ} (turn : ℕ) (s : Elsewhere (noteAt turn) ws left)
 
   -- and so all are right if the new one is
   kept-still : {limit : ℕ} {table : List ℕ} → baseIn ws ≤ symbolLimit → Kept limit table ws
-      → ((depth : ℕ) → depthIn left (noteAt turn) ≡ suc depth → NoteOf limit table left (noteAt turn) depth) → Kept limit table left
+      → ((depth : ℕ) → noteDepth left (noteAt turn) ≡ suc depth → NoteOf limit table left (noteAt turn) depth) → Kept limit table left
   kept-still {limit} {table} small k new = record { notes = λ i l depth e. go i l depth e (eqb i turn) refl }
     where
-      go : (i : ℕ) → i < noteLimit → (depth : ℕ) → depthIn left (noteAt i) ≡ suc depth → (b : Bool) → eqb i turn ≡ b → NoteOf limit table left (noteAt i) depth
+      go : (i : ℕ) → i < noteLimit → (depth : ℕ) → noteDepth left (noteAt i) ≡ suc depth → (b : Bool) → eqb i turn ≡ b → NoteOf limit table left (noteAt i) depth
       go i l depth e true q = let p = eqb-true i turn q in rw p (new depth (rw p at e))
       go i l depth e false q =
           let d = eqb-false i turn q in
@@ -233,7 +233,7 @@ below-or-not a b = go (leb b a) refl
 -- the first four numbers of the note at this place are these, and every other place but the turn's is as it was
 record Put (at depth a t count : ℕ) (ws left : List ℕ) : Type 0 where
   operand : operandIn left at ≡ a
-  variables : depthIn left at ≡ depth + 1
+  variables : noteDepth left at ≡ depth + 1
   type : typeIn left at ≡ t
   names : namesIn left at ≡ count
   others : (k : ℕ) → (k ≡ turnAt → ⊥) → (at ≤ k → k < at + 4 → ⊥) → getD left k 0 ≡ getD ws k 0
@@ -307,7 +307,7 @@ module _ (ws : List ℕ) (depth turn : ℕ) (its : turn ≡ getD ws turnAt 0 % n
     middle-other k d =
         n .others k (λ x y. d (omega arith) (omega arith)) ∙ cleared-other k (λ e. d (omega arith) (omega arith))
 
-    middle-nothing : depthIn middle (noteAt turn) ≡ 0
+    middle-nothing : noteDepth middle (noteAt turn) ≡ 0
     middle-nothing = n .others (noteAt turn + 1) (λ x y. omega arith) ∙ getD-set-same ws (noteAt turn + 1) 0 0 (omega arith)
 
     middle-length : length middle ≡ length ws
@@ -391,7 +391,7 @@ module _ (ws : List ℕ) (depth turn : ℕ) (its : turn ≡ getD ws turnAt 0 % n
         }
       where
         whole-right : (limit : ℕ) → baseIn ws ≤ depth → check limit (treeIn table a) (typesOn ws depth) ≡ Accepted t → (d : ℕ)
-            → depthIn whole (noteAt turn) ≡ suc d → NoteOf limit table whole (noteAt turn) d
+            → noteDepth whole (noteAt turn) ≡ suc d → NoteOf limit table whole (noteAt turn) d
         whole-right limit base c d e =
             let b : baseIn cleared ≤ depth = omega (arith, base, cleared-other baseAt (λ q. omega arith)) in
             let f : typesOn cleared depth ≡ typesOn ws depth = types-kept ws cleared depth (λ k l. cleared-other k (λ q. omega arith)) in

@@ -16,7 +16,7 @@ use Rattle.script.specs.Tests.Laws.{both-true}
 use Rattle.script.specs.declared.Checked.the-variants.{Accepted}
 use Rattle.rules.specs.Checking.{check}
 use Rattle.terms.specs.Places.{symbolLimit}
-use Rattle.workspace.specs.Notes.{baseIn, operandIn, depthIn, typeIn, namesIn, nameIn, namedType, Recallables, agreesFrom, agreesOn, isOf, recalledOn, Agrees, NoteOf, Kept}
+use Rattle.workspace.specs.Notes.{baseIn, operandIn, noteDepth, typeIn, namesIn, nameIn, namedType, Recallables, agreesFrom, agreesOn, isOf, recalledOn, Agrees, NoteOf, Kept}
 use Rattle.workspace.specs.Places.{noteAt, noteLimit, spaceSize}
 use Rattle.workspace.specs.State.{typesOn}
 use Rattle.workspace.specs.State.Laws.{types-at, types-length}
@@ -57,11 +57,11 @@ module _ (ws : List ℕ) (at depth a : ℕ) where
   pub other-operand : (operandIn ws at ≡ a → ⊥) → false ≡ isOf ws at depth a
   other-operand d = rw (ne-eqb (operandIn ws at) a d) refl
 
-  pub other-depth : operandIn ws at ≡ a → (depthIn ws at ≡ depth + 1 → ⊥) → false ≡ isOf ws at depth a
-  other-depth e d = rw (eq-eqb (operandIn ws at) a e, ne-eqb (depthIn ws at) (depth + 1) d) refl
+  pub other-depth : operandIn ws at ≡ a → (noteDepth ws at ≡ depth + 1 → ⊥) → false ≡ isOf ws at depth a
+  other-depth e d = rw (eq-eqb (operandIn ws at) a e, ne-eqb (noteDepth ws at) (depth + 1) d) refl
 
-  pub same-note : operandIn ws at ≡ a → depthIn ws at ≡ depth + 1 → agreesOn ws at ≡ isOf ws at depth a
-  same-note e d = rw (eq-eqb (operandIn ws at) a e, eq-eqb (depthIn ws at) (depth + 1) d) refl
+  pub same-note : operandIn ws at ≡ a → noteDepth ws at ≡ depth + 1 → agreesOn ws at ≡ isOf ws at depth a
+  same-note e d = rw (eq-eqb (operandIn ws at) a e, eq-eqb (noteDepth ws at) (depth + 1) d) refl
 
 -- ---- the loop over the notes
 
@@ -117,7 +117,7 @@ module _ {limit : ℕ} {table ws : List ℕ} {depth : ℕ} (k : Kept limit table
   note-right : (i : ℕ) → i < noteLimit → isOf ws (noteAt i) depth a ≡ true → check limit (treeIn table a) (typesOn ws depth) ≡ Accepted (typeIn ws (noteAt i))
   note-right i l e =
       let p = both-true (eqb (operandIn ws (noteAt i)) a) _ e in
-      let q = both-true (eqb (depthIn ws (noteAt i)) (depth + 1)) (agreesOn ws (noteAt i)) (p .1) in
+      let q = both-true (eqb (noteDepth ws (noteAt i)) (depth + 1)) (agreesOn ws (noteAt i)) (p .1) in
       let n = k .notes i l depth (eqb-true _ _ (q .0) ∙ add-one depth) in
       rw (eqb-true (operandIn ws (noteAt i)) a (p .0)) at (n .right (typesOn ws depth) (types-length ws depth) (note-agrees (noteAt i) n (q .1)))
 

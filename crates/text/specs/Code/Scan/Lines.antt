@@ -15,7 +15,7 @@ use Rattle.script.specs.Rows as Rows
 use Rattle.script.specs.Tests.{pick}
 use Rattle.script.specs.Tests.Laws.{true-or-false}
 use Rattle.text.specs.Bytes.{lf, tab, entryWord}
-use Rattle.text.specs.Fields.{decimalUpTo, typeOf, sameBytes, kindOf}
+use Rattle.text.specs.Fields.{decimalUpTo, typeOf, sameBytes, kindNamed}
 use Rattle.text.specs.Grammar.{parts, onFirst, onNumbers, numbersUpTo, nodeWith, nodeBy, entryWith, entryFrom, lineFrom, lineOf, upTo}
 use Rattle.text.specs.Code.Scan.{startsWith, fieldIn, fieldEnds, lineIn, lineEnds, fieldsAfter, operandBy, operandAt, located, lineAt, entryAfter, nodeAfter}
 use Rattle.text.specs.Code.Scan.Laws.{field-ends, field-most}
@@ -267,9 +267,9 @@ module _ (text : List ℕ) (at : ℕ) where
   unfolding entryAfter
   line-entry e = line-fields at (drop at text) ∙ rw (e, rest-then) refl
 
-  pub line-node : (k : ℕ) → sameBytes entryWord wordThen ≡ false → kindOf wordThen ≡ some k → lineAt at (drop at text) ≡ nodeAfter k (at + length wordThen) (drop (at + length wordThen) text)
+  pub line-node : (k : ℕ) → sameBytes entryWord wordThen ≡ false → kindNamed wordThen ≡ some k → lineAt at (drop at text) ≡ nodeAfter k (at + length wordThen) (drop (at + length wordThen) text)
   unfolding nodeAfter
   line-node k e f = line-fields at (drop at text) ∙ rw (e, f, rest-then) refl
 
-  pub line-none : sameBytes entryWord wordThen ≡ false → kindOf wordThen ≡ none → lineAt at (drop at text) ≡ Scanned.Bad
+  pub line-none : sameBytes entryWord wordThen ≡ false → kindNamed wordThen ≡ none → lineAt at (drop at text) ≡ Scanned.Bad
   line-none e f = line-fields at (drop at text) ∙ rw (e, f) (located-none (lineEnds (restIn (drop at text))) (at + length wordThen + length (lineIn (restIn (drop at text))) + 1))

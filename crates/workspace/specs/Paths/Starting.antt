@@ -44,7 +44,7 @@ module _ {ws : List ℕ} (b : Blank ws) where
   blank-distinct : Distinct ws
   blank-distinct = record {
     differences = λ i l e. absurd (omega (arith, l, b .zeros countAt));
-    apart = λ i j x y h l u v. absurd (omega (arith, l, b .zeros countAt));
+    different = λ i j x y h l u v. absurd (omega (arith, l, b .zeros countAt));
   }
 
   abbrev first-row : List ℕ
