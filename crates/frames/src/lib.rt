@@ -5,7 +5,7 @@ ghost use mathlib.Core.Path.{_≡_};
 ghost use Prim.Native.Nat.{_*_, _/_, _≤_, _<_};
 ghost use lib.ListN.{length, set};
 ghost use Rattle.script.specs.Limits.{nodeLimit};
-ghost use Rattle.workspace.specs.Frames.{frameIn, upOf, Waitable, Waits, frameAt, waitsFor, Descends, Descendable, awaitLimit, goesTo};
+ghost use Rattle.workspace.specs.Frames.{frameIn, Waitable, Waits, frameAt, waitsFor, Descends, Descendable, awaitLimit, goesTo};
 ghost use Rattle.workspace.specs.Places.{framesEnd, goalAt};
 
 pub mod forks;

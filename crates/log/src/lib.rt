@@ -3,9 +3,9 @@ ghost use mathlib.Core.Path.{_≡_};
 ghost use Prim.Native.Nat.{suc, _-_, _<_, _≤_};
 ghost use lib.ListN.{length};
 ghost use Rattle.script.specs.Limits.{nodeLimit};
-ghost use Rattle.workspace.specs.Log.{rightOn, mendsOn, mendedOn, settledOn, consistentOn, lookupOn, written, emptied};
+ghost use Rattle.workspace.specs.Log.{rightOn, mendsOn, mendedOn, settledOn, written, emptied, consistentIn, lookupIn};
 ghost use Rattle.workspace.specs.Places.{spaceSize};
-ghost use Rattle.workspace.specs.State.{writesIn, startIn};
+ghost use Rattle.workspace.specs.State.{writesIn};
 use terms::references::apart;
 use terms::references::symbol_of;
 use workspace::Found;
@@ -72,7 +72,7 @@ fn settled(space: &[u32], i: usize) -> bool
 pub fn consistent(space: &[u32]) -> bool
     requires { ⌜ writesIn (now space) ≤ nodeLimit ⌝ }
     requires { ⌜ spaceSize ≤ length (now space) ⌝ }
-    ensures { λ r. ⌜ r ≡ consistentOn (now (space .entry)) (startIn (now (space .entry))) 0 (writesIn (now (space .entry)) - startIn (now (space .entry))) ⌝ }
+    ensures { λ r. ⌜ r ≡ consistentIn (now (space .entry)) ⌝ }
 {
     let first = space[START] as usize;
     let mut i = space[WRITES] as usize;
@@ -89,7 +89,7 @@ pub fn consistent(space: &[u32]) -> bool
 pub fn lookup(space: &[u32], place: u32) -> Found
     requires { ⌜ writesIn (now space) ≤ nodeLimit ⌝ }
     requires { ⌜ spaceSize ≤ length (now space) ⌝ }
-    ensures { λ r. ⌜ r ≡ lookupOn (now (space .entry)) (startIn (now (space .entry))) place (writesIn (now (space .entry)) - startIn (now (space .entry))) ⌝ }
+    ensures { λ r. ⌜ r ≡ lookupIn (now (space .entry)) place ⌝ }
 {
     let first = space[START] as usize;
     let mut i = space[WRITES] as usize;

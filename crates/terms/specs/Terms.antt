@@ -4,7 +4,7 @@ pub mod Laws
 use mathlib.Core.Bool.{Bool, true, false}
 use mathlib.Core.List.{List}
 use mathlib.Core.Path.{_≡_}
-use Prim.Native.Nat.{ℕ, _+_, _*_, _≤_, _<_}
+use Prim.Native.Nat.{ℕ, _+_, _≤_, _<_}
 use lib.ListN.{length, getD, set}
 use Rattle.rules.specs.Symbolic.{Sum, number, wordSymbol, plus, minus, Atom, truthSymbol, pair, difference, sameAtom, Formula, constantly, atom, negation, conjunction, equality}
 use Rattle.terms.specs.Places.{countAt, rowAt, rowLimit, rowsAt, rowsEnd, symbolLimit}

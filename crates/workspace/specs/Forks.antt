@@ -6,7 +6,7 @@ use Prim.Native.Nat.{ℕ, suc, _+_, _*_, _-_, _/_, _%_, _≤_, _<_}
 use lib.ListN.{length, getD, set}
 use Rattle.terms.specs.Places.{countAt, rowsEnd}
 use Rattle.terms.specs.Terms.{countIn}
-use Rattle.workspace.specs.Frames.{frameIn, topIn, upOf, firstOf, secondOf}
+use Rattle.workspace.specs.Frames.{frameIn, topIn, upOf, firstOf, secondOf, awaitsOf, forBody}
 use Rattle.workspace.specs.Places.{forkAt, forkLimit, forkedAt, framesSize, knownAt, logAt, spaceSize}
 use Rattle.workspace.specs.State.{nextIn, conditionIn, writesIn, startIn, depthIn}
 
@@ -93,5 +93,5 @@ pub record Rewound (j : ℕ) (ws fs left gs : List ℕ) : Type 0 where
 
 -- the variable before place d is the one that frame f has, if that waits for the body of a `let`
 pub record RestoredOne (fs : List ℕ) (f d : ℕ) (ws : List ℕ) (r : ℕ) (left : List ℕ) : Type 0 where
-  pub body : upOf fs f % 4 ≡ 2 → (suc r ≡ d) × (left ≡ set (set ws (2 * (d - 1)) (firstOf fs f)) (2 * (d - 1) + 1) (secondOf fs f))
-  pub other : (upOf fs f % 4 ≡ 2 → ⊥) → (r ≡ d) × (left ≡ ws)
+  pub body : awaitsOf fs f ≡ forBody → (suc r ≡ d) × (left ≡ set (set ws (2 * (d - 1)) (firstOf fs f)) (2 * (d - 1) + 1) (secondOf fs f))
+  pub other : (awaitsOf fs f ≡ forBody → ⊥) → (r ≡ d) × (left ≡ ws)

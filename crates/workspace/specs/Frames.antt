@@ -1,5 +1,5 @@
--- Frames as the code has them, four numbers each: the node that waits, four times the frame that its value goes to and what it waits for
--- (0 its first operand, 1 the next one, 2 the body of a `let`), and the type and the place of its first operand's value. Assumes nothing.
+-- Frames as the code has them: the node that waits, in one number the frame that its value goes to and what it waits for, and the type and the place of
+-- its first operand's value. Assumes nothing.
 pub mod Laws
 use mathlib.Core.Bool.{Bool, true, false, not, _&&_}
 use mathlib.Core.List.{List}
@@ -37,10 +37,20 @@ firstOf fs f = getD fs (frameWidth * f + 2) 0
 abbrev pub secondOf : List ℕ → ℕ → ℕ
 secondOf fs f = getD fs (frameWidth * f + 3) 0
 
--- what a node waits for is below this
+-- what a node waits for: the value of its first operand, of the next one, or of the body of a `let`; a number below the last
+abbrev pub forFirst : ℕ
+forFirst = 0
+
+abbrev pub forNext : ℕ
+forNext = 1
+
+abbrev pub forBody : ℕ
+forBody = 2
+
 abbrev pub awaitLimit : ℕ
 awaitLimit = 4
 
+-- both in one number, and each by that number
 abbrev pub upTo : ℕ → ℕ → ℕ
 upTo f awaits = awaitLimit * f + awaits
 
@@ -79,7 +89,7 @@ waitsFor kind = leb leafKinds kind && not (eqb kind (kindFor typedForm))
 -- from node m on down the first operands, each of which waits
 pub data Descends (table : List ℕ) : List ℕ → ℕ → ℕ → List ℕ → Type 0 where
   down-to : {fs : List ℕ} {m : ℕ} → waitsFor (nodeIn table m .kind) ≡ false → Descends table fs m m fs
-  down-from : {fs between left : List ℕ} {m n : ℕ} → waitsFor (nodeIn table m .kind) ≡ true → Waits m 0 0 0 fs between
+  down-from : {fs between left : List ℕ} {m n : ℕ} → waitsFor (nodeIn table m .kind) ≡ true → Waits m forFirst 0 0 fs between
       → Descends table between (nodeIn table m .a) n left → Descends table fs m n left
 
 pub record Descendable (table fs : List ℕ) (m : ℕ) : Type 0 where

@@ -1,17 +1,17 @@
 -- The log as the code reads it, four numbers a write: consistency, what `get` finds, and a write. Assumes nothing.
 pub mod Laws
 pub mod Loops
-use mathlib.Core.Bool.{Bool, true, false, not, _&&_, _||_}
+use mathlib.Core.Bool.{Bool, true, false, _&&_, _||_}
 use mathlib.Core.List.{List}
 use mathlib.Core.Option.{Option, none, some}
-use Prim.Native.Nat.{ℕ, zero, suc, _+_, _*_, _-_, _/_, _%_}
+use Prim.Native.Nat.{ℕ, zero, suc, _+_, _-_}
 use lib.Dec.{leb, eqb}
 use lib.ListN.{getD, set}
 use Rattle.script.specs.Tests.{pick}
 use Rattle.rules.specs.Symbolic.{Symbolic}
 use Rattle.terms.specs.References.{apartAt, symbolAt}
 use Rattle.workspace.specs.Places.{startAt, writeAt, writesAt}
-use Rattle.workspace.specs.State.{writesIn, Means}
+use Rattle.workspace.specs.State.{writesIn, Means, startIn}
 use Rattle.workspace.specs.declared.Found.{Found}
 use Rattle.workspace.specs.declared.Found.the-variants.{Value, Nothing}
 
@@ -50,6 +50,13 @@ lookupAt ws q i before =
 unfoldable pub lookupOn : List ℕ → ℕ → ℕ → ℕ → Found
 lookupOn ws begin q zero = Nothing
 lookupOn ws begin q (suc i) = lookupAt ws q (begin + i) (lookupOn ws begin q i)
+
+-- of the writes that count: whether they are consistent, and what `get` finds among them
+abbrev pub consistentIn : List ℕ → Bool
+consistentIn ws = consistentOn ws (startIn ws) 0 (writesIn ws - startIn ws)
+
+abbrev pub lookupIn : List ℕ → ℕ → Found
+lookupIn ws q = lookupOn ws (startIn ws) q (writesIn ws - startIn ws)
 
 -- what that means
 pub data FoundAs (ws : List ℕ) : Found → Option Symbolic → Type 0 where

@@ -1,5 +1,5 @@
 -- What the symbolic rules give and leave, number by number: each rule's step, and the workspace after it. Assumes nothing.
-use mathlib.Core.Bool.{Bool, true, false}
+use mathlib.Core.Bool.{true, false}
 use mathlib.Core.List.{List}
 use Prim.Native.Nat.{ℕ, zero, suc, _+_, _*_, _-_}
 use lib.Dec.{leb, ltb, eqb}
@@ -13,9 +13,9 @@ use Rattle.terms.specs.Atoms.{atomRowOf, atomLeft, referencesRow, referencesLef
 use Rattle.terms.specs.References.{referenceAt}
 use Rattle.terms.specs.Terms.{countIn, pushed, ofConjunction, ofConstant, ofEquality, ofNegation, ofNumber, ofSum, ofSymbol, ofTruth}
 use Rattle.words.specs.Words.{equalRow, equalLeft}
-use Rattle.workspace.specs.Log.{consistentOn, lookupOn, written, emptied}
+use Rattle.workspace.specs.Log.{written, emptied, consistentIn, lookupIn}
 use Rattle.workspace.specs.Places.{nextAt}
-use Rattle.workspace.specs.State.{nextIn, writesIn, startIn}
+use Rattle.workspace.specs.State.{nextIn}
 use Rattle.workspace.specs.declared.Found.{Found}
 use Rattle.workspace.specs.declared.Found.the-variants.{Value, Nothing}
 use Rattle.workspace.specs.declared.Step.{Step}
@@ -64,10 +64,6 @@ leafGives (binaryForm o) n a depth ws = constant 0 ws
 
 -- ---- one operand, of type t at place q
 
--- the writes that count are consistent
-abbrev pub consistentIn : List ℕ → Bool
-consistentIn ws = consistentOn ws (startIn ws) 0 (writesIn ws - startIn ws)
-
 -- what the log has, or a fresh symbol of the type that the cell has
 unfoldable pub gotGives : Found → ℕ → List ℕ → Outcome
 gotGives (Value u p) t ws = gives (Gave u p) ws
@@ -79,7 +75,7 @@ unaryGives refOp n t q ws =
     pick (ltb t deepest) (gives (Gave (t + 2) (referenceAt made (nextIn ws))) (written (numbered ws) (t + 2) (referenceAt made (nextIn ws)) t q)) (gives (Stopped (TooManyReferences n)) ws)
 unaryGives getOp n t q ws =
     pick (ltb t 2) (gives (Stopped (WrongType n)) ws)
-    (pick (consistentIn ws) (gotGives (lookupOn ws (startIn ws) q (writesIn ws - startIn ws)) t ws) (gives (Stopped (InconsistentLog n)) ws))
+    (pick (consistentIn ws) (gotGives (lookupIn ws q) t ws) (gives (Stopped (InconsistentLog n)) ws))
 
 unfoldable pub oneGives : Form → ℕ → ℕ → ℕ → List ℕ → Outcome
 oneGives intForm n t q ws = gives (Gave t q) ws

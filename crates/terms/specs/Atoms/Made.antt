@@ -4,10 +4,10 @@ use mathlib.Core.Bool.{Bool, true, false, false≢true}
 use mathlib.Core.List.{List}
 use mathlib.Core.Logic.{_⊎_, inl, inr}
 use mathlib.Core.Path.{_≡_, refl, sym, _∙_}
-use Prim.Native.Nat.{ℕ, _+_, _*_, _/_, _%_, _<_}
+use Prim.Native.Nat.{ℕ, _<_}
 use native.Mathlib.Omega.{arith}
 use lib.Dec.{eqb}
-use borrow.Author.Tests.{eqb-true, eqb-false, eq-eqb, ne-eqb}
+use borrow.Author.Tests.{eqb-true, eqb-false, eq-eqb}
 use Rattle.script.specs.Tests.Laws.{both-true, true-both, or-cases, or-first, or-second}
 use Rattle.rules.specs.Symbolic.{Atom, truthSymbol, pair, sameAtom, atom, constantly, Origin, apart, equalReferences}
 use Rattle.rules.specs.Symbolic.Laws.{SameAtoms, same-atoms, atoms-same, sameAtom-refl}

@@ -1,7 +1,7 @@
 -- The place of a reference has its symbol and its origin; and what the code answers of two places, case by case. Assumes nothing.
-use mathlib.Core.Bool.{Bool, false, not}
-use mathlib.Core.Path.{_≡_, refl, sym, ap}
-use Prim.Native.Nat.{ℕ, _*_, _/_, _%_, _+_}
+use mathlib.Core.Bool.{false, not}
+use mathlib.Core.Path.{_≡_, refl, sym}
+use Prim.Native.Nat.{ℕ, _%_}
 use native.Mathlib.Omega.{arith}
 use lib.Dec.{eqb}
 use Rattle.rules.specs.Symbolic.{Origin, made, other, apart}

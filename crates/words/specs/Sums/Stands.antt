@@ -18,7 +18,7 @@ use Rattle.rules.specs.Symbolic.{Sum, plus, plusEach, opposite, oppositeEach, n
 use Rattle.rules.specs.Symbolic.Laws.{Congruent, all-zero, zero-all, opposite-at, opposite-same, SameAtoms}
 use Rattle.terms.specs.Places.{rowLimit, symbolLimit}
 use Rattle.terms.specs.Search.{nowhere-each, each-nowhere}
-use Rattle.terms.specs.Terms.{rowIn, SumRow}
+use Rattle.terms.specs.Terms.{rowIn, SumRow, ofSum}
 use Rattle.words.specs.Sums.{placeCount, added, gather, spread, passed, numbersOf, noNumbers, rowsTo, startWeights, hasSymbol, constantNumbers, differsAt, sameNumbers, remainsAt, oppositeNumbers, alike}
 use Rattle.words.specs.Sums.Laws.{agrees, symbol-of, of-symbol, joined-joins, gather-number, gather-symbol, gather-other, gather-length, symbol-op}
 use Rattle.words.specs.Sums.Values.{modulus, unit, unit-here, unit-other, RowCase, caseOf, value, value-number, value-symbol, value-sum, numbers-value}
@@ -105,7 +105,7 @@ module _ {ws : List ℕ} where
       rw (value-symbol ws (suc k) i (λ z. omega arith) (of-symbol (rowIn ws i) (record { is = e; below = omega arith })), f)
       (same-eq (unit-suc k s ∙ sym (symbol-at s k)))
   value-stands k (SumRow.plusRow {i = i} {p = p} {q = q} e f g l m u v) =
-      rw (value-sum ws k i (λ z. omega arith) (sym (symbol-op (rowIn ws i) (λ z. omega arith))) (joined-joins (rowIn ws i) 2 i (record { is = e; first = omega arith; second = omega arith })), f, g)
+      rw (value-sum ws k i (λ z. omega arith) (sym (symbol-op (rowIn ws i) (λ z. omega arith))) (joined-joins (rowIn ws i) ofSum i (record { is = e; first = omega arith; second = omega arith })), f, g)
       (same-trans (same-plus (value-stands k u) (value-stands k v)) (same-sym (plus-place p q k)))
 
   -- no symbol beyond the last

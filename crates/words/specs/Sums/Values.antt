@@ -174,7 +174,7 @@ module _ (ws : List ℕ) (k i w : ℕ) (weights numbers : List ℕ) (h : i < len
 
   pass-number : rowIn ws i .op ≡ ofNumber → Same modulus afterRow beforeRow
   pass-number e =
-      let j = other-joins (rowIn ws i) 2 i (λ f. omega arith) in
+      let j = other-joins (rowIn ws i) ofSum i (λ f. omega arith) in
       let y = w * rowIn ws i .a in
       rw (sym (spread-other weights (rowIn ws i) i w j), sym (gather-number numbers (rowIn ws i) w _ _ e refl refl), value-number ws k i e, sym (mul-assoc w (rowIn ws i .a) (unit k 0)), sym (later (dot weights (value ws k) i) (getD numbers k 0) (y * unit k 0)))
       (same-plus (same-refl (dot weights (value ws k) i))
@@ -183,7 +183,7 @@ module _ (ws : List ℕ) (k i w : ℕ) (weights numbers : List ℕ) (h : i < len
   pass-symbol : (rowIn ws i .op ≡ ofNumber → ⊥) → isSymbol (rowIn ws i) ≡ true → Same modulus afterRow beforeRow
   pass-symbol n t =
       let u = symbol-of (rowIn ws i) t in
-      let j = other-joins (rowIn ws i) 2 i (λ f. omega arith) in
+      let j = other-joins (rowIn ws i) ofSum i (λ f. omega arith) in
       rw (sym (spread-other weights (rowIn ws i) i w j), sym (gather-symbol numbers (rowIn ws i) w _ n t refl), value-symbol ws k i n t, sym (later (dot weights (value ws k) i) (getD numbers k 0) (w * unit k (rowIn ws i .a + 1))))
       (same-plus (same-refl (dot weights (value ws k) i)) (add-unit numbers (rowIn ws i .a + 1) w k (omega arith)))
 

@@ -45,7 +45,7 @@ again : {ws : List ℕ} {i p q : ℕ} {x : Atom} {y z : Sum} → AtomRow ws i x 
     → SameAtoms x (difference (minus y z)) → isFound ws (numbersOf ws p q) i ≡ true
 unfolding isFound
 again {ws} {i} {p} {q} (AtomRow.differenceRow {j = j} {k = k} e f g l m a b) h u v c d same =
-    true-both (joins (rowIn ws i) ofDifference i) _ (joined-joins (rowIn ws i) 10 i (record { is = e; first = omega arith; second = omega arith }))
+    true-both (joins (rowIn ws i) ofDifference i) _ (joined-joins (rowIn ws i) ofDifference i (record { is = e; first = omega arith; second = omega arith }))
     (rw (f, g) (told-alike (numbers-stand a b (omega arith) (omega arith)) (numbers-stand u v c d) same))
 
 module _ {ws : List ℕ} (s : Space ws 1) (d : Distinct ws) {p q : ℕ} {x y : Sum} (u : SumRow ws p x) (v : SumRow ws q y)

@@ -8,7 +8,7 @@ use lib.Seq.{getD-set-same, getD-set-other}
 use Rattle.terms.specs.Places.{countAt, rowsEnd}
 use Rattle.terms.specs.Terms.{countIn}
 use Rattle.workspace.specs.Forks.{forkedIn, small, manyRows, savedFrame, savedCount, savedNext, savedCondition, savedWrites, savedStart, savedDepth, Forkable, Forks, Rewound, RestoredOne}
-use Rattle.workspace.specs.Frames.{frameIn, upOf, firstOf, secondOf}
+use Rattle.workspace.specs.Frames.{frameIn, upOf, firstOf, secondOf, awaitsOf, forBody}
 use Rattle.workspace.specs.Places.{conditionAt, depthAt, forkAt, forkedAt, framesSize, goalAt, knownAt, logAt, nextAt, spaceSize, startAt, topAt, writesAt}
 use Rattle.workspace.specs.State.{nextIn, conditionIn, writesIn, startIn, depthIn}
 
@@ -171,9 +171,9 @@ module _ (ws fs : List ℕ) (lent : spaceSize ≤ length ws) (framed : framesSiz
 -- ---- a variable that a frame has
 
 module _ {fs ws : List ℕ} {f d : ℕ} where
-  pub restored-body : 1 ≤ d → upOf fs f % 4 ≡ 2
+  pub restored-body : 1 ≤ d → awaitsOf fs f ≡ forBody
       → RestoredOne fs f d ws (d - 1) (set (set ws (2 * (d - 1)) (firstOf fs f)) (2 * (d - 1) + 1) (secondOf fs f))
   restored-body l e = record { body = λ _. (omega arith, refl); other = λ n. absurd (n e) }
 
-  pub restored-other : (upOf fs f % 4 ≡ 2 → ⊥) → RestoredOne fs f d ws d ws
+  pub restored-other : (awaitsOf fs f ≡ forBody → ⊥) → RestoredOne fs f d ws d ws
   restored-other n = record { body = λ e. absurd (n e); other = λ _. (refl, refl) }

@@ -11,7 +11,7 @@ use borrow.Author.Tests.{leb-true, leb-false, le-leb, lt-leb, eq-eqb, ne-eqb}
 use Rattle.script.specs.Code.Forms.{nodeIn, treeIn, some-operand, formed-less}
 use Rattle.script.specs.Rows.{typedForm, kindFor, leafKinds}
 use Rattle.script.specs.Tree.{Expr, int, truth, var, unary, binary, ifElse, letIn, typedBlock, symBlock, size}
-use Rattle.workspace.specs.Frames.{frameIn, topIn, waitsFor, Waitable, Waits, Descendable, upTo}
+use Rattle.workspace.specs.Frames.{frameIn, topIn, waitsFor, Waitable, Waits, Descendable, upTo, forFirst}
 use Rattle.workspace.specs.Places.{frameWidth, goalAt, topAt}
 use Rattle.workspace.specs.Rules.Nodes.{First, shaped, first-of}
 
@@ -164,7 +164,7 @@ module _ {table fs : List ℕ} {n : ℕ} (q : Descendable table fs n) (w : waits
         inside = q .inside;
       }
 
-  module _ {between : List ℕ} (s : Waits n 0 0 0 fs between) where
+  module _ {between : List ℕ} (s : Waits n forFirst 0 0 fs between) where
     pub down-next : Descendable table between (nodeIn table n .a)
     down-next =
         record {

@@ -3,7 +3,7 @@ use mathlib.Core.Bool.{Bool, true, false}
 use mathlib.Core.List.{List}
 use mathlib.Core.Option.{Option, none, some}
 use mathlib.Core.Path.{_≡_, refl, sym, _∙_}
-use Prim.Native.Nat.{ℕ, suc, _+_, _*_, _-_, _≤_, _<_}
+use Prim.Native.Nat.{ℕ, suc, _+_, _-_, _≤_, _<_}
 use native.Mathlib.Omega.{arith}
 use lib.ListN.{length, getD, set, length-set}
 use lib.Seq.{getD-set-same, getD-set-other}
@@ -18,7 +18,7 @@ use Rattle.terms.specs.Places.{countAt, symbolLimit, rowLimit}
 use Rattle.terms.specs.References.{referenceAt}
 use Rattle.terms.specs.Terms.{countIn, Grown}
 use Rattle.terms.specs.Terms.Laws.{grown-trans, still-distinct}
-use Rattle.workspace.specs.Log.{consistentOn, lookupOn, written, FoundAs, found-none, found-some, emptied}
+use Rattle.workspace.specs.Log.{written, FoundAs, found-none, found-some, emptied, consistentIn, lookupIn}
 use Rattle.workspace.specs.Log.Laws.{consistent-is, lookup-is, written-grown, written-before, written-ruled, written-path}
 use Rattle.workspace.specs.Numbers.{gotGives, unaryGives, oneGives, binaryGives, twoGives}
 use Rattle.workspace.specs.Numbers as Numbers
@@ -187,10 +187,10 @@ get-inconsistent n p e refers = rw e stopping
 
 -- what is found is the value
 get-found : (n q : ℕ) {ws : List ℕ} {t u i : ℕ} {v : Symbolic} {f : Found} (p : Path) → consistent p ≡ true → PathIn ws p → Refers t v → Means ws t q v
-    → lookupOn ws (startIn ws) q (writesIn ws - startIn ws) ≡ f → f ≡ Value u i → Yields ws (Gave u i) (unaryExec n getOp v p)
+    → lookupIn ws q ≡ f → f ≡ Value u i → Yields ws (Gave u i) (unaryExec n getOp v p)
 unfolding unaryExec
 get-found n q {ws} {u = u} {i = i} p e h (refers {o = o} {c = c} {s = s}) m d z =
-    rw e (go (lookupOn ws (startIn ws) q (writesIn ws - startIn ws)) (lookup o s (p .log)) (lookup-is (h .log) m) (d ∙ z))
+    rw e (go (lookupIn ws q) (lookup o s (p .log)) (lookup-is (h .log) m) (d ∙ z))
   where
     go : (f : Found) (r : Option Symbolic) → FoundAs ws f r → f ≡ Value u i → Yields ws (Gave u i) (got r c p)
     go Nothing none found-none y = absurd (nothing-found y)
@@ -198,10 +198,10 @@ get-found n q {ws} {u = u} {i = i} p e h (refers {o = o} {c = c} {s = s}) m d z 
 
 -- nothing is found: a fresh symbol
 get-nothing : (n q : ℕ) {ws left : List ℕ} {t i : ℕ} {v : Symbolic} {f : Found} (p : Path) → consistent p ≡ true → PathIn ws p → Refers t v → Means ws t q v
-    → lookupOn ws (startIn ws) q (writesIn ws - startIn ws) ≡ f → f ≡ Nothing → Fresh (t - 2) ws i left → Yields left (Gave (t - 2) i) (unaryExec n getOp v p)
+    → lookupIn ws q ≡ f → f ≡ Nothing → Fresh (t - 2) ws i left → Yields left (Gave (t - 2) i) (unaryExec n getOp v p)
 unfolding unaryExec
 get-nothing n q {ws} {left} {i = i} p e h (refers {o = o} {c = c} {s = s}) m d z x =
-    rw e (go (lookupOn ws (startIn ws) q (writesIn ws - startIn ws)) (lookup o s (p .log)) (lookup-is (h .log) m) (d ∙ z))
+    rw e (go (lookupIn ws q) (lookup o s (p .log)) (lookup-is (h .log) m) (d ∙ z))
   where
     go : (f : Found) (r : Option Symbolic) → FoundAs ws f r → f ≡ Nothing → Yields left (Gave (suc (suc c) - 2) i) (got r c p)
     go Nothing none found-none y =
@@ -214,7 +214,7 @@ module _ (n t q : ℕ) {ws : List ℕ} where
   unfolding oneExec oneGives unaryGives
   get-wrong l = record { ruled = ruled-refl ws; yields = λ v p m h. get-refused n p (no-reference l m); exactly = rw (lt-ltb t 2 l) refl }
 
-  module _ (l : 2 ≤ t) {b : Bool} (e : b ≡ consistentOn ws (startIn ws) 0 (writesIn ws - startIn ws)) where
+  module _ (l : 2 ≤ t) {b : Bool} (e : b ≡ consistentIn ws) where
     log-is : {p : Path} {c : Bool} → PathIn ws p → b ≡ c → consistent p ≡ c
     log-is h z = sym (consistent-is (h .log)) ∙ sym e ∙ z
 
@@ -223,7 +223,7 @@ module _ (n t q : ℕ) {ws : List ℕ} where
     get-stopped z =
         record { ruled = ruled-refl ws; yields = λ v p m h. get-inconsistent n p (log-is h z) (refer l m); exactly = rw (le-ltb t 2 l, sym e ∙ z) refl }
 
-    module _ (z : b ≡ true) {f : Found} (d : f ≡ lookupOn ws (startIn ws) q (writesIn ws - startIn ws)) where
+    module _ (z : b ≡ true) {f : Found} (d : f ≡ lookupIn ws q) where
       pub get-value : {u i : ℕ} → f ≡ Value u i → One (unaryForm getOp) n t q ws (Gave u i) ws
       unfolding oneExec oneGives unaryGives gotGives
       get-value y =
@@ -244,7 +244,7 @@ module _ (n t q : ℕ) {ws : List ℕ} where
 
 -- ---- after a typed block
 
-module _ (n t : ℕ) {ws : List ℕ} {b : Bool} (e : b ≡ consistentOn ws (startIn ws) 0 (writesIn ws - startIn ws)) where
+module _ (n t : ℕ) {ws : List ℕ} {b : Bool} (e : b ≡ consistentIn ws) where
   pub block-stopped : b ≡ false → After n t ws (Stopped (InconsistentLog n)) ws
   unfolding typedResult
   block-stopped z =

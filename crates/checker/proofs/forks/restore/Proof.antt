@@ -2,7 +2,7 @@
 use borrow.Author.Needs.{needs}
 use Prim.Native.Nat.{_+_, _*_}
 use native.Mathlib.Omega.{arith}
-use Rattle.workspace.specs.Places.{baseAt}
+use Rattle.workspace.specs.Places.{baseAt, frameWidth}
 use Rattle.checker.specs.Code.Going.Rewinding.{Restoring, restoring-start, restoring-less, restoring-on, restoring-end}
 use Rattle.checker.proofs.forks.restore.Statement.{statement}
 use Rattle.checker.proofs.forks.restore.Tie as tie
@@ -40,7 +40,7 @@ shared-slice-read-f-2 : tie.Need-shared-slice-read-f-2 Inv-loop μ-loop
 shared-slice-read-f-2 c = omega (arith, c .before .before .before .before .before .before .before .loop .inv .inside, c .before .before .before .before .before .before .before .before .before .before .before .before .pre .inside, c .before .before .before .before .before .before .before .before .before .before .before .before .pre .framed)
 
 cast-f-2 : tie.Need-cast-f-2 Inv-loop μ-loop
-cast-f-2 c = omega (arith, c .shared-slice-known3 .given (4 * c .before .before .before .before .before .before .before .loop .f + 1))
+cast-f-2 c = omega (arith, c .shared-slice-known3 .given (frameWidth * c .before .before .before .before .before .before .before .loop .f + 1))
 
 loop-less : tie.Need-loop-less Inv-loop μ-loop
 loop-less c = restoring-less (c .before .before .before .before .before .before .before .before .before .before .before .before .pre) (c .before .before .before .before .before .before .before .loop .inv) (c .before .before .before .before .before .if1 .taken) (c .before .before .before .restore-one .ensures)

@@ -2,7 +2,7 @@
 use mathlib.Core.Bool.{Bool, true, false}
 use mathlib.Core.List.{List}
 use mathlib.Core.Path.{_≡_, refl, sym, _∙_}
-use Prim.Native.Nat.{ℕ, _+_, _*_, _/_, _%_, _≤_, _<_}
+use Prim.Native.Nat.{ℕ, _≤_, _<_}
 use native.Mathlib.Omega.{arith}
 use lib.Dec.{eqb}
 use lib.ListN.{length, set, length-set}
@@ -13,7 +13,7 @@ use Rattle.script.specs.Flat.{HasNode}
 use Rattle.script.specs.Limits.{nodeLimit}
 use Rattle.script.specs.Rows.{ifForm, letForm, kindFor, nodeOperands}
 use Rattle.terms.specs.Places.{symbolLimit}
-use Rattle.workspace.specs.Frames.{frameIn, topIn, nodeOf, upOf, firstOf, secondOf, Waitable, Waits, awaitsOf, goesTo}
+use Rattle.workspace.specs.Frames.{frameIn, topIn, nodeOf, firstOf, secondOf, Waitable, Waits, awaitsOf, goesTo}
 use Rattle.workspace.specs.Forks.{forkedIn, Forks}
 use Rattle.workspace.specs.Places.{forkLimit, framesEnd, framesSize, goalAt, topAt}
 use Rattle.workspace.specs.Rules.{One, Decidable}

@@ -2,7 +2,7 @@
 use mathlib.Core.Bool.{Bool, true, false, not, _||_, false≢true}
 use mathlib.Core.List.{List, [], _∷_, _++_}
 use mathlib.Core.Path.{_≡_, refl, sym, ap, _∙_}
-use Prim.Native.Nat.{ℕ, suc, _+_, _-_, _≤_}
+use Prim.Native.Nat.{ℕ, suc, _+_, _≤_}
 use native.Mathlib.Omega.{arith}
 use lib.Dec.{eqb}
 use borrow.Author.Tests.{not-true, not-false, eqb-true, eq-eqb}
@@ -14,9 +14,8 @@ use Rattle.rules.specs.Symbolic.{Symbolic, typeOf}
 use Rattle.rules.specs.SymbolicRules.{firstType, judge}
 use Rattle.workspace.specs.Frames.{frameIn}
 use Rattle.workspace.specs.Forks.{forkedIn}
-use Rattle.workspace.specs.Log.{consistentOn}
+use Rattle.workspace.specs.Log.{consistentIn}
 use Rattle.workspace.specs.Log.Laws.{consistent-is}
-use Rattle.workspace.specs.State.{writesIn, startIn}
 use Rattle.workspace.specs.State.Laws.{means-type}
 use Rattle.checker.specs.Code.Going.{Later, goOn, Awaits, no-frame, for-only, for-first, for-second, for-body, Left, none-left, one-left, Returning, Resumable, Resumes, AtEnd, PathEnds, WalkOf, refused, lasted, went-on}
 use Rattle.checker.specs.declared.nodes.Walked.the-variants.{Wrong, Last, More}
@@ -55,19 +54,19 @@ module _ {limit : ℕ} {table : List ℕ} {bound base : ℕ} {ground : List Symb
   type-is : typeOf (r .value) ≡ t
   type-is = means-type (r .means)
 
-  consistent-here : {b : Bool} → consistentOn ws (startIn ws) 0 (writesIn ws - startIn ws) ≡ b → consistent (r .path) ≡ b
+  consistent-here : {b : Bool} → consistentIn ws ≡ b → consistent (r .path) ≡ b
   consistent-here e = sym (consistent-is (r .stands .state .path .log)) ∙ e
 
   module _ (n : ℕ) (isFirst : Bool) (kind : ℕ) where
     first-is : pick isFirst (firstType ls) kind ≡ pick isFirst t kind
     first-is = ap (λ (u : ℕ). pick isFirst u kind) (ap firstType ends-is ∙ type-is)
 
-    pub end-inconsistent : {left gs : List ℕ} → consistentOn ws (startIn ws) 0 (writesIn ws - startIn ws) ≡ false
+    pub end-inconsistent : {left gs : List ℕ} → consistentIn ws ≡ false
         → WalkOf limit table bound base ground n (pick isFirst (firstType ls) kind) left gs ls (Wrong (InconsistentLog n))
     unfolding judge
     end-inconsistent e = refused {x = InconsistentLog n} λ k. ap (judge n (suc k) (pick isFirst (firstType ls) kind)) ends-is ∙ rw (consistent-here e) refl
 
-    module _ (e : consistentOn ws (startIn ws) 0 (writesIn ws - startIn ws) ≡ true) where
+    module _ (e : consistentIn ws ≡ true) where
       pub end-other : {left gs : List ℕ} → (isFirst || eqb t kind) ≡ false
           → WalkOf limit table bound base ground n (pick isFirst (firstType ls) kind) left gs ls (Wrong (PathTypesDiffer n))
       unfolding judge
@@ -115,7 +114,7 @@ module _ {limit : ℕ} {table : List ℕ} {bound base : ℕ} {ground : List Symb
 
 -- ---- as the code ends a path
 
-module _ {table ws fs : List ℕ} {t n : ℕ} {isFirst : Bool} {kind : ℕ} (x : AtEnd table ws fs t) {a : Bool} (c : a ≡ consistentOn ws (startIn ws) 0 (writesIn ws - startIn ws)) where
+module _ {table ws fs : List ℕ} {t n : ℕ} {isFirst : Bool} {kind : ℕ} (x : AtEnd table ws fs t) {a : Bool} (c : a ≡ consistentIn ws) where
   pub path-inconsistent : not a ≡ true → PathEnds table n t isFirst kind ws fs (Wrong (InconsistentLog n)) ws fs
   path-inconsistent e =
       record { ends = λ limit bound base q ground ls r. end-inconsistent r (x .none) n isFirst kind (sym c ∙ not-true a e) }

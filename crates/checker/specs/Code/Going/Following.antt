@@ -3,7 +3,7 @@
 use mathlib.Core.Bool.{true}
 use mathlib.Core.List.{List, [], _∷_, _++_, append-assoc}
 use mathlib.Core.Path.{_≡_, refl, sym, ap, subst, _∙_}
-use Prim.Native.Nat.{ℕ, suc, _+_, _*_, _/_, _≤_, _<_}
+use Prim.Native.Nat.{ℕ, suc, _+_, _*_, _≤_, _<_}
 use native.Mathlib.Omega.{arith}
 use lib.ListN.{getD, set, length-set}
 use lib.Seq.{getD-set-same, getD-set-other}
@@ -22,7 +22,7 @@ use Rattle.rules.specs.Satisfiable.{satisfiable}
 use Rattle.terms.specs.Places.{symbolLimit}
 use Rattle.terms.specs.Terms.{Grown, ofConjunction}
 use Rattle.terms.specs.Terms.Laws.{grown-refl}
-use Rattle.workspace.specs.Frames.{frameIn, topIn, nodeOf, upOf, firstOf, secondOf, Waitable, Waits, goesTo}
+use Rattle.workspace.specs.Frames.{frameIn, topIn, nodeOf, firstOf, secondOf, Waitable, Waits, goesTo}
 use Rattle.workspace.specs.Frames.Laws.{size-some}
 use Rattle.workspace.specs.Forks.{forkedIn, Forks}
 use Rattle.workspace.specs.Paths.{assumed, forgotten}

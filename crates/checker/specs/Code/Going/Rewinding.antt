@@ -1,14 +1,14 @@
 -- How the variables are found again in the frames, on the way back to a fork. Assumes nothing.
 use mathlib.Core.List.{List, [], _∷_, _++_}
 use mathlib.Core.Path.{_≡_, refl, _∙_}
-use Prim.Native.Nat.{ℕ, suc, _+_, _*_, _-_, _/_, _≤_, _<_}
+use Prim.Native.Nat.{ℕ, suc, _+_, _*_, _-_, _≤_, _<_}
 use native.Mathlib.Omega.{arith}
 use lib.ListN.{length, getD, set, length-set}
 use lib.Seq.{getD-set-same, getD-set-other}
 use Rattle.rules.specs.Symbolic.{Symbolic}
 use Rattle.terms.specs.Places.{symbolLimit, variablesEnd}
 use Rattle.terms.specs.Terms.{Grown}
-use Rattle.workspace.specs.Frames.{frameIn, upOf, firstOf, secondOf, goesTo}
+use Rattle.workspace.specs.Frames.{frameIn, firstOf, secondOf, goesTo}
 use Rattle.workspace.specs.Forks.{RestoredOne}
 use Rattle.workspace.specs.Notes.{baseIn}
 use Rattle.workspace.specs.Places.{baseAt}
