@@ -1,8 +1,8 @@
 -- What the functions on a path's own numbers promise: fresh symbols, the condition, and its start. Assumes nothing.
-pub mod Blank
+pub mod Beginning
 pub mod Conditions
 pub mod Decisions
-pub mod Starting
+pub mod Empty
 pub mod Symbols
 use mathlib.Core.List.{List}
 use mathlib.Core.Path.{_≡_}

@@ -8,7 +8,7 @@ use native.Mathlib.Omega.{arith}
 use Rattle.script.specs.Code.Forms.{has-one, has-more, some-operand}
 use Rattle.workspace.specs.Frames.{topIn}
 use Rattle.workspace.specs.Frames.Laws.{waits-none}
-use Rattle.workspace.specs.Paths.Blank.{blank}
+use Rattle.workspace.specs.Paths.Empty.{blank}
 use Rattle.workspace.specs.Rules.Blocks.{block-small, block-recallables, block-recalled, judged-lent, block-judged, block-noted}
 use Rattle.workspace.specs.Rules.Typed.{some-of, several-no-sym, leaf-judged, first-earlier, first-checkable, sym-judged, one-judged, rest-checkable, rest-judged, first-refused, bind-room, second-earlier, second-checkable, third-earlier, third-checkable, if-judged, third-refused, two-judged, second-refused}
 use Rattle.checker.specs.Code.Going.Arriving.{up-node, up-space, up-earlier, up-checkable, up-noting, up-refused, up-room, up-returnable, up-climbing, up-stopping}

@@ -5,7 +5,7 @@ use Prim.Native.Nat.{_≤_, _-_}
 use native.Mathlib.Omega.{arith}
 use lib.ListN.{length, length-set}
 use Rattle.workspace.specs.Paths.{Starting}
-use Rattle.workspace.specs.Paths.Starting.{blank-space, first-started, starting-on, starting-end}
+use Rattle.workspace.specs.Paths.Beginning.{blank-space, first-started, starting-on, starting-end}
 use Rattle.checker.proofs.path.start.Statement.{statement}
 use Rattle.checker.proofs.path.start.Tie as tie
 

@@ -2,7 +2,7 @@
 use borrow.Author.Needs.{needs}
 use native.Mathlib.Omega.{arith}
 use lib.ListN.{length-set}
-use Rattle.workspace.specs.Paths.Starting.{starting-room, variable-started}
+use Rattle.workspace.specs.Paths.Beginning.{starting-room, variable-started}
 use Rattle.checker.proofs.path.start_variable.Statement.{statement}
 use Rattle.checker.proofs.path.start_variable.Tie as tie
 
