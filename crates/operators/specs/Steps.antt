@@ -5,7 +5,7 @@ use mathlib.Core.List.{List, [], _∷_, _++_}
 use mathlib.Core.Path.{_≡_}
 use Prim.Native.Nat.{ℕ, suc, _+_, _*_, _%_, _^_, _≤_}
 use lib.ListN.{length, getElem?, take}
-use Rattle.script.specs.Code.Forms.{formOf, nodeIn, treeIn}
+use Rattle.script.specs.Code.Forms.{formOf, severalBy, nodeIn, treeIn}
 use Rattle.script.specs.Flat.{FormedNodes}
 use Rattle.script.specs.Rows.{Form, intForm, varForm, ifForm, letForm, typedForm, symForm, truthForm, unaryForm, binaryForm, nodeOperands}
 use Rattle.script.specs.Tree.{size}
@@ -63,19 +63,19 @@ pub record Says (rule : List Value → Outcome) (used : ℕ) (r : Step) : Type 0
   pub answer : (cs : List Value) → length cs ≡ used → r ≡ stepOf (rule cs)
   pub unchanged : (cs : List Value) → cellsOf (rule cs) ≡ cs
 
--- ---- evaluation by the form of node n, whose first operand is the number a
+-- ---- evaluation by the form of node n, which is m
 
 -- a node whose operands are no nodes; a form of other nodes stands for `false` here
-unfoldable pub leafOn : Form → ℕ → ℕ → List Value → List Value → Outcome
-leafOn intForm n a env cs = gave (Word (a % 2 ^ 32)) cs
-leafOn varForm n a env cs = found (getElem? env a) (failed n cs) λ v. gave v cs
-leafOn ifForm n a env cs = gave (Truth false) cs
-leafOn letForm n a env cs = gave (Truth false) cs
-leafOn typedForm n a env cs = gave (Truth false) cs
-leafOn symForm n a env cs = gave (Truth false) cs
-leafOn (truthForm b) n a env cs = gave (Truth b) cs
-leafOn (unaryForm o) n a env cs = gave (Truth false) cs
-leafOn (binaryForm o) n a env cs = gave (Truth false) cs
+unfoldable pub leafOn : Form → ℕ → Node → List Value → List Value → Outcome
+leafOn intForm n m env cs = gave (Word (m .a % 2 ^ 32)) cs
+leafOn varForm n m env cs = found (getElem? env (m .a)) (failed n cs) λ v. gave v cs
+leafOn ifForm n m env cs = gave (Truth false) cs
+leafOn letForm n m env cs = gave (Truth false) cs
+leafOn typedForm n m env cs = gave (Truth false) cs
+leafOn symForm n m env cs = gave (Truth false) cs
+leafOn (truthForm b) n m env cs = gave (Truth b) cs
+leafOn (unaryForm o) n m env cs = gave (Truth false) cs
+leafOn (binaryForm o) n m env cs = gave (Truth false) cs
 
 -- a node with one operand that is a node, which gave v
 unfoldable pub oneOn : Form → ℕ → Value → List Value → Outcome
@@ -108,28 +108,20 @@ branchOf (Truth true) b c = Operand b
 branchOf (Truth false) b c = Operand c
 branchOf (Location l) b c = Wrong
 
-unfoldable pub nextOn : Form → Value → ℕ → ℕ → Next
-nextOn intForm v b c = Operand b
-nextOn varForm v b c = Operand b
-nextOn ifForm v b c = branchOf v b c
-nextOn letForm v b c = Operand b
-nextOn typedForm v b c = Operand b
-nextOn symForm v b c = Operand b
-nextOn (truthForm t) v b c = Operand b
-nextOn (unaryForm o) v b c = Operand b
-nextOn (binaryForm o) v b c = Operand b
+unfoldable pub nextOn : Form → Value → Node → Next
+nextOn intForm v m = Operand (m .b)
+nextOn varForm v m = Operand (m .b)
+nextOn ifForm v m = branchOf v (m .b) (m .c)
+nextOn letForm v m = Operand (m .b)
+nextOn typedForm v m = Operand (m .b)
+nextOn symForm v m = Operand (m .b)
+nextOn (truthForm t) v m = Operand (m .b)
+nextOn (unaryForm o) v m = Operand (m .b)
+nextOn (binaryForm o) v m = Operand (m .b)
 
 -- the environment of that operand: a `let` adds v
-unfoldable pub boundOn : Form → Value → List Value → List Value
-boundOn intForm v env = env
-boundOn varForm v env = env
-boundOn ifForm v env = env
-boundOn letForm v env = env ++ (v ∷ [])
-boundOn typedForm v env = env
-boundOn symForm v env = env
-boundOn (truthForm b) v env = env
-boundOn (unaryForm o) v env = env
-boundOn (binaryForm o) v env = env
+abbrev pub boundOn : Node → Value → List Value → List Value
+boundOn m v env = severalBy (formOf (m .kind)) env (env ++ (v ∷ [])) (λ o. env) env
 
 -- the bytes hold these variables, and the first ones as before
 pub record Bound (env : List ℕ) (depth : ℕ) (vs : List Value) (left : List ℕ) (count : ℕ) : Type 0 where
@@ -139,13 +131,13 @@ pub record Bound (env : List ℕ) (depth : ℕ) (vs : List Value) (left : List �
 
 -- ---- node n of a table
 
--- what is left of node n once its first operand gave v
+-- what is left of node n once its first operand gave v, where env is the environment of the next one
 unfoldable pub restBy : Next → List ℕ → Form → ℕ → Value → List Value → List Value → Outcome
 restBy Wrong table f n v env cs = failed n cs
-restBy (Operand m) table f n v env cs = after (eval (treeIn table m) (boundOn f v env) cs) λ w cs₁. twoOn f n v w cs₁
+restBy (Operand k) table f n v env cs = after (eval (treeIn table k) env cs) λ w cs₁. twoOn f n v w cs₁
 
 abbrev pub restOn : List ℕ → ℕ → Node → Value → List Value → List Value → Outcome
-restOn table n node v env cs = restBy (nextOn (formOf (node .kind)) v (node .b) (node .c)) table (formOf (node .kind)) n v env cs
+restOn table n m v env cs = restBy (nextOn (formOf (m .kind)) v m) table (formOf (m .kind)) n v (boundOn m v env) cs
 
 -- at most how many cells that adds
 unfoldable pub restSizeOn : Form → ℕ → ℕ → ℕ
@@ -160,7 +152,7 @@ restSizeOn (unaryForm o) b c = 1
 restSizeOn (binaryForm o) b c = b
 
 abbrev pub restSize : List ℕ → Node → ℕ
-restSize table node = restSizeOn (formOf (node .kind)) (size (treeIn table (node .b))) (size (treeIn table (node .c)))
+restSize table m = restSizeOn (formOf (m .kind)) (size (treeIn table (m .b))) (size (treeIn table (m .c)))
 
 -- what running node n asks of what is lent
 pub record Ready (table env : List ℕ) (depth : ℕ) (cells : List ℕ) (used n : ℕ) : Type 0 where

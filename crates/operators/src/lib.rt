@@ -12,6 +12,7 @@ pub mod steps;
 
 use cells::load;
 use cells::store;
+use script::Node;
 use script::Value;
 use script::table::ADD;
 use script::table::AND;
@@ -59,14 +60,15 @@ fn variable(environment: &[u8], depth: usize, k: u32, used: u32, n: u32) -> Step
 }
 
 // A node whose operands are no nodes: `int`, `true`, `false` and `var`.
-pub fn leaf(kind: u32, a: u32, environment: &[u8], depth: usize, used: u32, n: u32) -> Step
+pub fn leaf(node: Node, environment: &[u8], depth: usize, used: u32, n: u32) -> Step
     requires { ⌜ 5 * depth ≤ length (now environment) ⌝ }
-    ensures { λ r. ⌜ Says (leafOn (formOf kind) n a (valuesOf depth (now (environment .entry)))) used r ⌝ }
+    ensures { λ r. ⌜ Says (leafOn (formOf (node .kind)) n node (valuesOf depth (now (environment .entry)))) used r ⌝ }
 {
+    let kind = node.kind;
     match kind {
-        INT => Step::Gave(Value::Word(a), used),
+        INT => Step::Gave(Value::Word(node.a), used),
         TRUE => Step::Gave(Value::Truth(true), used),
-        VAR => variable(environment, depth, a, used, n),
+        VAR => variable(environment, depth, node.a, used, n),
         _ => Step::Gave(Value::Truth(false), used),
     }
 }

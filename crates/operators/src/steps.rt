@@ -5,6 +5,7 @@ ghost use Rattle.operators.specs.Steps.{wholeOf, nextOn};
 use crate::Next;
 use crate::Parts;
 use crate::Step;
+use script::Node;
 use script::Value;
 use script::table::IF;
 
@@ -35,20 +36,20 @@ pub fn whole(parts: Parts) -> Step
 }
 
 // The operand of a node that comes after the first, which gave v: of an `if` the branch that is taken.
-pub fn next_operand(kind: u32, b: u32, c: u32, v: Value) -> Next
-    ensures { λ r. ⌜ r ≡ nextOn (formOf kind) v b c ⌝ }
+pub fn next_operand(node: Node, v: Value) -> Next
+    ensures { λ r. ⌜ r ≡ nextOn (formOf (node .kind)) v node ⌝ }
 {
-    if kind == IF {
+    if node.kind == IF {
         return match v {
             Value::Word(_) => Next::Wrong,
             Value::Truth(t) => {
                 if t {
-                    return Next::Operand(b);
+                    return Next::Operand(node.b);
                 }
-                Next::Operand(c)
+                Next::Operand(node.c)
             }
             Value::Location(_) => Next::Wrong,
         };
     }
-    Next::Operand(b)
+    Next::Operand(node.b)
 }

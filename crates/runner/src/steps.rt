@@ -1,5 +1,5 @@
 // Evaluation by the table: each node runs its operands, whose numbers are smaller, and then its rule.
-ghost use Rattle.script.specs.Code.Forms.{formOf, nodeIn, treeIn};
+ghost use Rattle.script.specs.Code.Forms.{nodeIn, treeIn};
 ghost use Rattle.rules.specs.Evaluation.{eval};
 ghost use Rattle.rules.specs.Running.{valuesOf};
 ghost use Rattle.rules.specs.Running.Laws.{InRange};
@@ -14,19 +14,20 @@ use operators::steps::apart;
 use operators::steps::next_operand;
 use operators::steps::whole;
 use operators::two;
+use script::Node;
 use script::Value;
 use script::table::LEAVES;
 use script::table::LET;
 use table::has_one;
 use table::node_at;
 
-// The environment of that operand: a `let` adds v. Answers how many variables it has.
-fn bind(environment: &mut [u8], depth: usize, kind: u32, v: Value) -> usize
+// The environment of the operand of a node that comes after the first, which gave v: a `let` adds v. Answers how many variables it has.
+fn bind(environment: &mut [u8], depth: usize, node: Node, v: Value) -> usize
     requires { ⌜ Variables (now environment) depth 1 ⌝ }
     requires { ⌜ InRange v ⌝ }
-    ensures { λ r. ⌜ Bound (now (environment .entry)) depth (boundOn (formOf kind) v (valuesOf depth (now (environment .entry)))) (now (environment .exit)) r ⌝ }
+    ensures { λ r. ⌜ Bound (now (environment .entry)) depth (boundOn node v (valuesOf depth (now (environment .entry)))) (now (environment .exit)) r ⌝ }
 {
-    if kind == LET {
+    if node.kind == LET {
         store(environment, depth, v);
         return depth + 1;
     }
@@ -47,10 +48,10 @@ fn rest(
     ensures { λ r. ⌜ Runs (restOn (now (table .entry)) n (nodeIn (now (table .entry)) n) v (valuesOf depth (now (environment .entry))) (valuesOf used (now (cells .entry)))) depth (now (environment .entry)) (now (environment .exit)) r (now (cells .entry)) (now (cells .exit)) ⌝ }
 {
     let node = node_at(table, n as usize);
-    match next_operand(node.kind, node.b, node.c, v) {
+    match next_operand(node, v) {
         Next::Wrong => Step::Failed(n, used),
         Next::Operand(m) => {
-            let inner = bind(environment, depth, node.kind, v);
+            let inner = bind(environment, depth, node, v);
             match whole(run_node(table, environment, inner, cells, used, m)) {
                 Step::Gave(w, count) => two(node.kind, v, w, cells, count, n),
                 Step::Failed(at, count) => Step::Failed(at, count),
@@ -73,7 +74,7 @@ pub fn run_node(
 {
     let node = node_at(table, n as usize);
     if node.kind < LEAVES {
-        return apart(leaf(node.kind, node.a, environment, depth, used, n));
+        return apart(leaf(node, environment, depth, used, n));
     }
     match whole(run_node(table, environment, depth, cells, used, node.a)) {
         Step::Failed(at, count) => Parts::Failed(at, count),

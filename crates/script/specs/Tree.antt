@@ -36,17 +36,17 @@ size (letIn n e f) = suc (size e + size f)
 size (typedBlock n e) = suc (size e)
 size (symBlock n e) = suc (size e)
 
--- the tree of node i, given its operands' trees and, for `int` and `var`, its first operand
-unfoldable pub shape : Form → ℕ → ℕ → Expr → Expr → Expr → Expr
-shape intForm i a x y z = int i a
-shape varForm i a x y z = var i a
-shape ifForm i a x y z = ifElse i x y z
-shape letForm i a x y z = letIn i x y
-shape typedForm i a x y z = typedBlock i x
-shape symForm i a x y z = symBlock i x
-shape (truthForm b) i a x y z = truth i b
-shape (unaryForm o) i a x y z = unary i o x
-shape (binaryForm o) i a x y z = binary i o x y
+-- the tree of node i by its form, given its operands' trees; `int` and `var` have a number of the node itself
+unfoldable pub shape : Form → ℕ → Node → Expr → Expr → Expr → Expr
+shape intForm i n x y z = int i (n .a)
+shape varForm i n x y z = var i (n .a)
+shape ifForm i n x y z = ifElse i x y z
+shape letForm i n x y z = letIn i x y
+shape typedForm i n x y z = typedBlock i x
+shape symForm i n x y z = symBlock i x
+shape (truthForm b) i n x y z = truth i b
+shape (unaryForm o) i n x y z = unary i o x
+shape (binaryForm o) i n x y z = binary i o x y
 
 -- a place that no test lets through stands for `false`
 abbrev pub treeAt : List Expr → ℕ → Expr
@@ -54,7 +54,7 @@ treeAt ts i = getD ts i (truth i false)
 
 unfoldable pub treeBy : Option Row → ℕ → Node → List Expr → Expr
 treeBy none i n ts = truth i false
-treeBy (some r) i n ts = shape (r .form) i (n .a) (treeAt ts (n .a)) (treeAt ts (n .b)) (treeAt ts (n .c))
+treeBy (some r) i n ts = shape (r .form) i n (treeAt ts (n .a)) (treeAt ts (n .b)) (treeAt ts (n .c))
 
 -- the trees of all nodes, each made from those before it
 unfoldable pub treesFrom : List Expr → List Node → List Expr

@@ -15,7 +15,7 @@ use Rattle.operators.proofs.leaf.Tie as tie
 returns : tie.Need-returns
 unfolding leafOn formOf rowOf rows
 returns c =
-    let h : c .before .before .args .a < 2 ^ 32 = omega arith in
+    let h : c .before .before .args .node .a < 2 ^ 32 = omega arith in
     rw (c .match .keys1) (says-gave λ cs. rw (mod-eq-of-lt h))
 
 returns-2 : tie.Need-returns-2
@@ -30,7 +30,7 @@ returns-4 : tie.Need-returns-4
 returns-4 c =
     let a = c .before .before .args in
     let d = c .match .rest in
-    says-gave λ cs. leaf-other (a .n) (a .a) _ cs (a .kind) (but (d .0 .0 .1) (but (d .0 .1) (but (d .1) none-left)))
+    says-gave λ cs. leaf-other (a .n) (a .node) _ cs (but (d .0 .0 .1) (but (d .0 .1) (but (d .1) none-left)))
 
 pub leaf-spec : {M : Type 1} → statement M
 leaf-spec = tie.close (tie.spec (λ c κs. search needs) returns returns-2 returns-3 returns-4)

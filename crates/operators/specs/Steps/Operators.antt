@@ -8,10 +8,11 @@ use native.Mathlib.Omega.{arith}
 use lib.Dec.{eqb}
 use lib.ListN.{length, getElem?, drop, length-set, length-append}
 use lib.Seq.{sets}
-use Rattle.script.specs.Code.Forms.{formOf, other-form}
+use Rattle.script.specs.Code.Forms.{formOf, severalBy, other-form}
 use Rattle.script.specs.Answers.{kindOf, bitsOf}
 use Rattle.script.specs.Rows.{intForm, varForm, ifForm, letForm, truthForm, rows, kindFor, refOp, getOp, eqOp, setOp}
 use Rattle.script.specs.Rows.Laws.{NoneOf, none-left, but, unaryForms, binaryForms}
+use Rattle.script.specs.declared.Node.{Node}
 use Rattle.script.specs.declared.Value.{Value}
 use Rattle.script.specs.declared.Value.the-variants.{Word, Truth, Location}
 use Rattle.rules.specs.Evaluation.{Outcome, gave, failed, found, equal, unaryOn, binaryOn}
@@ -145,9 +146,10 @@ bound-same {env} {depth} h = record { counts = sym (length-values depth env); ho
 
 -- ---- the form of a kind
 
-pub leaf-other : (n a : ℕ) (env cs : List Value) (k : ℕ) → NoneOf k (intForm ∷ truthForm true ∷ varForm ∷ []) → leafOn (formOf k) n a env cs ≡ gave (Truth false) cs
+pub leaf-other : (n : ℕ) (m : Node) (env cs : List Value) → NoneOf (m .kind) (intForm ∷ truthForm true ∷ varForm ∷ [])
+    → leafOn (formOf (m .kind)) n m env cs ≡ gave (Truth false) cs
 unfolding leafOn rows
-leaf-other n a env cs k d = other-form (λ f. leafOn f n a env cs) _ k refl d
+leaf-other n m env cs d = other-form (λ f. leafOn f n m env cs) _ (m .kind) refl d
 
 pub one-other : (n : ℕ) (v : Value) (cs : List Value) (k : ℕ) → NoneOf k unaryForms → oneOn (formOf k) n v cs ≡ gave v cs
 unfolding oneOn rows
@@ -157,10 +159,10 @@ pub two-other : (n : ℕ) (v w : Value) (cs : List Value) (k : ℕ) → NoneOf k
 unfolding twoOn rows
 two-other n v w cs k d = other-form (λ f. twoOn f n v w cs) _ k refl d
 
-pub next-other : (v : Value) (b c k : ℕ) → (k ≡ kindFor ifForm → ⊥) → nextOn (formOf k) v b c ≡ Operand b
+pub next-other : (v : Value) (m : Node) → (m .kind ≡ kindFor ifForm → ⊥) → nextOn (formOf (m .kind)) v m ≡ Operand (m .b)
 unfolding nextOn rows
-next-other v b c k d = other-form (λ f. nextOn f v b c) (ifForm ∷ []) k refl (but d none-left)
+next-other v m d = other-form (λ f. nextOn f v m) (ifForm ∷ []) (m .kind) refl (but d none-left)
 
-pub bound-other : (v : Value) (env : List Value) (k : ℕ) → (k ≡ kindFor letForm → ⊥) → boundOn (formOf k) v env ≡ env
-unfolding boundOn rows
-bound-other v env k d = other-form (λ f. boundOn f v env) (letForm ∷ []) k refl (but d none-left)
+pub bound-other : (m : Node) (v : Value) (env : List Value) → (m .kind ≡ kindFor letForm → ⊥) → boundOn m v env ≡ env
+unfolding severalBy rows
+bound-other m v env d = other-form (λ f. severalBy f env (env ++ (v ∷ [])) (λ o. env) env) (letForm ∷ []) (m .kind) refl (but d none-left)

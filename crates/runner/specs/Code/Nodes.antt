@@ -5,7 +5,7 @@ use mathlib.Core.List.{List, [], _∷_, _++_}
 use mathlib.Core.Path.{_≡_, refl, sym, ap, subst, _∙_}
 use Prim.Native.Nat.{ℕ, suc, _+_, _≤_, _<_}
 use native.Mathlib.Omega.{arith}
-use Rattle.script.specs.Code.Forms.{formOf, form-is, form-operands, nodeIn, treeIn, viewed}
+use Rattle.script.specs.Code.Forms.{formOf, severalBy, form-is, form-operands, nodeIn, treeIn, viewed}
 use Rattle.script.specs.Flat.{FormedNodes, nodesIn}
 use Rattle.script.specs.Rows.{Form, nodeOperands, ifForm, letForm}
 use Rattle.script.specs.Tree.{Expr, size}
@@ -13,7 +13,7 @@ use Rattle.script.specs.Tree.Laws.{Unrolled, is-int, is-truth, is-var, is-unary
 use Rattle.script.specs.declared.Value.{Value}
 use Rattle.script.specs.declared.Value.the-variants.{Word, Truth, Location}
 use Rattle.rules.specs.Evaluation.{Outcome, gave, failed, after, unaryOn, binaryOn, branchOn, eval}
-use Rattle.operators.specs.Steps.{leafOn, oneOn, twoOn, branchOf, nextOn, boundOn, restBy, restOn, restSizeOn, restSize}
+use Rattle.operators.specs.Steps.{leafOn, oneOn, twoOn, branchOf, nextOn, restBy, restOn, restSizeOn, restSize}
 use Rattle.operators.specs.declared.Next.the-variants.{Operand, Wrong}
 
 -- ---- one step after the other
@@ -61,26 +61,26 @@ module _ (xs : List ℕ) (n : ℕ) where
 
   -- by how many operands it has that are nodes: none, one, or more
   pub data Shaped (t : Expr) : Type 0 where
-    no-operand : count ≡ 0 → ((env cs : List Value) → eval t env cs ≡ leafOn form n (nodeIn xs n .a) env cs) → Shaped t
+    no-operand : count ≡ 0 → ((env cs : List Value) → eval t env cs ≡ leafOn form n (nodeIn xs n) env cs) → Shaped t
     one-operand : count ≡ 1 → First t → ((env cs : List Value) → eval t env cs ≡ after (eval first env cs) (oneOn form n)) → Shaped t
     more-operands : 2 ≤ count → First t → Rest t
-        → ((v : Value) (m : ℕ) → nextOn form v (nodeIn xs n .b) (nodeIn xs n .c) ≡ Operand m → Follows m) → Shaped t
+        → ((v : Value) (m : ℕ) → nextOn form v (nodeIn xs n) ≡ Operand m → Follows m) → Shaped t
 
   -- ---- nodes of each form
 
   restFor : Form → Value → List Value → List Value → Outcome
-  restFor f v env cs = restBy (nextOn f v (nodeIn xs n .b) (nodeIn xs n .c)) xs f n v env cs
+  restFor f v env cs = restBy (nextOn f v (nodeIn xs n)) xs f n v (severalBy f env (env ++ (v ∷ [])) (λ o. env) env) cs
 
   branch-rest : (v : Value) (cs : List Value) (env : List Value)
       → branchOn n v cs (eval (treeIn xs (nodeIn xs n .b)) env) (eval (treeIn xs (nodeIn xs n .c)) env) ≡ restFor ifForm v env cs
-  unfolding restFor restBy nextOn boundOn twoOn
+  unfolding restFor restBy nextOn severalBy twoOn
   branch-rest (Word w) cs env = refl
   branch-rest (Truth true) cs env = after-gave (eval (treeIn xs (nodeIn xs n .b)) env cs) gave λ w cs₁. refl
   branch-rest (Truth false) cs env = after-gave (eval (treeIn xs (nodeIn xs n .c)) env cs) gave λ w cs₁. refl
   branch-rest (Location l) cs env = refl
 
   let-rest : (v : Value) (cs : List Value) (env : List Value) → eval (treeIn xs (nodeIn xs n .b)) (env ++ (v ∷ [])) cs ≡ restFor letForm v env cs
-  unfolding restFor restBy nextOn boundOn twoOn
+  unfolding restFor restBy nextOn severalBy twoOn
   let-rest v cs env = after-gave (eval (treeIn xs (nodeIn xs n .b)) (env ++ (v ∷ [])) cs) gave λ w cs₁. refl
 
   same-operand : {m k : ℕ} → Operand m ≡ Operand k → m ≡ k
@@ -102,13 +102,13 @@ module _ (xs : List ℕ) (n : ℕ) where
     unfolding restFor
     rest-form env cs k h =
         after-same (eval first env cs) k (λ v cs₁. restOn xs n (nodeIn xs n) v env cs₁)
-        λ v cs₁. h v cs₁ ∙ ap (λ (g : Form). restBy (nextOn g v (nodeIn xs n .b) (nodeIn xs n .c)) xs g n v env cs₁) (sym q)
+        λ v cs₁. h v cs₁ ∙ ap (λ (g : Form). restFor g v env cs₁) (sym q)
 
     rest-size : restSize xs (nodeIn xs n) ≡ restSizeOn f (size (treeIn xs (nodeIn xs n .b))) (size (treeIn xs (nodeIn xs n .c)))
     rest-size = ap (λ (g : Form). restSizeOn g (size (treeIn xs (nodeIn xs n .b))) (size (treeIn xs (nodeIn xs n .c)))) q
 
-    next-form : (v : Value) → nextOn form v (nodeIn xs n .b) (nodeIn xs n .c) ≡ nextOn f v (nodeIn xs n .b) (nodeIn xs n .c)
-    next-form v = ap (λ (g : Form). nextOn g v (nodeIn xs n .b) (nodeIn xs n .c)) q
+    next-form : (v : Value) → nextOn form v (nodeIn xs n) ≡ nextOn f v (nodeIn xs n)
+    next-form v = ap (λ (g : Form). nextOn g v (nodeIn xs n)) q
 
   follow-branch : form ≡ ifForm → nodeIn xs n .b < n → nodeIn xs n .c < n → (v : Value) (m : ℕ)
       → branchOf v (nodeIn xs n .b) (nodeIn xs n .c) ≡ Operand m → Follows m
@@ -119,13 +119,13 @@ module _ (xs : List ℕ) (n : ℕ) where
   follow-branch q b c (Location l) m p = absurd (operand-not-wrong p)
 
   shape-of : {t : Expr} → Unrolled (nodesIn xs) n t → Shaped t
-  unfolding eval size treeIn leafOn oneOn restFor restBy nextOn boundOn twoOn restSizeOn
+  unfolding eval size treeIn leafOn oneOn restFor restBy nextOn severalBy twoOn restSizeOn
   shape-of (is-int e q a) =
-      no-operand (form-operands _ e q) λ env cs. sym (ap (λ (g : Form). leafOn g n (nodeIn xs n .a) env cs) (form-is _ e q))
+      no-operand (form-operands _ e q) λ env cs. sym (ap (λ (g : Form). leafOn g n (nodeIn xs n) env cs) (form-is _ e q))
   shape-of (is-truth e q) =
-      no-operand (form-operands _ e q) λ env cs. sym (ap (λ (g : Form). leafOn g n (nodeIn xs n .a) env cs) (form-is _ e q))
+      no-operand (form-operands _ e q) λ env cs. sym (ap (λ (g : Form). leafOn g n (nodeIn xs n) env cs) (form-is _ e q))
   shape-of (is-var e q a) =
-      no-operand (form-operands _ e q) λ env cs. sym (ap (λ (g : Form). leafOn g n (nodeIn xs n .a) env cs) (form-is _ e q))
+      no-operand (form-operands _ e q) λ env cs. sym (ap (λ (g : Form). leafOn g n (nodeIn xs n) env cs) (form-is _ e q))
   shape-of (is-unary {o = o} e q a) =
       one-operand (form-operands _ e q) (record { earlier = a; smaller = omega arith }) λ env cs.
       after-same (eval first env cs) (unaryOn n o) (oneOn form n) λ v cs₁. sym (ap (λ (g : Form). oneOn g n v cs₁) (form-is _ e q))
@@ -175,7 +175,7 @@ shaped {xs} {n} f = shape-of xs n (viewed f)
 
 module _ {xs : List ℕ} {n : ℕ} {t : Expr} where
   pub leaf-eval : Shaped xs n t → nodeOperands (nodeIn xs n .kind) ≡ 0 → (env cs : List Value)
-      → eval t env cs ≡ leafOn (formOf (nodeIn xs n .kind)) n (nodeIn xs n .a) env cs
+      → eval t env cs ≡ leafOn (formOf (nodeIn xs n .kind)) n (nodeIn xs n) env cs
   leaf-eval (no-operand z e) h env cs = e env cs
   leaf-eval (one-operand z f e) h env cs = absurd (omega arith)
   leaf-eval (more-operands z f e k) h env cs = absurd (omega arith)
@@ -202,7 +202,7 @@ module _ {xs : List ℕ} {n : ℕ} {t : Expr} where
   rest-of (more-operands z f e k) h = e
 
   pub follows : Shaped xs n t → 2 ≤ nodeOperands (nodeIn xs n .kind) → (v : Value) {m : ℕ}
-      → nextOn (formOf (nodeIn xs n .kind)) v (nodeIn xs n .b) (nodeIn xs n .c) ≡ Operand m → Follows xs n m
+      → nextOn (formOf (nodeIn xs n .kind)) v (nodeIn xs n) ≡ Operand m → Follows xs n m
   follows (no-operand z e) h v p = absurd (omega arith)
   follows (one-operand z f e) h v p = absurd (omega arith)
   follows (more-operands z f e k) h v {m} p = k v m p

@@ -1,14 +1,15 @@
 -- From one step of a run to the next: what is known once an operand gave a value or failed, and how the steps of a node make up its evaluation.
 -- Assumes nothing.
-use mathlib.Core.List.{List, [], _∷_}
+use mathlib.Core.List.{List, [], _∷_, _++_}
 use mathlib.Core.Path.{_≡_, refl, sym, ap, subst, _∙_}
 use Prim.Native.Nat.{ℕ, suc, _+_, _*_, _≤_, _<_}
 use native.Mathlib.Omega.{arith}
 use lib.ListN.{length, take, length-append}
 use lib.Seq.{take-take}
-use Rattle.script.specs.Code.Forms.{formOf, leaf-kinds, nodeIn, treeIn, formed-less}
+use Rattle.script.specs.Code.Forms.{formOf, severalBy, leaf-kinds, nodeIn, treeIn, formed-less}
 use Rattle.script.specs.Rows.{Form, intForm, varForm, ifForm, letForm, typedForm, symForm, truthForm, unaryForm, binaryForm, leafKinds, nodeOperands}
 use Rattle.script.specs.Tree.{Expr, size}
+use Rattle.script.specs.declared.Node.{Node}
 use Rattle.script.specs.declared.Value.{Value}
 use Rattle.rules.specs.Evaluation.{Outcome, gave, failed, after, eval}
 use Rattle.rules.specs.Evaluation.Laws.{cellsOf, Grows, grows-gave, grows-failed, grows-after, grows-unary, grows-binary, eval-grows}
@@ -137,8 +138,8 @@ two-grows (binaryForm o) n v w cs = grows-binary n o v w cs
 rest-keeps : (x : Next) (xs : List ℕ) (f : Form) (n : ℕ) (v : Value) (env cs : List Value) → length cs ≤ length (cellsOf (restBy x xs f n v env cs))
 unfolding restBy
 rest-keeps (Operand m) xs f n v env cs =
-    grows-after (length cs) (size (treeIn xs m)) 0 (eval (treeIn xs m) (boundOn f v env) cs) (λ w cs₁. twoOn f n v w cs₁)
-    (eval-grows (treeIn xs m) (boundOn f v env) cs) (λ w cs₁. two-grows f n v w cs₁) .keeps
+    grows-after (length cs) (size (treeIn xs m)) 0 (eval (treeIn xs m) env cs) (λ w cs₁. twoOn f n v w cs₁)
+    (eval-grows (treeIn xs m) env cs) (λ w cs₁. two-grows f n v w cs₁) .keeps
 rest-keeps Wrong xs f n v env cs = grows-failed n cs 0 .keeps
 
 -- ---- a node that can run
@@ -157,7 +158,7 @@ module _ {xs env : List ℕ} {depth : ℕ} {cells : List ℕ} {used n : ℕ} (q 
       (d .does) e
 
   -- a leaf
-  pub leaf-runs : nodeIn xs n .kind < leafKinds → {r : Step} → Says (leafOn (formOf (nodeIn xs n .kind)) n (nodeIn xs n .a) (valuesOf depth env)) used r
+  pub leaf-runs : nodeIn xs n .kind < leafKinds → {r : Step} → Says (leafOn (formOf (nodeIn xs n .kind)) n (nodeIn xs n) (valuesOf depth env)) used r
       → Runs (eval (treeIn xs n) (valuesOf depth env) (valuesOf used cells)) depth env env r cells cells
   leaf-runs z {r} s =
       record {
@@ -246,35 +247,38 @@ module _ {xs env : List ℕ} {depth : ℕ} {cells : List ℕ} {used n : ℕ} (q 
               subst (λ (p : Outcome). Does p r₂ cells left₂)
               (sym (rest-of (shaped (q .formed)) m .evaluates (valuesOf depth env) (valuesOf used cells)))
               (does-after first-gives k (d .does)
-              (rest-keeps (nextOn f v (nodeIn xs n .b) (nodeIn xs n .c)) xs f n v (valuesOf depth env) (valuesOf u left))
+              (rest-keeps (nextOn f v (nodeIn xs n)) xs f n v (boundOn (nodeIn xs n) v (valuesOf depth env)) (valuesOf u left))
               (subst (λ (vs : List Value). Does (restOn xs n (nodeIn xs n) v vs (valuesOf u left)) r₂ left left₂) (kept-values envLeft (q .environment) (d .kept)) (d₂ .does)));
           kept = d₂ .kept ∙ d .kept;
         }
 
 -- ---- going on with a node
 
-bound-length : (f : Form) (v : Value) (env : List Value) → (length env ≤ length (boundOn f v env)) × (length (boundOn f v env) ≤ length env + 1)
-unfolding boundOn
-bound-length intForm v env = (omega arith, omega arith)
-bound-length varForm v env = (omega arith, omega arith)
-bound-length ifForm v env = (omega arith, omega arith)
-bound-length letForm v env = let l = length-append env (v ∷ []) in (omega arith, omega arith)
-bound-length typedForm v env = (omega arith, omega arith)
-bound-length symForm v env = (omega arith, omega arith)
-bound-length (truthForm b) v env = (omega arith, omega arith)
-bound-length (unaryForm o) v env = (omega arith, omega arith)
-bound-length (binaryForm o) v env = (omega arith, omega arith)
+bound-length : (m : Node) (v : Value) (env : List Value) → (length env ≤ length (boundOn m v env)) × (length (boundOn m v env) ≤ length env + 1)
+unfolding severalBy
+bound-length m v env = go (formOf (m .kind))
+  where
+    go : (f : Form) → (length env ≤ length (severalBy f env (env ++ (v ∷ [])) (λ o. env) env)) × (length (severalBy f env (env ++ (v ∷ [])) (λ o. env) env) ≤ length env + 1)
+    go intForm = (omega arith, omega arith)
+    go varForm = (omega arith, omega arith)
+    go ifForm = (omega arith, omega arith)
+    go letForm = let l = length-append env (v ∷ []) in (omega arith, omega arith)
+    go typedForm = (omega arith, omega arith)
+    go symForm = (omega arith, omega arith)
+    go (truthForm b) = (omega arith, omega arith)
+    go (unaryForm o) = (omega arith, omega arith)
+    go (binaryForm o) = (omega arith, omega arith)
 
 module _ {xs env : List ℕ} {depth : ℕ} {cells : List ℕ} {used n : ℕ} {v : Value} (q : Halfway xs env depth cells used n v) where
   -- the condition is no truth
-  pub wrong-runs : nextOn (formOf (nodeIn xs n .kind)) v (nodeIn xs n .b) (nodeIn xs n .c) ≡ Wrong
+  pub wrong-runs : nextOn (formOf (nodeIn xs n .kind)) v (nodeIn xs n) ≡ Wrong
       → Runs (restOn xs n (nodeIn xs n) v (valuesOf depth env) (valuesOf used cells)) depth env env (Failed n used) cells cells
   unfolding restBy
   wrong-runs e =
       record {
         does =
             does-failed (q .store) (restOn xs n (nodeIn xs n) v (valuesOf depth env) (valuesOf used cells))
-            (ap (λ (x : Next). restBy x xs (formOf (nodeIn xs n .kind)) n v (valuesOf depth env) (valuesOf used cells)) e);
+            (ap (λ (x : Next). restBy x xs (formOf (nodeIn xs n .kind)) n v (boundOn (nodeIn xs n) v (valuesOf depth env)) (valuesOf used cells)) e);
         kept = refl;
       }
 
@@ -282,9 +286,9 @@ module _ {xs env : List ℕ} {depth : ℕ} {cells : List ℕ} {used n : ℕ} {v 
   bind-ready = record { held = q .environment .held; room = omega (arith, q .environment .room) }
 
   -- the next operand is m, and the variables are bound
-  module _ {m : ℕ} (e : nextOn (formOf (nodeIn xs n .kind)) v (nodeIn xs n .b) (nodeIn xs n .c) ≡ Operand m) {env₁ : List ℕ} {inner : ℕ}
-      (b : Bound env depth (boundOn (formOf (nodeIn xs n .kind)) v (valuesOf depth env)) env₁ inner) where
-    inner-values : valuesOf inner env₁ ≡ boundOn (formOf (nodeIn xs n .kind)) v (valuesOf depth env)
+  module _ {m : ℕ} (e : nextOn (formOf (nodeIn xs n .kind)) v (nodeIn xs n) ≡ Operand m) {env₁ : List ℕ} {inner : ℕ}
+      (b : Bound env depth (boundOn (nodeIn xs n) v (valuesOf depth env)) env₁ inner) where
+    inner-values : valuesOf inner env₁ ≡ boundOn (nodeIn xs n) v (valuesOf depth env)
     inner-values = ap (λ (k : ℕ). valuesOf k env₁) (b .counts) ∙ holds-values (b .holds)
 
     pub next-earlier : m < n
@@ -293,7 +297,7 @@ module _ {xs env : List ℕ} {depth : ℕ} {cells : List ℕ} {used n : ℕ} {v 
     pub next-ready : length env₁ ≡ length env → Ready xs env₁ inner cells used m
     next-ready l =
         let f = follows (shaped (q .formed)) (q .several) v e in
-        let k = bound-length (formOf (nodeIn xs n .kind)) v (valuesOf depth env) in
+        let k = bound-length (nodeIn xs n) v (valuesOf depth env) in
         let w = length-values depth env in
         record {
           formed = formed-less (suc m) (omega (arith, f .earlier)) (q .formed);
@@ -311,12 +315,12 @@ module _ {xs env : List ℕ} {depth : ℕ} {cells : List ℕ} {used n : ℕ} {v 
           ≡ after (eval (treeIn xs m) (valuesOf inner env₁) (valuesOf used cells)) (λ w cs. twoOn (formOf (nodeIn xs n .kind)) n v w cs)
       unfolding restBy
       rest-is =
-          ap (λ (x : Next). restBy x xs (formOf (nodeIn xs n .kind)) n v (valuesOf depth env) (valuesOf used cells)) e
+          ap (λ (x : Next). restBy x xs (formOf (nodeIn xs n .kind)) n v (boundOn (nodeIn xs n) v (valuesOf depth env)) (valuesOf used cells)) e
           ∙ ap (λ (vs : List Value). after (eval (treeIn xs m) vs (valuesOf used cells)) λ w cs. twoOn (formOf (nodeIn xs n .kind)) n v w cs) (sym inner-values)
 
       kept-all : take (5 * depth) env₂ ≡ take (5 * depth) env
       kept-all =
-          let k = bound-length (formOf (nodeIn xs n .kind)) v (valuesOf depth env) in
+          let k = bound-length (nodeIn xs n) v (valuesOf depth env) in
           let w : 5 * depth ≤ 5 * inner = omega (arith, b .counts, k .0, length-values depth env) in
           sym (take-take (5 * depth) (5 * inner) env₂ w)
           ∙ ap (take (5 * depth)) (d .kept)

@@ -11,7 +11,7 @@ use borrow.Author.Tests.{not-false, le-leb, leb-true, leb-false, eqb-true, eqb-f
 use Rattle.script.specs.Code.TableTests.Laws.{same-node}
 use Rattle.script.specs.Flat.{FormedNodes, nodesIn}
 use Rattle.script.specs.Flat.Laws.{nodesIn-holds}
-use Rattle.script.specs.Rows.{Row, Form, typedForm, symForm, truthForm, rows, rowOf, kindFor, kindCount, leafKinds, numberUpTo, countBy, operandCount, takesBy, takesIn, takesOf, nodesOnly, nodeOperands}
+use Rattle.script.specs.Rows.{Row, Form, BinaryOp, intForm, varForm, ifForm, letForm, typedForm, symForm, truthForm, unaryForm, binaryForm, rows, rowOf, kindFor, kindCount, leafKinds, numberUpTo, countBy, operandCount, takesBy, takesIn, takesOf, nodesOnly, nodeOperands}
 use Rattle.script.specs.Rows.Laws.{formBy, row-form, form-row, countOf, row-count, row-kind, NoneOf, unaryForms, elsewhere, other-row}
 use Rattle.script.specs.Table.{nodeAt, rightNode, wellFormed}
 use Rattle.script.specs.Table.Laws.{formed-at}
@@ -46,6 +46,18 @@ pub other-form : {A : Type 0} (g : Form → A) (fs : List Form) (k : ℕ)
     → NoneOf k fs → g (formOf k) ≡ g (truthForm false)
 unfolding formOf
 other-form g fs k e n = other-row (λ o. g (formBy o)) fs k e n
+
+-- one thing for an `if`, one for a `let`, one for each operator with two operands, and one for every form that has fewer
+unfoldable pub severalBy : {A : Type 0} → Form → A → A → (BinaryOp → A) → A → A
+severalBy intForm i l b x = x
+severalBy varForm i l b x = x
+severalBy ifForm i l b x = i
+severalBy letForm i l b x = l
+severalBy typedForm i l b x = x
+severalBy symForm i l b x = x
+severalBy (truthForm t) i l b x = x
+severalBy (unaryForm o) i l b x = x
+severalBy (binaryForm o) i l b x = b o
 
 -- how many operands that are nodes a form has
 abbrev pub nodesOfForm : Form → ℕ

@@ -66,7 +66,7 @@ trees-take ns k i h l =
 
 -- a form looks only at the trees of its operands
 same-shape : (i : ℕ) (n : Node) (f : Form) (ts us : List Expr) → Formed i n f → ((k : ℕ) → k < i → treeAt ts k ≡ treeAt us k)
-    → shape f i (n .a) (treeAt ts (n .a)) (treeAt ts (n .b)) (treeAt ts (n .c)) ≡ shape f i (n .a) (treeAt us (n .a)) (treeAt us (n .b)) (treeAt us (n .c))
+    → shape f i n (treeAt ts (n .a)) (treeAt ts (n .b)) (treeAt ts (n .c)) ≡ shape f i n (treeAt us (n .a)) (treeAt us (n .b)) (treeAt us (n .c))
 unfolding shape
 same-shape i n f ts us (intNode a b c) h = refl
 same-shape i n f ts us (truthNode a b c) h = refl
@@ -80,7 +80,7 @@ same-shape i n f ts us (symNode a b c) h = rw (h (n .a) a) refl
 
 -- the tree of node i by its row
 pub tree-shape : (ns : List Node) (i : ℕ) → i < length ns → (f : FormedAt i (nodeAt ns i))
-    → treeAt (trees ns) i ≡ shape (f .row .form) i (nodeAt ns i .a) (treeAt (trees ns) (nodeAt ns i .a)) (treeAt (trees ns) (nodeAt ns i .b)) (treeAt (trees ns) (nodeAt ns i .c))
+    → treeAt (trees ns) i ≡ shape (f .row .form) i (nodeAt ns i) (treeAt (trees ns) (nodeAt ns i .a)) (treeAt (trees ns) (nodeAt ns i .b)) (treeAt (trees ns) (nodeAt ns i .c))
 unfolding trees treeBy
 tree-shape ns i h f =
     treesFrom-at [] ns i i h (zero-add i)
@@ -115,7 +115,7 @@ pub data Unrolled (ns : List Node) (i : ℕ) : Expr → Type 0 where
       → Unrolled ns i (symBlock i (treeAt (trees ns) (nodeAt ns i .a)))
 
 view-of : (ns : List Node) (i : ℕ) (r : Row) (f : Form) → rowOf (nodeAt ns i .kind) ≡ some r → r .form ≡ f → Formed i (nodeAt ns i) f
-    → Unrolled ns i (shape f i (nodeAt ns i .a) (treeAt (trees ns) (nodeAt ns i .a)) (treeAt (trees ns) (nodeAt ns i .b)) (treeAt (trees ns) (nodeAt ns i .c)))
+    → Unrolled ns i (shape f i (nodeAt ns i) (treeAt (trees ns) (nodeAt ns i .a)) (treeAt (trees ns) (nodeAt ns i .b)) (treeAt (trees ns) (nodeAt ns i .c)))
 unfolding shape
 view-of ns i r f e q (intNode a b c) = is-int e q a
 view-of ns i r f e q (truthNode a b c) = is-truth e q

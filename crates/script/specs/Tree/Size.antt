@@ -85,7 +85,7 @@ module _ (s : ℕ → ℕ) where
 sizeAt : List Node → ℕ → ℕ
 sizeAt ns i = size (treeAt (trees ns) i)
 
-size-shape : (s : ℕ → Expr) (f : Form) (i : ℕ) (n : Node) → size (shape f i (n .a) (s (n .a)) (s (n .b)) (s (n .c))) ≡ suc (sumOver (λ k. size (s k)) (operandsOf f n))
+size-shape : (s : ℕ → Expr) (f : Form) (i : ℕ) (n : Node) → size (shape f i n (s (n .a)) (s (n .b)) (s (n .c))) ≡ suc (sumOver (λ k. size (s k)) (operandsOf f n))
 unfolding size shape sumOver
 size-shape s intForm i n = refl
 size-shape s varForm i n = refl

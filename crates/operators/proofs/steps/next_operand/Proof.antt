@@ -31,8 +31,8 @@ returns-4 c = rw (c .before .before .if1 .taken, c .enum-told2 .given .1)
 
 returns-5 : tie.Need-returns-5
 returns-5 c =
-    let a = c .before .args in
-    sym (next-other (a .v) (a .b) (a .c) (a .kind) (c .if1 .left))
+    let a = c .before .before .args in
+    sym (next-other (a .v) (a .node) (c .if1 .left))
 
 pub next-operand-spec : {M : Type 1} → statement M
 next-operand-spec =
