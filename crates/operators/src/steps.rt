@@ -9,8 +9,8 @@ use script::Node;
 use script::Value;
 use script::table::IF;
 
-// A step taken apart.
-pub fn apart(step: Step) -> Parts
+// The parts of a step.
+pub fn parts_of(step: Step) -> Parts
     ensures { λ r. ⌜ wholeOf r ≡ step ⌝ }
 {
     match step {

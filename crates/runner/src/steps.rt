@@ -10,7 +10,7 @@ use operators::Parts;
 use operators::Step;
 use operators::leaf;
 use operators::one;
-use operators::steps::apart;
+use operators::steps::parts_of;
 use operators::steps::next_operand;
 use operators::steps::whole;
 use operators::two;
@@ -74,15 +74,15 @@ pub fn run_node(
 {
     let node = node_at(table, n as usize);
     if node.kind < LEAVES {
-        return apart(leaf(node, environment, depth, used, n));
+        return parts_of(leaf(node, environment, depth, used, n));
     }
     match whole(run_node(table, environment, depth, cells, used, node.a)) {
         Step::Failed(at, count) => Parts::Failed(at, count),
         Step::Gave(v, count) => {
             if has_one(node.kind) {
-                return apart(one(node.kind, v, cells, count, n));
+                return parts_of(one(node.kind, v, cells, count, n));
             }
-            apart(rest(table, environment, depth, cells, count, n, v))
+            parts_of(rest(table, environment, depth, cells, count, n, v))
         }
     }
 }

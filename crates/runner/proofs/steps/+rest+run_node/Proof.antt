@@ -13,7 +13,7 @@ use Rattle.table.proofs.node_at.Reads as node-at-reads
 use Rattle.operators.proofs.leaf.Reads as leaf-reads
 use Rattle.operators.proofs.one.Reads as one-reads
 use Rattle.operators.proofs.two.Reads as two-reads
-use Rattle.operators.proofs.steps.apart.Reads as apart-reads
+use Rattle.operators.proofs.steps.parts_of.Reads as parts-of-reads
 use Rattle.operators.proofs.steps.next_operand.Reads as next-operand-reads
 use Rattle.operators.proofs.steps.whole.Reads as whole-reads
 use Rattle.runner.specs.Code.Turns.{leaf-runs, first-earlier, ready-first, first-failed, first-ranged, one-ready, one-runs, half-ready, rest-runs, wrong-runs, bind-ready, next-earlier, next-ready, next-failed, two-ranged, two-ready, two-runs}
@@ -69,8 +69,8 @@ run-node-calls t = (
   node-at-reads.Learnt,
   leaf-reads.Asked,
   leaf-reads.Learnt,
-  apart-reads.Asked,
-  apart-reads.Learnt,
+  parts-of-reads.Asked,
+  parts-of-reads.Learnt,
   run-node-below t,
   run-node.Post,
   whole-reads.Asked,
@@ -162,7 +162,7 @@ run-node-returns t c =
     let o = c .before .before .before .before in
     let s = o .before .before .before .before .before in
     let node = o .before .node-at .ensures in
-    rw (c .apart .ensures) (leaf-runs (s .pre .1) (rw node at (c .before .before .before .if1 .taken)) (rw node at (c .before .leaf .ensures)))
+    rw (c .parts-of .ensures) (leaf-runs (s .pre .1) (rw node at (c .before .before .before .if1 .taken)) (rw node at (c .before .leaf .ensures)))
 
 run-node-run-node-requires : (t : ℕ) → run-node-lts.Need-run-node-requires (run-node-calls t) (run-node-at t) run-node.Post
 run-node-run-node-requires t c κs =
@@ -194,7 +194,7 @@ run-node-returns-2 t c =
     let h = some-operand (q .formed) (rw node at (p .before .before .before .if1 .left)) in
     let d = rw node at (p .run-node .ensures) in
     let k = has-one _ (rw node at (c .before .before .before .before .before .before .has-one .ensures)) (c .before .before .before .before .before .if2 .taken) in
-    rw (c .apart2 .ensures) (one-runs q h d (sym (c .before .before .before .before .before .before .before .before .before .before .whole .ensures) ∙ c .before .before .before .before .before .before .before .before .v .given .1) k (rw node at (c .before .before .before .one .ensures)))
+    rw (c .parts-of2 .ensures) (one-runs q h d (sym (c .before .before .before .before .before .before .before .before .before .before .whole .ensures) ∙ c .before .before .before .before .before .before .before .before .v .given .1) k (rw node at (c .before .before .before .one .ensures)))
 
 run-node-rest-requires : (t : ℕ) → run-node-lts.Need-rest-requires (run-node-calls t) (run-node-at t) run-node.Post
 run-node-rest-requires t c κs =
@@ -229,7 +229,7 @@ run-node-returns-4 t c =
     let h = some-operand (q .formed) (rw node at (p .before .before .before .if1 .left)) in
     let d = rw node at (p .run-node .ensures) in
     let k = has-more _ h (rw node at (c .before .before .before .before .before .before .before .before .before .has-one .ensures)) (c .before .before .before .before .before .before .before .before .if2 .left) in
-    rw (c .apart3 .ensures) (rest-runs q h d (sym (c .before .before .before .before .before .before .before .before .before .before .before .before .before .whole .ensures) ∙ c .before .before .before .before .before .before .before .before .before .before .before .v .given .1) k (c .before .before .before .before .before .rest .ensures))
+    rw (c .parts-of3 .ensures) (rest-runs q h d (sym (c .before .before .before .before .before .before .before .before .before .before .before .before .before .whole .ensures) ∙ c .before .before .before .before .before .before .before .before .before .before .before .v .given .1) k (c .before .before .before .before .before .rest .ensures))
 
 pub +rest+run-node-spec : {M : Type 1} → statement M
 +rest+run-node-spec =

@@ -1,11 +1,11 @@
--- `operators::steps::apart` meets its contract. Assumes nothing.
+-- `operators::steps::parts_of` meets its contract. Assumes nothing.
 use borrow.Author.Needs.{needs}
 use mathlib.Core.Path.{refl}
-use Rattle.operators.proofs.steps.apart.Statement.{statement}
-use Rattle.operators.proofs.steps.apart.Tie as tie
+use Rattle.operators.proofs.steps.parts_of.Statement.{statement}
+use Rattle.operators.proofs.steps.parts_of.Tie as tie
 
-pub apart-spec : {M : Type 1} → statement M
-apart-spec =
+pub parts-of-spec : {M : Type 1} → statement M
+parts-of-spec =
     tie.close
     (tie.spec
     (λ c. search needs)
