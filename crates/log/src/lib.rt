@@ -109,18 +109,18 @@ pub fn lookup(space: &[u32], place: u32) -> Found
     Found::Nothing
 }
 
-// A write through the reference of type t at place p: a value of type u at place q.
-pub fn write(space: &mut [u32], t: u32, p: u32, u: u32, q: u32)
+// A write through the reference of type t at place q: a value of type u at place s.
+pub fn write(space: &mut [u32], t: u32, q: u32, u: u32, s: u32)
     requires { ⌜ writesIn (now space) < nodeLimit ⌝ }
     requires { ⌜ spaceSize ≤ length (now space) ⌝ }
-    ensures { λ r. ⌜ now (space .exit) ≡ written (now (space .entry)) t p u q ⌝ }
+    ensures { λ r. ⌜ now (space .exit) ≡ written (now (space .entry)) t q u s ⌝ }
 {
     let count = space[WRITES];
     let at = LOG + WRITE * (count as usize);
     space[at] = t;
-    space[at + 1] = p;
+    space[at + 1] = q;
     space[at + 2] = u;
-    space[at + 3] = q;
+    space[at + 3] = s;
     space[WRITES] = count + 1;
 }
 

@@ -47,12 +47,12 @@ pub fn fresh(space: &mut [u32], t: u32) -> u32
     requires { ⌜ Room (now space) 1 ⌝ }
     ensures { λ r. ⌜ Fresh t (now (space .entry)) r (now (space .exit)) ⌝ }
 {
-    let s = space[NEXT];
-    space[NEXT] = s + 1;
+    let symbol = space[NEXT];
+    space[NEXT] = symbol + 1;
     match t {
-        0 => push(space, SYMBOL, s, 0),
-        1 => symbols_atom(space, TRUTH, s, s),
-        _ => reference(s, OTHER),
+        0 => push(space, SYMBOL, symbol, 0),
+        1 => symbols_atom(space, TRUTH, symbol, symbol),
+        _ => reference(symbol, OTHER),
     }
 }
 
@@ -83,35 +83,35 @@ pub fn leaf(kind: u32, a: u32, space: &mut [u32], depth: usize, n: u32) -> Step
 }
 
 // `not`.
-fn negation(t: u32, p: u32, space: &mut [u32], n: u32) -> Step
+fn negation(t: u32, q: u32, space: &mut [u32], n: u32) -> Step
     requires { ⌜ Room (now space) 1 ⌝ }
-    ensures { λ r. ⌜ One (unaryForm notOp) n t p (now (space .entry)) r (now (space .exit)) ⌝ }
+    ensures { λ r. ⌜ One (unaryForm notOp) n t q (now (space .entry)) r (now (space .exit)) ⌝ }
 {
     if t != 1 {
         return Step::Stopped(Refusal::WrongType(n));
     }
-    Step::Gave(1, push(space, NEGATION, p, 0))
+    Step::Gave(1, push(space, NEGATION, q, 0))
 }
 
 // `ref`: a fresh symbol, and its value in the log.
-fn make_cell(t: u32, p: u32, space: &mut [u32], n: u32) -> Step
+fn make_cell(t: u32, q: u32, space: &mut [u32], n: u32) -> Step
     requires { ⌜ Room (now space) 1 ⌝ }
-    ensures { λ r. ⌜ One (unaryForm refOp) n t p (now (space .entry)) r (now (space .exit)) ⌝ }
+    ensures { λ r. ⌜ One (unaryForm refOp) n t q (now (space .entry)) r (now (space .exit)) ⌝ }
 {
     if DEEPEST <= t {
         return Step::Stopped(Refusal::TooManyReferences(n));
     }
-    let s = space[NEXT];
-    space[NEXT] = s + 1;
-    let place = reference(s, MADE);
-    write(space, t + 2, place, t, p);
+    let symbol = space[NEXT];
+    space[NEXT] = symbol + 1;
+    let place = reference(symbol, MADE);
+    write(space, t + 2, place, t, q);
     Step::Gave(t + 2, place)
 }
 
 // `get`: what the log has, or a fresh symbol.
-fn read_cell(t: u32, p: u32, space: &mut [u32], n: u32) -> Step
+fn read_cell(t: u32, q: u32, space: &mut [u32], n: u32) -> Step
     requires { ⌜ Room (now space) 1 ⌝ }
-    ensures { λ r. ⌜ One (unaryForm getOp) n t p (now (space .entry)) r (now (space .exit)) ⌝ }
+    ensures { λ r. ⌜ One (unaryForm getOp) n t q (now (space .entry)) r (now (space .exit)) ⌝ }
 {
     if t < 2 {
         return Step::Stopped(Refusal::WrongType(n));
@@ -119,29 +119,29 @@ fn read_cell(t: u32, p: u32, space: &mut [u32], n: u32) -> Step
     if !consistent(space) {
         return Step::Stopped(Refusal::InconsistentLog(n));
     }
-    match lookup(space, p) {
-        Found::Value(u, q) => Step::Gave(u, q),
+    match lookup(space, q) {
+        Found::Value(u, s) => Step::Gave(u, s),
         Found::Nothing => Step::Gave(t - 2, fresh(space, t - 2)),
     }
 }
 
-// A node with one operand that is a node, which gave a value of type t at place p.
-pub fn one(kind: u32, t: u32, p: u32, space: &mut [u32], n: u32) -> Step
+// A node with one operand that is a node, which gave a value of type t at place q.
+pub fn one(kind: u32, t: u32, q: u32, space: &mut [u32], n: u32) -> Step
     requires { ⌜ Room (now space) 1 ⌝ }
-    ensures { λ r. ⌜ One (formOf kind) n t p (now (space .entry)) r (now (space .exit)) ⌝ }
+    ensures { λ r. ⌜ One (formOf kind) n t q (now (space .entry)) r (now (space .exit)) ⌝ }
 {
     match kind {
-        NOT => negation(t, p, space, n),
-        REF => make_cell(t, p, space, n),
-        GET => read_cell(t, p, space, n),
-        _ => Step::Gave(t, p),
+        NOT => negation(t, q, space, n),
+        REF => make_cell(t, q, space, n),
+        GET => read_cell(t, q, space, n),
+        _ => Step::Gave(t, q),
     }
 }
 
 // `add`.
-fn sum(t: u32, p: u32, u: u32, q: u32, space: &mut [u32], n: u32) -> Step
+fn sum(t: u32, q: u32, u: u32, s: u32, space: &mut [u32], n: u32) -> Step
     requires { ⌜ Room (now space) 1 ⌝ }
-    ensures { λ r. ⌜ Two (binaryForm addOp) n t p u q (now (space .entry)) r (now (space .exit)) ⌝ }
+    ensures { λ r. ⌜ Two (binaryForm addOp) n t q u s (now (space .entry)) r (now (space .exit)) ⌝ }
 {
     if t != 0 {
         return Step::Stopped(Refusal::WrongType(n));
@@ -149,28 +149,28 @@ fn sum(t: u32, p: u32, u: u32, q: u32, space: &mut [u32], n: u32) -> Step
     if u != 0 {
         return Step::Stopped(Refusal::WrongType(n));
     }
-    Step::Gave(0, push(space, SUM, p, q))
+    Step::Gave(0, push(space, SUM, q, s))
 }
 
 // `eq`.
-fn equality(t: u32, p: u32, u: u32, q: u32, space: &mut [u32], n: u32) -> Step
-    requires { ⌜ Operable (now space) t p u q ⌝ }
-    ensures { λ r. ⌜ Two (binaryForm eqOp) n t p u q (now (space .entry)) r (now (space .exit)) ⌝ }
+fn equality(t: u32, q: u32, u: u32, s: u32, space: &mut [u32], n: u32) -> Step
+    requires { ⌜ Operable (now space) t q u s ⌝ }
+    ensures { λ r. ⌜ Two (binaryForm eqOp) n t q u s (now (space .entry)) r (now (space .exit)) ⌝ }
 {
     if t != u {
         return Step::Stopped(Refusal::WrongType(n));
     }
     match t {
-        0 => Step::Gave(1, equal_words(space, p, q)),
-        1 => Step::Gave(1, push(space, EQUALITY, p, q)),
-        _ => Step::Gave(1, equal_references(space, p, q)),
+        0 => Step::Gave(1, equal_words(space, q, s)),
+        1 => Step::Gave(1, push(space, EQUALITY, q, s)),
+        _ => Step::Gave(1, equal_references(space, q, s)),
     }
 }
 
 // `and`.
-fn conjunction(t: u32, p: u32, u: u32, q: u32, space: &mut [u32], n: u32) -> Step
+fn conjunction(t: u32, q: u32, u: u32, s: u32, space: &mut [u32], n: u32) -> Step
     requires { ⌜ Room (now space) 1 ⌝ }
-    ensures { λ r. ⌜ Two (binaryForm andOp) n t p u q (now (space .entry)) r (now (space .exit)) ⌝ }
+    ensures { λ r. ⌜ Two (binaryForm andOp) n t q u s (now (space .entry)) r (now (space .exit)) ⌝ }
 {
     if t != 1 {
         return Step::Stopped(Refusal::WrongType(n));
@@ -178,32 +178,32 @@ fn conjunction(t: u32, p: u32, u: u32, q: u32, space: &mut [u32], n: u32) -> Ste
     if u != 1 {
         return Step::Stopped(Refusal::WrongType(n));
     }
-    Step::Gave(1, push(space, CONJUNCTION, p, q))
+    Step::Gave(1, push(space, CONJUNCTION, q, s))
 }
 
 // `set`: any value is logged.
-fn write_cell(t: u32, p: u32, u: u32, q: u32, space: &mut [u32], n: u32) -> Step
+fn write_cell(t: u32, q: u32, u: u32, s: u32, space: &mut [u32], n: u32) -> Step
     requires { ⌜ Room (now space) 1 ⌝ }
-    ensures { λ r. ⌜ Two (binaryForm setOp) n t p u q (now (space .entry)) r (now (space .exit)) ⌝ }
+    ensures { λ r. ⌜ Two (binaryForm setOp) n t q u s (now (space .entry)) r (now (space .exit)) ⌝ }
 {
     if t < 2 {
         return Step::Stopped(Refusal::WrongType(n));
     }
-    write(space, t, p, u, q);
-    Step::Gave(u, q)
+    write(space, t, q, u, s);
+    Step::Gave(u, s)
 }
 
-// A node whose first operand gave a value of type t at place p, and the next one of type u at place q.
-pub fn two(kind: u32, t: u32, p: u32, u: u32, q: u32, space: &mut [u32], n: u32) -> Step
-    requires { ⌜ Operable (now space) t p u q ⌝ }
-    ensures { λ r. ⌜ Two (formOf kind) n t p u q (now (space .entry)) r (now (space .exit)) ⌝ }
+// A node whose first operand gave a value of type t at place q, and the next one of type u at place s.
+pub fn two(kind: u32, t: u32, q: u32, u: u32, s: u32, space: &mut [u32], n: u32) -> Step
+    requires { ⌜ Operable (now space) t q u s ⌝ }
+    ensures { λ r. ⌜ Two (formOf kind) n t q u s (now (space .entry)) r (now (space .exit)) ⌝ }
 {
     match kind {
-        ADD => sum(t, p, u, q, space, n),
-        EQ => equality(t, p, u, q, space, n),
-        AND => conjunction(t, p, u, q, space, n),
-        SET => write_cell(t, p, u, q, space, n),
-        _ => Step::Gave(u, q),
+        ADD => sum(t, q, u, s, space, n),
+        EQ => equality(t, q, u, s, space, n),
+        AND => conjunction(t, q, u, s, space, n),
+        SET => write_cell(t, q, u, s, space, n),
+        _ => Step::Gave(u, s),
     }
 }
 

@@ -28,14 +28,14 @@ pub fn symbol_of(place: u32) -> u32
 }
 
 // The references at two places are certainly different cells: different symbols that `ref` made on this path.
-pub fn apart(p: u32, q: u32) -> bool
-    ensures { λ r. ⌜ r ≡ apartAt p q ⌝ }
+pub fn apart(q: u32, s: u32) -> bool
+    ensures { λ r. ⌜ r ≡ apartAt q s ⌝ }
 {
-    if p % ORIGINS != MADE {
-        return false;
-    }
     if q % ORIGINS != MADE {
         return false;
     }
-    p / ORIGINS != q / ORIGINS
+    if s % ORIGINS != MADE {
+        return false;
+    }
+    q / ORIGINS != s / ORIGINS
 }

@@ -10,7 +10,7 @@ use Rattle.symbolic.proofs.make_cell.Statement.{statement}
 use Rattle.symbolic.proofs.make_cell.Tie as tie
 
 returns : tie.Need-returns
-returns c = ref-wrong (c .before .before .args .n) (c .before .before .args .t) (c .before .before .args .p) (c .if1 .taken)
+returns c = ref-wrong (c .before .before .args .n) (c .before .before .args .t) (c .before .before .args .q) (c .if1 .taken)
 
 add-space : tie.Need-add-space
 add-space c = omega (arith, c .before .before .before .pre .symbols)
@@ -22,8 +22,8 @@ write-requires : tie.Need-write-requires
 write-requires c κs =
     let at-if1 = c .before .before .before in
     let at-start = at-if1 .before .before in (
-      ref-few (at-start .args .n) (at-start .args .t) (at-start .args .p) (at-start .pre) (at-if1 .if1 .left),
-      ref-lent (at-start .args .n) (at-start .args .t) (at-start .args .p) (at-start .pre) (at-if1 .if1 .left),
+      ref-few (at-start .args .n) (at-start .args .t) (at-start .args .q) (at-start .pre) (at-if1 .if1 .left),
+      ref-lent (at-start .args .n) (at-start .args .t) (at-start .args .q) (at-start .pre) (at-if1 .if1 .left),
     )
 
 same-length : tie.Need-same-length
@@ -35,7 +35,7 @@ returns-2 c =
     let at-if1 = at-write .before .before .before .before in
     let at-start = at-if1 .before .before in
     rw (at-write .before .before .reference .ensures)
-    (ref-made (at-start .args .n) (at-start .args .t) (at-start .args .p) (at-start .pre) (at-if1 .if1 .left) (rw (at-write .before .before .reference .ensures) at (at-write .write .ensures)))
+    (ref-made (at-start .args .n) (at-start .args .t) (at-start .args .q) (at-start .pre) (at-if1 .if1 .left) (rw (at-write .before .before .reference .ensures) at (at-write .write .ensures)))
 
 pub make-cell-spec : {M : Type 1} → statement M
 make-cell-spec =

@@ -22,7 +22,7 @@ returns-3 c = rw (c .before .before .before .before .match .keys3) (c .before .b
 returns-4 : tie.Need-returns-4
 returns-4 c =
     let d = c .match .rest in
-    one-other (c .before .before .args .n) (c .before .before .args .t) (c .before .before .args .p) (c .before .before .args .kind) (but (d .0 .0 .1) (but (d .0 .1) (but (d .1) none-left)))
+    one-other (c .before .before .args .n) (c .before .before .args .t) (c .before .before .args .q) (c .before .before .args .kind) (but (d .0 .0 .1) (but (d .0 .1) (but (d .1) none-left)))
 
 pub one-spec : {M : Type 1} → statement M
 one-spec =

@@ -7,13 +7,13 @@ use Rattle.symbolic.proofs.read_cell.Statement.{statement}
 use Rattle.symbolic.proofs.read_cell.Tie as tie
 
 returns : tie.Need-returns
-returns c = get-wrong (c .before .before .args .n) (c .before .before .args .t) (c .before .before .args .p) (c .if1 .taken)
+returns c = get-wrong (c .before .before .args .n) (c .before .before .args .t) (c .before .before .args .q) (c .if1 .taken)
 
 consistent-requires : tie.Need-consistent-requires
 consistent-requires c κs = (omega (arith, c .before .before .before .pre .writes), c .before .before .before .pre .lent)
 
 returns-2 : tie.Need-returns-2
-returns-2 c = get-stopped (c .before .before .before .before .before .args .n) (c .before .before .before .before .before .args .t) (c .before .before .before .before .before .args .p) (c .before .before .before .if1 .left) (c .before .consistent .ensures) (not-true _ (c .if2 .taken))
+returns-2 c = get-stopped (c .before .before .before .before .before .args .n) (c .before .before .before .before .before .args .t) (c .before .before .before .before .before .args .q) (c .before .before .before .if1 .left) (c .before .consistent .ensures) (not-true _ (c .if2 .taken))
 
 lookup-requires : tie.Need-lookup-requires
 lookup-requires c κs = (omega (arith, c .before .before .before .before .before .before .pre .writes), c .before .before .before .before .before .before .pre .lent)
@@ -26,7 +26,7 @@ returns-3 c =
     let at-consistent = at-if2 .before in
     let at-if1 = at-consistent .before .before in
     let at-start = at-if1 .before .before in
-    get-value (at-start .args .n) (at-start .args .t) (at-start .args .p) (at-if1 .if1 .left) (at-consistent .consistent .ensures)
+    get-value (at-start .args .n) (at-start .args .t) (at-start .args .q) (at-if1 .if1 .left) (at-consistent .consistent .ensures)
     (not-false _ (at-if2 .if2 .left)) (at-lookup .lookup .ensures) (at-u .u .given .1)
 
 returns-4 : tie.Need-returns-4
@@ -38,7 +38,7 @@ returns-4 c =
     let at-consistent = at-if2 .before in
     let at-if1 = at-consistent .before .before in
     let at-start = at-if1 .before .before in
-    get-fresh (at-start .args .n) (at-start .args .t) (at-start .args .p) (at-if1 .if1 .left) (at-consistent .consistent .ensures)
+    get-fresh (at-start .args .n) (at-start .args .t) (at-start .args .q) (at-if1 .if1 .left) (at-consistent .consistent .ensures)
     (not-false _ (at-if2 .if2 .left)) (at-lookup .lookup .ensures) (at-enum-told .enum-told .given .1) (at-fresh .fresh .ensures)
 
 pub read-cell-spec : {M : Type 1} → statement M

@@ -6,10 +6,10 @@ use Rattle.symbolic.proofs.sum.Statement.{statement}
 use Rattle.symbolic.proofs.sum.Tie as tie
 
 returns : tie.Need-returns
-returns c = sum-wrong (c .before .before .args .n) (c .before .before .args .t) (c .before .before .args .p) (c .before .before .args .u) (c .before .before .args .q) λ e f. c .if1 .taken e
+returns c = sum-wrong (c .before .before .args .n) (c .before .before .args .t) (c .before .before .args .q) (c .before .before .args .u) (c .before .before .args .s) λ e f. c .if1 .taken e
 
 returns-2 : tie.Need-returns-2
-returns-2 c = sum-wrong (c .before .before .before .args .n) (c .before .before .before .args .t) (c .before .before .before .args .p) (c .before .before .before .args .u) (c .before .before .before .args .q) λ e f. c .if2 .taken f
+returns-2 c = sum-wrong (c .before .before .before .args .n) (c .before .before .before .args .t) (c .before .before .before .args .q) (c .before .before .before .args .u) (c .before .before .before .args .s) λ e f. c .if2 .taken f
 
 push-requires : tie.Need-push-requires
 push-requires c κs = room-space (c .before .before .before .before .pre)
@@ -20,7 +20,7 @@ returns-3 c =
     let at-if2 = at-push .before .before in
     let at-if1 = at-if2 .before in
     let at-start = at-if1 .before .before in
-    sum-made (at-start .args .n) (at-start .args .t) (at-start .args .p) (at-start .args .u) (at-start .args .q) (at-start .pre) (at-if1 .if1 .left)
+    sum-made (at-start .args .n) (at-start .args .t) (at-start .args .q) (at-start .args .u) (at-start .args .s) (at-start .pre) (at-if1 .if1 .left)
     (at-if2 .if2 .left) (at-push .push .ensures .0) (at-push .push .ensures .1)
 
 pub sum-spec : {M : Type 1} → statement M

@@ -38,7 +38,7 @@ returns-4 c = rw (c .before .before .before .before .match .keys4) (c .before .b
 returns-5 : tie.Need-returns-5
 returns-5 c =
     let d = c .match .rest in
-    two-other (c .before .before .args .n) (c .before .before .args .t) (c .before .before .args .p) (c .before .before .args .u) (c .before .before .args .q) (c .before .before .args .kind) (but (d .0 .0 .0 .1) (but (d .0 .0 .1) (but (d .0 .1) (but (d .1) none-left))))
+    two-other (c .before .before .args .n) (c .before .before .args .t) (c .before .before .args .q) (c .before .before .args .u) (c .before .before .args .s) (c .before .before .args .kind) (but (d .0 .0 .0 .1) (but (d .0 .0 .1) (but (d .0 .1) (but (d .1) none-left))))
 
 pub two-spec : {M : Type 1} → statement M
 two-spec =

@@ -6,7 +6,7 @@ use Rattle.symbolic.proofs.write_cell.Statement.{statement}
 use Rattle.symbolic.proofs.write_cell.Tie as tie
 
 returns : tie.Need-returns
-returns c = set-wrong (c .before .before .args .n) (c .before .before .args .t) (c .before .before .args .p) (c .before .before .args .u) (c .before .before .args .q) (c .if1 .taken)
+returns c = set-wrong (c .before .before .args .n) (c .before .before .args .t) (c .before .before .args .q) (c .before .before .args .u) (c .before .before .args .s) (c .if1 .taken)
 
 write-requires : tie.Need-write-requires
 write-requires c κs = (omega (arith, c .before .before .before .pre .writes), c .before .before .before .pre .lent)
@@ -16,7 +16,7 @@ returns-2 c =
     let at-write = c .before .before in
     let at-if1 = at-write .before .before in
     let at-start = at-if1 .before .before in
-    set-made (at-start .args .n) (at-start .args .t) (at-start .args .p) (at-start .args .u) (at-start .args .q) (at-if1 .if1 .left) (at-start .pre)
+    set-made (at-start .args .n) (at-start .args .t) (at-start .args .q) (at-start .args .u) (at-start .args .s) (at-if1 .if1 .left) (at-start .pre)
     (at-write .write .ensures)
 
 pub write-cell-spec : {M : Type 1} → statement M
