@@ -155,7 +155,7 @@ fn operand_type(table: &[u32], space: &mut [u32], depth: usize, limit: u32, m: u
 {
     let node = node_at(table, m as usize);
     if node.kind < LEAVES {
-        return leaf_type(node.kind, node.a, space, depth, m);
+        return leaf_type(node, space, depth, m);
     }
     if has_one(node.kind) {
         return copied(check_node(table, space, depth, limit, m));
@@ -173,7 +173,7 @@ fn check_several(table: &[u32], space: &mut [u32], depth: usize, limit: u32, n: 
     match operand_type(table, space, depth, limit, node.a) {
         Checked::Refused(why) => Checked::Refused(why),
         Checked::Accepted(t) => {
-            let inner = bind_type(space, depth, node.kind, t);
+            let inner = bind_type(space, depth, node, t);
             match operand_type(table, space, inner, limit, node.b) {
                 Checked::Refused(why) => Checked::Refused(why),
                 Checked::Accepted(u) => {
@@ -197,7 +197,7 @@ pub fn check_node(table: &[u32], space: &mut [u32], depth: usize, limit: u32, n:
 {
     let node = node_at(table, n as usize);
     if node.kind < LEAVES {
-        return leaf_type(node.kind, node.a, space, depth, n);
+        return leaf_type(node, space, depth, n);
     }
     if node.kind == SYM {
         return copied(paths(table, space, depth, limit, n, node.a));

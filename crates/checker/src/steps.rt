@@ -160,7 +160,7 @@ pub fn leaf_up(table: &[u32], space: &mut [u32], frames: &mut [u32], n: u32) -> 
 {
     let node = node_at(table, n as usize);
     let depth = space[DEPTH] as usize;
-    match leaf(node.kind, node.a, space, depth, n) {
+    match leaf(node, space, depth, n) {
         Step::Stopped(why) => Move::Stopped(why),
         Step::Gave(t, p) => climb(table, space, frames, t, p),
     }

@@ -11,6 +11,7 @@ ghost use Rattle.rules.specs.Checking.Mentions.{mentions};
 ghost use Rattle.terms.specs.Places.{symbolLimit};
 ghost use Rattle.workspace.specs.Notes.{leafMentions, Readable, Recallable, Recallables, agreesOn, isOf, recalledOn, Named, named, Nameable, Names, Noted};
 ghost use Rattle.workspace.specs.Places.{noteLimit, spaceSize};
+use script::Node;
 use script::table::IF;
 use script::table::LEAVES;
 use script::table::VAR;
@@ -25,11 +26,11 @@ use workspace::NOTES;
 use workspace::TURN;
 
 // A node whose operands are no nodes is variable k.
-fn is_variable(kind: u32, a: u32, k: u32) -> bool
-    ensures { λ r. ⌜ r ≡ leafMentions (formOf kind) a k ⌝ }
+fn is_variable(node: Node, k: u32) -> bool
+    ensures { λ r. ⌜ r ≡ leafMentions (formOf (node .kind)) node k ⌝ }
 {
-    if kind == VAR {
-        return a == k;
+    if node.kind == VAR {
+        return node.a == k;
     }
     false
 }
@@ -41,7 +42,7 @@ fn mentions(table: &[u32], n: u32, k: u32) -> bool
 {
     let node = node_at(table, n as usize);
     if node.kind < LEAVES {
-        return is_variable(node.kind, node.a, k);
+        return is_variable(node, k);
     }
     if mentions(table, node.a, k) {
         return true;

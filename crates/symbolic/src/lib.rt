@@ -11,6 +11,7 @@ use log::consistent;
 use log::forget;
 use log::lookup;
 use log::write;
+use script::Node;
 use script::Refusal;
 use script::table::ADD;
 use script::table::AND;
@@ -56,12 +57,12 @@ pub fn fresh(space: &mut [u32], t: u32) -> u32
     }
 }
 
-// `var`: the value at place k of the environment.
-fn variable(space: &[u32], depth: usize, k: u32, n: u32) -> Step
+// `var`: the value at the place of the environment that the node names.
+fn variable(node: Node, space: &[u32], depth: usize, n: u32) -> Step
     requires { ⌜ 2 * depth ≤ length (now space) ⌝ }
-    ensures { λ r. ⌜ Leaf varForm n k depth (now (space .entry)) r (now (space .entry)) ⌝ }
+    ensures { λ r. ⌜ Leaf varForm n node depth (now (space .entry)) r (now (space .entry)) ⌝ }
 {
-    let i = k as usize;
+    let i = node.a as usize;
     if i < depth {
         return Step::Gave(space[2 * i], space[2 * i + 1]);
     }
@@ -69,15 +70,16 @@ fn variable(space: &[u32], depth: usize, k: u32, n: u32) -> Step
 }
 
 // A node whose operands are no nodes: `int`, `true`, `false` and `var`.
-pub fn leaf(kind: u32, a: u32, space: &mut [u32], depth: usize, n: u32) -> Step
+pub fn leaf(node: Node, space: &mut [u32], depth: usize, n: u32) -> Step
     requires { ⌜ Room (now space) 1 ⌝ }
     requires { ⌜ 2 * depth ≤ length (now space) ⌝ }
-    ensures { λ r. ⌜ Leaf (formOf kind) n a depth (now (space .entry)) r (now (space .exit)) ⌝ }
+    ensures { λ r. ⌜ Leaf (formOf (node .kind)) n node depth (now (space .entry)) r (now (space .exit)) ⌝ }
 {
+    let kind = node.kind;
     match kind {
-        INT => Step::Gave(0, push(space, NUMBER, a, 0)),
+        INT => Step::Gave(0, push(space, NUMBER, node.a, 0)),
         TRUE => Step::Gave(1, push(space, CONSTANT, 1, 0)),
-        VAR => variable(space, depth, a, n),
+        VAR => variable(node, space, depth, n),
         _ => Step::Gave(1, push(space, CONSTANT, 0, 0)),
     }
 }

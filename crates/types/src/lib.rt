@@ -14,6 +14,7 @@ ghost use Rattle.terms.specs.Places.{symbolLimit, variablesEnd};
 ghost use Rattle.workspace.specs.Rules.{leafType, oneType, twoType, BoundTypes};
 ghost use Rattle.workspace.specs.State.{typesOn};
 use script::Checked;
+use script::Node;
 use script::Refusal;
 use script::table::ADD;
 use script::table::AND;
@@ -42,13 +43,14 @@ fn variable_type(space: &[u32], depth: usize, k: u32, n: u32) -> Checked
 }
 
 // A node whose operands are no nodes.
-pub fn leaf_type(kind: u32, a: u32, space: &[u32], depth: usize, n: u32) -> Checked
+pub fn leaf_type(node: Node, space: &[u32], depth: usize, n: u32) -> Checked
     requires { ⌜ 2 * depth ≤ length (now space) ⌝ }
-    ensures { λ r. ⌜ r ≡ leafType (formOf kind) n a (typesOn (now (space .entry)) depth) ⌝ }
+    ensures { λ r. ⌜ r ≡ leafType (formOf (node .kind)) n node (typesOn (now (space .entry)) depth) ⌝ }
 {
+    let kind = node.kind;
     match kind {
         INT => Checked::Accepted(0),
-        VAR => variable_type(space, depth, a, n),
+        VAR => variable_type(space, depth, node.a, n),
         _ => Checked::Accepted(1),
     }
 }
@@ -134,13 +136,13 @@ pub fn if_type(t: u32, u: u32, v: u32, n: u32) -> Checked
     Checked::Refused(Refusal::WrongType(n))
 }
 
-// The environment of the second operand: a `let` adds the type t. Answers how many variables it has.
-pub fn bind_type(space: &mut [u32], depth: usize, kind: u32, t: u32) -> usize
+// The environment of the second operand of a node whose first has type t: a `let` adds it. Answers how many variables it has.
+pub fn bind_type(space: &mut [u32], depth: usize, node: Node, t: u32) -> usize
     requires { ⌜ depth < symbolLimit ⌝ }
     requires { ⌜ variablesEnd ≤ length (now space) ⌝ }
-    ensures { λ r. ⌜ BoundTypes kind depth t (now (space .entry)) r (now (space .exit)) ⌝ }
+    ensures { λ r. ⌜ BoundTypes node depth t (now (space .entry)) r (now (space .exit)) ⌝ }
 {
-    if kind == LET {
+    if node.kind == LET {
         space[2 * depth] = t;
         return depth + 1;
     }

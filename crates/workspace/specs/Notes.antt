@@ -16,6 +16,7 @@ use Rattle.script.specs.Tests.{pick}
 use Rattle.script.specs.Tree.{Expr}
 use Rattle.script.specs.declared.Checked.{Checked}
 use Rattle.script.specs.declared.Checked.the-variants.{Accepted}
+use Rattle.script.specs.declared.Node.{Node}
 use Rattle.rules.specs.Checking.{check}
 use Rattle.rules.specs.Checking.Mentions.{mentions}
 use Rattle.terms.specs.Places.{symbolLimit, variablesEnd}
@@ -25,16 +26,16 @@ use Rattle.workspace.specs.declared.Known.{Known}
 use Rattle.workspace.specs.declared.Known.the-variants.{Typed, Nothing}
 
 -- whether a node whose operands are no nodes mentions variable k; no other form does
-unfoldable pub leafMentions : Form → ℕ → ℕ → Bool
-leafMentions intForm a k = false
-leafMentions varForm a k = eqb a k
-leafMentions ifForm a k = false
-leafMentions letForm a k = false
-leafMentions typedForm a k = false
-leafMentions symForm a k = false
-leafMentions (truthForm b) a k = false
-leafMentions (unaryForm o) a k = false
-leafMentions (binaryForm o) a k = false
+unfoldable pub leafMentions : Form → Node → ℕ → Bool
+leafMentions intForm m k = false
+leafMentions varForm m k = eqb (m .a) k
+leafMentions ifForm m k = false
+leafMentions letForm m k = false
+leafMentions typedForm m k = false
+leafMentions symForm m k = false
+leafMentions (truthForm b) m k = false
+leafMentions (unaryForm o) m k = false
+leafMentions (binaryForm o) m k = false
 
 -- ---- what stands in a note
 

@@ -7,6 +7,7 @@ use lib.ListN.{getD, set}
 use Rattle.script.specs.Limits.{deepest}
 use Rattle.script.specs.Rows.{Form, intForm, varForm, ifForm, letForm, typedForm, symForm, truthForm, unaryForm, binaryForm, UnaryOp, notOp, refOp, getOp, BinaryOp, addOp, eqOp, andOp, setOp}
 use Rattle.script.specs.Tests.{pick}
+use Rattle.script.specs.declared.Node.{Node}
 use Rattle.script.specs.declared.Refusal.the-variants.{WrongType, UnknownVariable, TooManyReferences, InconsistentLog}
 use Rattle.rules.specs.Symbolic.{made, other}
 use Rattle.terms.specs.Atoms.{atomRowOf, atomLeft, referencesRow, referencesLeft}
@@ -45,22 +46,23 @@ freshLeft zero ws = pushed (numbered ws) ofSymbol (nextIn ws) 0
 freshLeft (suc zero) ws = atomLeft (numbered ws) ofTruth (nextIn ws) (nextIn ws)
 freshLeft (suc (suc t)) ws = numbered ws
 
--- ---- leaves
+-- ---- leaves, node n, which is m
 
 -- a row of a constant
 abbrev pub constant : ℕ → List ℕ → Outcome
 constant b ws = gives (Gave 1 (countIn ws)) (pushed ws ofConstant b 0)
 
-unfoldable pub leafGives : Form → ℕ → ℕ → ℕ → List ℕ → Outcome
-leafGives intForm n a depth ws = gives (Gave 0 (countIn ws)) (pushed ws ofNumber a 0)
-leafGives varForm n a depth ws = pick (ltb a depth) (gives (Gave (getD ws (2 * a) 0) (getD ws (2 * a + 1) 0)) ws) (gives (Stopped (UnknownVariable n)) ws)
-leafGives ifForm n a depth ws = constant 0 ws
-leafGives letForm n a depth ws = constant 0 ws
-leafGives typedForm n a depth ws = constant 0 ws
-leafGives symForm n a depth ws = constant 0 ws
-leafGives (truthForm b) n a depth ws = constant (pick b 1 0) ws
-leafGives (unaryForm o) n a depth ws = constant 0 ws
-leafGives (binaryForm o) n a depth ws = constant 0 ws
+unfoldable pub leafGives : Form → ℕ → Node → ℕ → List ℕ → Outcome
+leafGives intForm n m depth ws = gives (Gave 0 (countIn ws)) (pushed ws ofNumber (m .a) 0)
+leafGives varForm n m depth ws =
+    pick (ltb (m .a) depth) (gives (Gave (getD ws (2 * m .a) 0) (getD ws (2 * m .a + 1) 0)) ws) (gives (Stopped (UnknownVariable n)) ws)
+leafGives ifForm n m depth ws = constant 0 ws
+leafGives letForm n m depth ws = constant 0 ws
+leafGives typedForm n m depth ws = constant 0 ws
+leafGives symForm n m depth ws = constant 0 ws
+leafGives (truthForm b) n m depth ws = constant (pick b 1 0) ws
+leafGives (unaryForm o) n m depth ws = constant 0 ws
+leafGives (binaryForm o) n m depth ws = constant 0 ws
 
 -- ---- one operand, of type t at place q
 

@@ -1,4 +1,4 @@
--- The rules by the form of node n, as the code goes by them: a leaf; the rule after one operand; what is left after the first operand; the rule after the
+-- The rules by the form of node n, which is m, as the code goes by them: a leaf; the rule after one operand; what is left after the first operand; the rule after the
 -- second. And what the functions for them promise. Assumes nothing.
 pub mod Blocks
 pub mod Memory
@@ -11,12 +11,13 @@ use mathlib.Core.List.{List, [], _∷_, _++_}
 use mathlib.Core.Path.{_≡_}
 use Prim.Native.Nat.{ℕ, suc, _+_, _*_, _≤_, _<_}
 use lib.ListN.{length, getD, set, getElem?}
-use Rattle.script.specs.Code.Forms.{formOf, nodeIn, treeIn}
+use Rattle.script.specs.Code.Forms.{formOf, severalBy, nodeIn, treeIn}
 use Rattle.script.specs.Flat.{FormedNodes}
 use Rattle.script.specs.Rows.{Form, intForm, varForm, ifForm, letForm, typedForm, symForm, truthForm, unaryForm, binaryForm, kindFor, nodeOperands}
 use Rattle.script.specs.Tree.{Expr, size}
 use Rattle.script.specs.declared.Checked.{Checked}
 use Rattle.script.specs.declared.Checked.the-variants.{Accepted}
+use Rattle.script.specs.declared.Node.{Node}
 use Rattle.script.specs.declared.Refusal.{Refusal}
 use Rattle.script.specs.Limits.{nodeLimit}
 use Rattle.rules.specs.Checking.{known, check, exec}
@@ -38,16 +39,16 @@ use Rattle.workspace.specs.declared.Branch.the-variants.{First, Second, 
 -- ---- typed mode
 
 -- a node whose operands are no nodes; a form of other nodes stands for `false` here
-unfoldable pub leafType : Form → ℕ → ℕ → List ℕ → Checked
-leafType intForm n a env = Accepted 0
-leafType varForm n a env = known n (getElem? env a)
-leafType ifForm n a env = Accepted 1
-leafType letForm n a env = Accepted 1
-leafType typedForm n a env = Accepted 1
-leafType symForm n a env = Accepted 1
-leafType (truthForm b) n a env = Accepted 1
-leafType (unaryForm o) n a env = Accepted 1
-leafType (binaryForm o) n a env = Accepted 1
+unfoldable pub leafType : Form → ℕ → Node → List ℕ → Checked
+leafType intForm n m env = Accepted 0
+leafType varForm n m env = known n (getElem? env (m .a))
+leafType ifForm n m env = Accepted 1
+leafType letForm n m env = Accepted 1
+leafType typedForm n m env = Accepted 1
+leafType symForm n m env = Accepted 1
+leafType (truthForm b) n m env = Accepted 1
+leafType (unaryForm o) n m env = Accepted 1
+leafType (binaryForm o) n m env = Accepted 1
 
 -- a node with one operand that is a node, of type t
 unfoldable pub oneType : Form → ℕ → ℕ → Checked
@@ -74,41 +75,30 @@ twoType (unaryForm o) n t u = Accepted u
 twoType (binaryForm o) n t u = binaryType n o t u
 
 -- the environment of the second operand: a `let` adds something
-unfoldable pub boundOn : {A : Type 0} → Form → A → List A → List A
-boundOn intForm v env = env
-boundOn varForm v env = env
-boundOn ifForm v env = env
-boundOn letForm v env = env ++ (v ∷ [])
-boundOn typedForm v env = env
-boundOn symForm v env = env
-boundOn (truthForm b) v env = env
-boundOn (unaryForm o) v env = env
-boundOn (binaryForm o) v env = env
+abbrev pub boundOn : {A : Type 0} → Node → A → List A → List A
+boundOn m v env = severalBy (formOf (m .kind)) env (env ++ (v ∷ [])) (λ o. env) env
 
 -- what is left of node n once its first operand has type t, where e and f are the trees of the other two
-unfoldable pub restType : Form → ℕ → ℕ → Expr → Expr → ℕ → List ℕ → Checked
-restType intForm limit n e f t env = Accepted t
-restType varForm limit n e f t env = Accepted t
-restType ifForm limit n e f t env = andThen (check limit e env) λ u. andThen (check limit f env) (ifType n t u)
-restType letForm limit n e f t env = check limit e (env ++ (t ∷ []))
-restType typedForm limit n e f t env = Accepted t
-restType symForm limit n e f t env = Accepted t
-restType (truthForm b) limit n e f t env = Accepted t
-restType (unaryForm o) limit n e f t env = Accepted t
-restType (binaryForm o) limit n e f t env = andThen (check limit e env) (binaryType n o t)
+unfoldable pub restType : Node → ℕ → ℕ → Expr → Expr → ℕ → List ℕ → Checked
+restType m limit n e f t env =
+    severalBy (formOf (m .kind))
+    (andThen (check limit e env) λ u. andThen (check limit f env) (ifType n t u))
+    (check limit e (env ++ (t ∷ [])))
+    (λ o. andThen (check limit e env) (binaryType n o t))
+    (Accepted t)
 
 -- ---- symbolic mode
 
-unfoldable pub leafExec : Form → ℕ → ℕ → List Symbolic → Path → Paths
-leafExec intForm n a env p = ends (aWord (number a)) p
-leafExec varForm n a env p = variable n p (getElem? env a)
-leafExec ifForm n a env p = ends (aTruth (constantly false)) p
-leafExec letForm n a env p = ends (aTruth (constantly false)) p
-leafExec typedForm n a env p = ends (aTruth (constantly false)) p
-leafExec symForm n a env p = ends (aTruth (constantly false)) p
-leafExec (truthForm b) n a env p = ends (aTruth (constantly b)) p
-leafExec (unaryForm o) n a env p = ends (aTruth (constantly false)) p
-leafExec (binaryForm o) n a env p = ends (aTruth (constantly false)) p
+unfoldable pub leafExec : Form → ℕ → Node → List Symbolic → Path → Paths
+leafExec intForm n m env p = ends (aWord (number (m .a))) p
+leafExec varForm n m env p = variable n p (getElem? env (m .a))
+leafExec ifForm n m env p = ends (aTruth (constantly false)) p
+leafExec letForm n m env p = ends (aTruth (constantly false)) p
+leafExec typedForm n m env p = ends (aTruth (constantly false)) p
+leafExec symForm n m env p = ends (aTruth (constantly false)) p
+leafExec (truthForm b) n m env p = ends (aTruth (constantly b)) p
+leafExec (unaryForm o) n m env p = ends (aTruth (constantly false)) p
+leafExec (binaryForm o) n m env p = ends (aTruth (constantly false)) p
 
 unfoldable pub oneExec : Form → ℕ → Symbolic → Path → Paths
 oneExec intForm n v p = ends v p
@@ -133,16 +123,13 @@ twoExec (unaryForm o) n v w p = ends w p
 twoExec (binaryForm o) n v w p = binaryExec n o v w p
 
 -- what is left of node n once its first operand gave v
-unfoldable pub restExec : Form → ℕ → ℕ → Expr → Expr → Symbolic → List Symbolic → Path → Paths
-restExec intForm limit n e f v env p = ends v p
-restExec varForm limit n e f v env p = ends v p
-restExec ifForm limit n e f v env p = decide n v p (exec limit e env) (exec limit f env)
-restExec letForm limit n e f v env p = exec limit e (env ++ (v ∷ [])) p
-restExec typedForm limit n e f v env p = ends v p
-restExec symForm limit n e f v env p = ends v p
-restExec (truthForm b) limit n e f v env p = ends v p
-restExec (unaryForm o) limit n e f v env p = ends v p
-restExec (binaryForm o) limit n e f v env p = bind (exec limit e env p) (binaryExec n o v)
+unfoldable pub restExec : Node → ℕ → ℕ → Expr → Expr → Symbolic → List Symbolic → Path → Paths
+restExec m limit n e f v env p =
+    severalBy (formOf (m .kind))
+    (decide n v p (exec limit e env) (exec limit f env))
+    (exec limit e (env ++ (v ∷ [])) p)
+    (λ o. bind (exec limit e env p) (binaryExec n o v))
+    (ends v p)
 
 -- how many nodes that is, the node itself with them
 unfoldable pub restSizeOn : Form → ℕ → ℕ → ℕ
@@ -188,12 +175,12 @@ pub record Judged (c : Checked) (depth : ℕ) (ws : List ℕ) (r : Checked) (lef
   pub aside : Aside depth ws left
 
 -- what a `let` changes, and that no other kind changes anything; and what the types are then
-pub record BoundTypes (kind depth t : ℕ) (ws : List ℕ) (count : ℕ) (left : List ℕ) : Type 0 where
-  pub bound : kind ≡ kindFor letForm → (count ≡ depth + 1) × (left ≡ set ws (2 * depth) t)
-  pub other : (kind ≡ kindFor letForm → ⊥) → (count ≡ depth) × (left ≡ ws)
+pub record BoundTypes (m : Node) (depth t : ℕ) (ws : List ℕ) (count : ℕ) (left : List ℕ) : Type 0 where
+  pub bound : m .kind ≡ kindFor letForm → (count ≡ depth + 1) × (left ≡ set ws (2 * depth) t)
+  pub other : (m .kind ≡ kindFor letForm → ⊥) → (count ≡ depth) × (left ≡ ws)
   pub least : depth ≤ count
   pub most : count ≤ depth + 1
-  pub types : typesOn left count ≡ boundOn (formOf kind) t (typesOn ws depth)
+  pub types : typesOn left count ≡ boundOn m t (typesOn ws depth)
   pub aside : Aside depth ws left
 
 -- ---- what the functions for symbolic mode ask and promise
@@ -204,10 +191,10 @@ pub record Ruled (ws left : List ℕ) : Type 0 where
   pub depth : depthIn left ≡ depthIn ws
   pub notes : Unnoted ws left
 
-pub record Leaf (f : Form) (n a depth : ℕ) (ws : List ℕ) (r : Step) (left : List ℕ) : Type 0 where
+pub record Leaf (f : Form) (n : ℕ) (m : Node) (depth : ℕ) (ws : List ℕ) (r : Step) (left : List ℕ) : Type 0 where
   pub ruled : Ruled ws left
-  pub yields : (env : List Symbolic) (p : Path) → State ws depth env p → Yields left r (leafExec f n a env p)
-  pub exactly : gives r left ≡ leafGives f n a depth ws
+  pub yields : (env : List Symbolic) (p : Path) → State ws depth env p → Yields left r (leafExec f n m env p)
+  pub exactly : gives r left ≡ leafGives f n m depth ws
 
 pub record One (f : Form) (n t q : ℕ) (ws : List ℕ) (r : Step) (left : List ℕ) : Type 0 where
   pub ruled : Ruled ws left

@@ -61,7 +61,7 @@ unfoldable pub goOn : ℕ → List ℕ → List Later → Symbolic → Path → 
 goOn limit table [] v p = ends v p
 goOn limit table (only n ∷ ks) v p = bind (oneExec (formOf (nodeIn table n .kind)) n v p) (goOn limit table ks)
 goOn limit table (first n env ∷ ks) v p =
-    bind (restExec (formOf (nodeIn table n .kind)) limit n (treeIn table (nodeIn table n .b)) (treeIn table (nodeIn table n .c)) v env p)
+    bind (restExec (nodeIn table n) limit n (treeIn table (nodeIn table n .b)) (treeIn table (nodeIn table n .c)) v env p)
     (goOn limit table ks)
 goOn limit table (second n w ∷ ks) v p = bind (twoExec (formOf (nodeIn table n .kind)) n w v p) (goOn limit table ks)
 

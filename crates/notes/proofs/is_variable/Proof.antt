@@ -8,10 +8,12 @@ use Rattle.notes.proofs.is_variable.Tie as tie
 
 returns : tie.Need-returns
 unfolding leafMentions formOf rowOf rows
-returns c = rw (c .if1 .taken)
+returns c = rw (c .before .if1 .taken)
 
 returns-2 : tie.Need-returns-2
-returns-2 c = leaf-other (c .before .args .a) (c .before .args .k) (c .before .args .kind) (c .if1 .left)
+returns-2 c =
+    let a = c .before .before .args in
+    leaf-other (a .node) (a .k) (c .if1 .left)
 
 pub is-variable-spec : {M : Type 1} → statement M
 is-variable-spec =

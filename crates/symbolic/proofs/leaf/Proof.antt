@@ -1,9 +1,7 @@
 -- `symbolic::leaf` meets its contract: a row for a number or a constant, the value of a variable. Assumes nothing.
 use borrow.Author.Needs.{needs}
-use Rattle.script.specs.Code.Forms.{formOf}
-use Rattle.script.specs.Rows.{rows, rowOf}
 use Rattle.script.specs.Rows.Laws.{none-left, but}
-use Rattle.workspace.specs.Rules.Operators.{leaf-int, leaf-true, leaf-other}
+use Rattle.workspace.specs.Rules.Operators.{leaf-int, leaf-true, leaf-var, leaf-other}
 use Rattle.workspace.specs.State.Laws.{room-space}
 use Rattle.symbolic.proofs.leaf.Statement.{statement}
 use Rattle.symbolic.proofs.leaf.Tie as tie
@@ -20,22 +18,21 @@ push-requires-3 c κs = room-space (c .before .before .before .pre .0)
 returns : tie.Need-returns
 returns c =
     let a = c .before .before .before .before .before .before .args in
-    leaf-int (a .n) (a .a) (a .depth) (c .before .before .before .before .before .before .pre .0) (c .before .before .push .ensures .0) (a .kind) (c .before .before .before .before .match .keys1) (c .before .before .push .ensures .1)
+    leaf-int (a .n) (a .node) (a .depth) (c .before .before .before .before .before .before .pre .0) (c .before .before .push .ensures .0) (c .before .before .before .before .match .keys1) (c .before .before .push .ensures .1)
 
 returns-2 : tie.Need-returns-2
 returns-2 c =
     let a = c .before .before .before .before .before .before .args in
-    leaf-true (a .n) (a .a) (a .depth) (c .before .before .before .before .before .before .pre .0) (c .before .before .push2 .ensures .0) (a .kind) (c .before .before .before .before .match .keys2) (c .before .before .push2 .ensures .1)
+    leaf-true (a .n) (a .node) (a .depth) (c .before .before .before .before .before .before .pre .0) (c .before .before .push2 .ensures .0) (c .before .before .before .before .match .keys2) (c .before .before .push2 .ensures .1)
 
 returns-3 : tie.Need-returns-3
-unfolding formOf rowOf rows
-returns-3 c = rw (c .before .before .match .keys3) (c .variable .ensures)
+returns-3 c = leaf-var (c .before .before .match .keys3) (c .variable .ensures)
 
 returns-4 : tie.Need-returns-4
 returns-4 c =
     let a = c .before .before .before .before .before .before .args in
     let d = c .before .before .before .before .match .rest in
-    leaf-other (a .n) (a .a) (a .depth) (c .before .before .before .before .before .before .pre .0) (c .before .before .push3 .ensures .0) (a .kind) (but (d .0 .0 .1) (but (d .0 .1) (but (d .1) none-left))) (c .before .before .push3 .ensures .1)
+    leaf-other (a .n) (a .node) (a .depth) (c .before .before .before .before .before .before .pre .0) (c .before .before .push3 .ensures .0) (but (d .0 .0 .1) (but (d .0 .1) (but (d .1) none-left))) (c .before .before .push3 .ensures .1)
 
 pub leaf-spec : {M : Type 1} → statement M
 leaf-spec =

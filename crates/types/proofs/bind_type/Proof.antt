@@ -6,13 +6,13 @@ use Rattle.types.proofs.bind_type.Tie as tie
 
 returns : tie.Need-returns
 returns c =
-    let s = c .before .pre in
-    bind-type-let (c .before .args .kind) (c .before .args .depth) (c .before .args .t) (c .before .args .space .now) (s .0) (s .1) (c .if1 .taken)
+    let s = c .before .before in
+    bind-type-let (s .args .node) (s .args .depth) (s .args .t) (s .args .space .now) (s .pre .0) (s .pre .1) (c .if1 .taken)
 
 returns-2 : tie.Need-returns-2
 returns-2 c =
-    let s = c .before .pre in
-    bind-type-other (c .before .args .kind) (c .before .args .depth) (c .before .args .t) (c .before .args .space .now) (s .0) (s .1) (c .if1 .left)
+    let s = c .before .before in
+    bind-type-other (s .args .node) (s .args .depth) (s .args .t) (s .args .space .now) (s .pre .0) (s .pre .1) (c .if1 .left)
 
 pub bind-type-spec : {M : Type 1} → statement M
 bind-type-spec =

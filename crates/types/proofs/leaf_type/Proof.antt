@@ -19,7 +19,7 @@ returns-2 c = rw (c .before .match .keys2) (c .variable-type .ensures)
 returns-3 : tie.Need-returns-3
 returns-3 c =
     let d = c .match .rest in
-    leaf-type-other (c .before .before .args .n) (c .before .before .args .a) _ (c .before .before .args .kind) (but (d .0 .1) (but (d .1) none-left))
+    leaf-type-other (c .before .before .args .n) (c .before .before .args .node) _ (but (d .0 .1) (but (d .1) none-left))
 
 pub leaf-type-spec : {M : Type 1} → statement M
 leaf-type-spec =

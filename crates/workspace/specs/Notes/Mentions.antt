@@ -11,14 +11,15 @@ use Rattle.script.specs.Rows.Laws.{none-left, but}
 use Rattle.script.specs.Tests.Laws.{or-first, or-second}
 use Rattle.script.specs.Tree.{Expr}
 use Rattle.script.specs.Tree.Laws.{Unrolled, is-int, is-truth, is-var, is-unary, is-binary, is-if, is-let, is-typed, is-sym}
+use Rattle.script.specs.declared.Node.{Node}
 use Rattle.rules.specs.Checking.Mentions.{mentions}
 use Rattle.workspace.specs.Notes.{leafMentions}
 use Rattle.workspace.specs.Rules.Nodes.{let-or-if, binary-or-if, shaped, first-of, rest-of, several-of, branches-of}
 
 -- no other kind is a variable's
-pub leaf-other : (a k kind : ℕ) → (kind ≡ kindFor varForm → ⊥) → false ≡ leafMentions (formOf kind) a k
+pub leaf-other : (m : Node) (k : ℕ) → (m .kind ≡ kindFor varForm → ⊥) → false ≡ leafMentions (formOf (m .kind)) m k
 unfolding leafMentions rows
-leaf-other a k kind d = sym (other-form (λ f. leafMentions f a k) (varForm ∷ []) kind refl (but d none-left))
+leaf-other m k d = sym (other-form (λ f. leafMentions f m k) (varForm ∷ []) (m .kind) refl (but d none-left))
 
 -- ---- a node by its operands that are nodes
 
@@ -40,16 +41,16 @@ module _ (xs : List ℕ) (n k : ℕ) where
 
   -- none, one, two, or the three of an `if`
   data Mentioned (t : Expr) : Type 0 where
-    no-operand : count ≡ 0 → mentions t k ≡ leafMentions form (nodeIn xs n .a) k → Mentioned t
+    no-operand : count ≡ 0 → mentions t k ≡ leafMentions form (nodeIn xs n) k → Mentioned t
     one-operand : count ≡ 1 → mentions t k ≡ first → Mentioned t
     two-operands : 2 ≤ count → (form ≡ ifForm → ⊥) → mentions t k ≡ first || second → Mentioned t
     an-if : 2 ≤ count → form ≡ ifForm → mentions t k ≡ first || (second || third) → Mentioned t
 
   mentioned : {t : Expr} → Unrolled (nodesIn xs) n t → Mentioned t
   unfolding mentions treeIn leafMentions
-  mentioned (is-int e q a) = no-operand (form-operands _ e q) (sym (ap (λ (g : Form). leafMentions g (nodeIn xs n .a) k) (form-is _ e q)))
-  mentioned (is-truth e q) = no-operand (form-operands _ e q) (sym (ap (λ (g : Form). leafMentions g (nodeIn xs n .a) k) (form-is _ e q)))
-  mentioned (is-var e q a) = no-operand (form-operands _ e q) (sym (ap (λ (g : Form). leafMentions g (nodeIn xs n .a) k) (form-is _ e q)))
+  mentioned (is-int e q a) = no-operand (form-operands _ e q) (sym (ap (λ (g : Form). leafMentions g (nodeIn xs n) k) (form-is _ e q)))
+  mentioned (is-truth e q) = no-operand (form-operands _ e q) (sym (ap (λ (g : Form). leafMentions g (nodeIn xs n) k) (form-is _ e q)))
+  mentioned (is-var e q a) = no-operand (form-operands _ e q) (sym (ap (λ (g : Form). leafMentions g (nodeIn xs n) k) (form-is _ e q)))
   mentioned (is-unary e q a) = one-operand (form-operands _ e q) refl
   mentioned (is-binary e q a b) = let c = form-operands _ e q in two-operands (omega arith) (binary-or-if (form-is _ e q)) refl
   mentioned (is-if e q a b c) = let m = form-operands _ e q in an-if (omega arith) (form-is _ e q) refl
@@ -60,11 +61,11 @@ module _ (xs : List ℕ) (n k : ℕ) where
 -- ---- what the code asks of it
 
 module _ {xs : List ℕ} {n : ℕ} (w : FormedNodes xs (suc n)) (k : ℕ) where
-  pub leaf-mentions : nodeIn xs n .kind < leafKinds → leafMentions (formOf (nodeIn xs n .kind)) (nodeIn xs n .a) k ≡ mentions (treeIn xs n) k
+  pub leaf-mentions : nodeIn xs n .kind < leafKinds → leafMentions (formOf (nodeIn xs n .kind)) (nodeIn xs n) k ≡ mentions (treeIn xs n) k
   leaf-mentions z = go (leaf-kinds (nodeIn xs n .kind) z) (mentioned xs n k (viewed w))
     where
       go : nodeOperands (nodeIn xs n .kind) ≡ 0 → {t : Expr} → Mentioned xs n k t
-          → leafMentions (formOf (nodeIn xs n .kind)) (nodeIn xs n .a) k ≡ mentions t k
+          → leafMentions (formOf (nodeIn xs n .kind)) (nodeIn xs n) k ≡ mentions t k
       go z (no-operand c e) = sym e
       go z (one-operand c e) = absurd (omega arith)
       go z (two-operands c b e) = absurd (omega arith)

@@ -5,13 +5,14 @@ use mathlib.Core.Path.{_≡_, refl, sym, ap, _∙_}
 use Prim.Native.Nat.{ℕ, suc, _+_, _≤_, _<_}
 use native.Mathlib.Omega.{arith}
 use lib.ListN.{length}
-use Rattle.script.specs.Code.Forms.{formOf, form-at, no-form, form-is, form-operands, kind-operands, nodeIn, treeIn, viewed}
+use Rattle.script.specs.Code.Forms.{formOf, form-at, severalBy, no-form, form-is, form-operands, kind-operands, nodeIn, treeIn, viewed}
 use Rattle.script.specs.Flat.{FormedNodes, nodesIn}
 use Rattle.script.specs.Rows.{Form, ifForm, letForm, typedForm, symForm, unaryForm, binaryForm, UnaryOp, BinaryOp, kindFor, nodeOperands}
 use Rattle.script.specs.Tree.{Expr, size}
 use Rattle.script.specs.Tree.Laws.{Unrolled, is-int, is-truth, is-var, is-unary, is-binary, is-if, is-let, is-typed, is-sym}
 use Rattle.script.specs.declared.Checked.{Checked}
 use Rattle.script.specs.declared.Checked.the-variants.{Accepted, Refused}
+use Rattle.script.specs.declared.Node.{Node}
 use Rattle.rules.specs.Checking.{check, exec}
 use Rattle.rules.specs.Checking.Mentions.{then-same, bind-same}
 use Rattle.rules.specs.Paths.{Path, Paths, ends, stops, forks, bind, start, leaves}
@@ -92,8 +93,8 @@ module _ (limit : ℕ) (xs : List ℕ) (n : ℕ) where
 
   -- by its operands that are nodes: none, one of a block or of an operator, or more
   pub data Shaped (t : Expr) : Type 0 where
-    no-operand : count ≡ 0 → ((env : List ℕ) → check limit t env ≡ leafType form n (nodeIn xs n .a) env)
-        → ((env : List Symbolic) (p : Path) → exec limit t env p ≡ leafExec form n (nodeIn xs n .a) env p) → Shaped t
+    no-operand : count ≡ 0 → ((env : List ℕ) → check limit t env ≡ leafType form n (nodeIn xs n) env)
+        → ((env : List Symbolic) (p : Path) → exec limit t env p ≡ leafExec form n (nodeIn xs n) env p) → Shaped t
     of-typed : form ≡ typedForm → count ≡ 1 → First t → ((env : List ℕ) → check limit t env ≡ check limit first env)
         → ((env : List Symbolic) (p : Path) → exec limit t env p ≡ typedResult n p (check limit first (map typeOf env))) → Shaped t
     of-sym : form ≡ symForm → count ≡ 1 → First t
@@ -102,39 +103,26 @@ module _ (limit : ℕ) (xs : List ℕ) (n : ℕ) where
     one-operand : {o : UnaryOp} → form ≡ unaryForm o → count ≡ 1 → First t → ((env : List ℕ) → check limit t env ≡ andThen (check limit first env) (oneType form n))
         → ((env : List Symbolic) (p : Path) → exec limit t env p ≡ bind (exec limit first env p) (oneExec form n)) → Shaped t
     more-operands : 2 ≤ count → First t → Rest t → Several
-        → ((env : List ℕ) → check limit t env ≡ andThen (check limit first env) (λ u. restType form limit n second third u env))
-        → ((env : List Symbolic) (p : Path) → exec limit t env p ≡ bind (exec limit first env p) (λ v q. restExec form limit n second third v env q)) → Shaped t
+        → ((env : List ℕ) → check limit t env ≡ andThen (check limit first env) (λ u. restType (nodeIn xs n) limit n second third u env))
+        → ((env : List Symbolic) (p : Path) → exec limit t env p ≡ bind (exec limit first env p) (λ v q. restExec (nodeIn xs n) limit n second third v env q)) → Shaped t
 
-  module _ {f : Form} (q : form ≡ f) where
-    rest-size : restSize xs n ≡ restSizeOn f (size second) (size third)
-    rest-size = ap (λ (g : Form). restSizeOn g (size second) (size third)) q
-
-    rest-type : (env : List ℕ) (k : ℕ → Checked) → ((u : ℕ) → k u ≡ restType f limit n second third u env)
-        → andThen (check limit first env) k ≡ andThen (check limit first env) (λ u. restType form limit n second third u env)
-    rest-type env k h =
-        then-same (check limit first env) k (λ u. restType form limit n second third u env)
-        λ u. h u ∙ ap (λ (g : Form). restType g limit n second third u env) (sym q)
-
-    rest-exec : (env : List Symbolic) (p : Path) (k : Symbolic → Path → Paths) → ((v : Symbolic) (r : Path) → k v r ≡ restExec f limit n second third v env r)
-        → bind (exec limit first env p) k ≡ bind (exec limit first env p) (λ v r. restExec form limit n second third v env r)
-    rest-exec env p k h =
-        bind-same (exec limit first env p) k (λ v r. restExec form limit n second third v env r)
-        λ v r. h v r ∙ ap (λ (g : Form). restExec g limit n second third v env r) (sym q)
+  rest-size : {f : Form} → form ≡ f → restSize xs n ≡ restSizeOn f (size second) (size third)
+  rest-size q = ap (λ (g : Form). restSizeOn g (size second) (size third)) q
 
   shape-of : {t : Expr} → Unrolled (nodesIn xs) n t → Shaped t
-  unfolding check exec size treeIn leafType oneType leafExec oneExec restType restExec restSizeOn
+  unfolding check exec size treeIn leafType oneType leafExec oneExec restType restExec severalBy restSizeOn
   shape-of (is-int e q a) =
       let p = form-is _ e q in
-      no-operand (form-operands _ e q) (λ env. sym (ap (λ (g : Form). leafType g n (nodeIn xs n .a) env) p))
-      λ env r. sym (ap (λ (g : Form). leafExec g n (nodeIn xs n .a) env r) p)
+      no-operand (form-operands _ e q) (λ env. sym (ap (λ (g : Form). leafType g n (nodeIn xs n) env) p))
+      λ env r. sym (ap (λ (g : Form). leafExec g n (nodeIn xs n) env r) p)
   shape-of (is-truth e q) =
       let p = form-is _ e q in
-      no-operand (form-operands _ e q) (λ env. sym (ap (λ (g : Form). leafType g n (nodeIn xs n .a) env) p))
-      λ env r. sym (ap (λ (g : Form). leafExec g n (nodeIn xs n .a) env r) p)
+      no-operand (form-operands _ e q) (λ env. sym (ap (λ (g : Form). leafType g n (nodeIn xs n) env) p))
+      λ env r. sym (ap (λ (g : Form). leafExec g n (nodeIn xs n) env r) p)
   shape-of (is-var e q a) =
       let p = form-is _ e q in
-      no-operand (form-operands _ e q) (λ env. sym (ap (λ (g : Form). leafType g n (nodeIn xs n .a) env) p))
-      λ env r. sym (ap (λ (g : Form). leafExec g n (nodeIn xs n .a) env r) p)
+      no-operand (form-operands _ e q) (λ env. sym (ap (λ (g : Form). leafType g n (nodeIn xs n) env) p))
+      λ env r. sym (ap (λ (g : Form). leafExec g n (nodeIn xs n) env r) p)
   shape-of (is-unary {o = o} e q a) =
       let p = form-is _ e q in
       one-operand p (form-operands _ e q) (record { earlier = a; smaller = omega arith })
@@ -147,8 +135,8 @@ module _ (limit : ℕ) (xs : List ℕ) (n : ℕ) where
       more-operands (omega arith) (record { earlier = a; smaller = omega arith })
       (record { earlier = b; fits = omega arith; second-fits = omega arith })
       (several-binary p)
-      (λ env. rest-type p env (λ t. andThen (check limit second env) (binaryType n o t)) λ t. refl)
-      λ env r. rest-exec p env r (λ v p₁. bind (exec limit second env p₁) (binaryExec n o v)) λ v p₁. refl
+      (λ env. then-same (check limit first env) (λ t. andThen (check limit second env) (binaryType n o t)) _ λ t. rw p)
+      λ env r. bind-same (exec limit first env r) (λ v p₁. bind (exec limit second env p₁) (binaryExec n o v)) _ λ v p₁. rw p
   shape-of (is-if e q a b c) =
       let p = form-is _ e q in
       let k = form-operands _ e q in
@@ -156,8 +144,8 @@ module _ (limit : ℕ) (xs : List ℕ) (n : ℕ) where
       more-operands (omega arith) (record { earlier = a; smaller = omega arith })
       (record { earlier = b; fits = omega arith; second-fits = omega arith })
       (several-if p (record { earlier = c; fits = omega arith }))
-      (λ env. rest-type p env (λ t. andThen (check limit second env) λ u. andThen (check limit third env) (ifType n t u)) λ t. refl)
-      λ env r. rest-exec p env r (λ v p₁. decide n v p₁ (exec limit second env) (exec limit third env)) λ v p₁. refl
+      (λ env. then-same (check limit first env) (λ t. andThen (check limit second env) λ u. andThen (check limit third env) (ifType n t u)) _ λ t. rw p)
+      λ env r. bind-same (exec limit first env r) (λ v p₁. decide n v p₁ (exec limit second env) (exec limit third env)) _ λ v p₁. rw p
   shape-of (is-let e q a b) =
       let p = form-is _ e q in
       let c = form-operands _ e q in
@@ -165,8 +153,8 @@ module _ (limit : ℕ) (xs : List ℕ) (n : ℕ) where
       more-operands (omega arith) (record { earlier = a; smaller = omega arith })
       (record { earlier = b; fits = omega arith; second-fits = omega arith })
       (several-let p)
-      (λ env. rest-type p env (λ t. check limit second (env ++ (t ∷ []))) λ t. refl)
-      λ env r. rest-exec p env r (λ v p₁. exec limit second (env ++ (v ∷ [])) p₁) λ v p₁. refl
+      (λ env. then-same (check limit first env) (λ t. check limit second (env ++ (t ∷ []))) _ λ t. rw p)
+      λ env r. bind-same (exec limit first env r) (λ v p₁. exec limit second (env ++ (v ∷ [])) p₁) _ λ v p₁. rw p
   shape-of (is-typed e q a) =
       of-typed (form-is _ e q) (form-operands _ e q) (record { earlier = a; smaller = omega arith }) (λ env. refl) λ env r. refl
   shape-of (is-sym e q a) =
@@ -202,7 +190,7 @@ module _ {limit : ℕ} {xs : List ℕ} {n : ℕ} {t : Expr} where
   -- ---- typed mode
 
   pub leaf-check : Shaped limit xs n t → nodeOperands (nodeIn xs n .kind) ≡ 0 → (env : List ℕ)
-      → check limit t env ≡ leafType (formOf (nodeIn xs n .kind)) n (nodeIn xs n .a) env
+      → check limit t env ≡ leafType (formOf (nodeIn xs n .kind)) n (nodeIn xs n) env
   leaf-check (no-operand z c e) h env = c env
   leaf-check (of-typed q z f c e) h env = absurd (omega arith)
   leaf-check (of-sym q z f c e) h env = absurd (omega arith)
@@ -229,7 +217,7 @@ module _ {limit : ℕ} {xs : List ℕ} {n : ℕ} {t : Expr} where
   pub rest-check : Shaped limit xs n t → 2 ≤ nodeOperands (nodeIn xs n .kind) → (env : List ℕ)
       → check limit t env
       ≡ andThen (check limit (treeIn xs (nodeIn xs n .a)) env)
-      (λ u. restType (formOf (nodeIn xs n .kind)) limit n (treeIn xs (nodeIn xs n .b)) (treeIn xs (nodeIn xs n .c)) u env)
+      (λ u. restType (nodeIn xs n) limit n (treeIn xs (nodeIn xs n .b)) (treeIn xs (nodeIn xs n .c)) u env)
   rest-check (no-operand z c e) h env = absurd (omega arith)
   rest-check (of-typed q z f c e) h env = absurd (omega arith)
   rest-check (of-sym q z f c e) h env = absurd (omega arith)
@@ -239,7 +227,7 @@ module _ {limit : ℕ} {xs : List ℕ} {n : ℕ} {t : Expr} where
   -- ---- symbolic mode
 
   pub leaf-exec : Shaped limit xs n t → nodeOperands (nodeIn xs n .kind) ≡ 0 → (env : List Symbolic) (p : Path)
-      → exec limit t env p ≡ leafExec (formOf (nodeIn xs n .kind)) n (nodeIn xs n .a) env p
+      → exec limit t env p ≡ leafExec (formOf (nodeIn xs n .kind)) n (nodeIn xs n) env p
   leaf-exec (no-operand z c e) h env p = e env p
   leaf-exec (of-typed q z f c e) h env p = absurd (omega arith)
   leaf-exec (of-sym q z f c e) h env p = absurd (omega arith)
@@ -266,7 +254,7 @@ module _ {limit : ℕ} {xs : List ℕ} {n : ℕ} {t : Expr} where
   pub rest-exec-of : Shaped limit xs n t → 2 ≤ nodeOperands (nodeIn xs n .kind) → (env : List Symbolic) (p : Path)
       → exec limit t env p
       ≡ bind (exec limit (treeIn xs (nodeIn xs n .a)) env p)
-      (λ v q. restExec (formOf (nodeIn xs n .kind)) limit n (treeIn xs (nodeIn xs n .b)) (treeIn xs (nodeIn xs n .c)) v env q)
+      (λ v q. restExec (nodeIn xs n) limit n (treeIn xs (nodeIn xs n .b)) (treeIn xs (nodeIn xs n .c)) v env q)
   rest-exec-of (no-operand z c e) h env p = absurd (omega arith)
   rest-exec-of (of-typed q z f c e) h env p = absurd (omega arith)
   rest-exec-of (of-sym q z f c e) h env p = absurd (omega arith)
@@ -275,24 +263,24 @@ module _ {limit : ℕ} {xs : List ℕ} {n : ℕ} {t : Expr} where
 
 -- ---- an `if`, after its condition
 
-module _ (k : ℕ) (h : k ≡ kindFor ifForm) where
+module _ (m : Node) (h : m .kind ≡ kindFor ifForm) where
   pub if-rest-check : (limit n : ℕ) (e f : Expr) (t : ℕ) (env : List ℕ)
-      → restType (formOf k) limit n e f t env ≡ andThen (check limit e env) λ u. andThen (check limit f env) (ifType n t u)
-  unfolding restType
-  if-rest-check limit n e f t env = ap (λ (g : Form). restType g limit n e f t env) (form-at ifForm k h)
+      → restType m limit n e f t env ≡ andThen (check limit e env) λ u. andThen (check limit f env) (ifType n t u)
+  unfolding restType severalBy
+  if-rest-check limit n e f t env = rw (form-at ifForm (m .kind) h)
 
   pub if-rest-exec : (limit n : ℕ) (e f : Expr) (v : Symbolic) (env : List Symbolic) (p : Path)
-      → restExec (formOf k) limit n e f v env p ≡ decide n v p (exec limit e env) (exec limit f env)
-  unfolding restExec
-  if-rest-exec limit n e f v env p = ap (λ (g : Form). restExec g limit n e f v env p) (form-at ifForm k h)
+      → restExec m limit n e f v env p ≡ decide n v p (exec limit e env) (exec limit f env)
+  unfolding restExec severalBy
+  if-rest-exec limit n e f v env p = rw (form-at ifForm (m .kind) h)
 
-  pub if-bound : {A : Type 0} (v : A) (env : List A) → boundOn (formOf k) v env ≡ env
-  unfolding boundOn
-  if-bound v env = ap (λ (g : Form). boundOn g v env) (form-at ifForm k h)
+  pub if-bound : {A : Type 0} (v : A) (env : List A) → boundOn m v env ≡ env
+  unfolding severalBy
+  if-bound v env = rw (form-at ifForm (m .kind) h)
 
-  pub if-two : (n : ℕ) (v w : Symbolic) (p : Path) → twoExec (formOf k) n v w p ≡ ends w p
+  pub if-two : (n : ℕ) (v w : Symbolic) (p : Path) → twoExec (formOf (m .kind)) n v w p ≡ ends w p
   unfolding twoExec
-  if-two n v w p = ap (λ (g : Form). twoExec g n v w p) (form-at ifForm k h)
+  if-two n v w p = ap (λ (g : Form). twoExec g n v w p) (form-at ifForm (m .kind) h)
 
 -- ---- after the first of several operands
 
@@ -305,17 +293,17 @@ module _ {limit : ℕ} {xs : List ℕ} {n : ℕ} where
   -- another form
   module _ (d : nodeIn xs n .kind ≡ kindFor ifForm → ⊥) where
     pub two-rest-check : Several limit xs n → (e f : Expr) (t : ℕ) (env : List ℕ)
-        → restType (formOf (nodeIn xs n .kind)) limit n e f t env
-        ≡ andThen (check limit e (boundOn (formOf (nodeIn xs n .kind)) t env)) (twoType (formOf (nodeIn xs n .kind)) n t)
-    unfolding restType boundOn twoType
+        → restType (nodeIn xs n) limit n e f t env
+        ≡ andThen (check limit e (boundOn (nodeIn xs n) t env)) (twoType (formOf (nodeIn xs n .kind)) n t)
+    unfolding restType severalBy twoType
     two-rest-check (several-if q b) e f t env = absurd (no-form ifForm _ refl d q)
     two-rest-check (several-let q) e f t env = rw q (then-accepted _ Accepted λ u. refl)
     two-rest-check (several-binary q) e f t env = rw q
 
     pub two-rest-exec : Several limit xs n → (e f : Expr) (v : Symbolic) (env : List Symbolic) (p : Path)
-        → restExec (formOf (nodeIn xs n .kind)) limit n e f v env p
-        ≡ bind (exec limit e (boundOn (formOf (nodeIn xs n .kind)) v env) p) (twoExec (formOf (nodeIn xs n .kind)) n v)
-    unfolding restExec boundOn twoExec
+        → restExec (nodeIn xs n) limit n e f v env p
+        ≡ bind (exec limit e (boundOn (nodeIn xs n) v env) p) (twoExec (formOf (nodeIn xs n .kind)) n v)
+    unfolding restExec severalBy twoExec
     two-rest-exec (several-if q b) e f v env p = absurd (no-form ifForm _ refl d q)
     two-rest-exec (several-let q) e f v env p = rw q (bind-ends _ ends λ w r. refl)
     two-rest-exec (several-binary q) e f v env p = rw q

@@ -1,15 +1,16 @@
 -- The rules of operators on rows: what each makes, and where it refuses. Assumes nothing.
 use mathlib.Core.Bool.{Bool, true, false}
 use mathlib.Core.List.{List, [], _∷_}
-use mathlib.Core.Path.{_≡_, refl, sym, ap, _∙_}
+use mathlib.Core.Path.{_≡_, refl, sym, ap, subst, _∙_}
 use Prim.Native.Nat.{ℕ, zero, suc, _+_, _*_, _≤_, _<_}
 use native.Mathlib.Omega.{arith}
 use lib.ListN.{length, getD}
 use lib.Dec.{eqb}
 use borrow.Author.Tests.{eqb-true, lt-ltb, le-ltb, eq-eqb, ne-eqb}
-use Rattle.script.specs.Code.Forms.{formOf, other-form}
-use Rattle.script.specs.Rows.{intForm, varForm, truthForm, unaryForm, binaryForm, rows, rowOf, kindFor, notOp, addOp, eqOp, andOp}
+use Rattle.script.specs.Code.Forms.{formOf, form-at, other-form}
+use Rattle.script.specs.Rows.{Form, intForm, varForm, truthForm, unaryForm, binaryForm, rows, rowOf, kindFor, notOp, addOp, eqOp, andOp}
 use Rattle.script.specs.Rows.Laws.{NoneOf, unaryForms, binaryForms}
+use Rattle.script.specs.declared.Node.{Node}
 use Rattle.script.specs.declared.Refusal.the-variants.{WrongType, UnknownVariable}
 use Rattle.rules.specs.Paths.{Path, ends}
 use Rattle.rules.specs.Symbolic.{Sum, Formula, Origin, Symbolic, aWord, aTruth, aReference}
@@ -29,6 +30,7 @@ use Rattle.workspace.specs.Places.{depthAt, nextAt, writesAt}
 use Rattle.workspace.specs.Rules.{leafExec, oneExec, twoExec, Ruled, Leaf, One, Two, Operable}
 use Rattle.workspace.specs.State.{Means, wordRow, truthRow, referencePlace, PathIn, Room, Yields, ending, stopping}
 use Rattle.workspace.specs.State.Laws.{path-added, variables-at, variables-length, none-at, room-space}
+use Rattle.workspace.specs.declared.Step.{Step}
 use Rattle.workspace.specs.declared.Step.the-variants.{Gave, Stopped}
 
 -- ---- rows
@@ -63,54 +65,58 @@ pushed-ruled s op a b e = rw e (added-ruled (pushed-length s op a b) (pushed-add
 
 -- ---- leaves
 
-module _ (n a depth : ℕ) {ws left : List ℕ} {r : ℕ} (q : Room ws 1) (er : r ≡ countIn ws) where
-  pub leaf-int : (k : ℕ) → k ≡ kindFor intForm → left ≡ pushed ws ofNumber a 0 → Leaf (formOf k) n a depth ws (Gave 0 r) left
+module _ (n : ℕ) (m : Node) (depth : ℕ) {ws left : List ℕ} {r : ℕ} (q : Room ws 1) (er : r ≡ countIn ws) where
+  pub leaf-int : m .kind ≡ kindFor intForm → left ≡ pushed ws ofNumber (m .a) 0 → Leaf (formOf (m .kind)) n m depth ws (Gave 0 r) left
   unfolding leafExec leafGives formOf rowOf rows
-  leaf-int k z e =
+  leaf-int z e =
       record {
-        ruled = pushed-ruled (room-space q) ofNumber a 0 e;
-        yields = λ env p s. rw (z, er, e) (word-yields (made-number (room-space q) (s .path .distinct) a 0) (s .path));
+        ruled = pushed-ruled (room-space q) ofNumber (m .a) 0 e;
+        yields = λ env p s. rw (z, er, e) (word-yields (made-number (room-space q) (s .path .distinct) (m .a) 0) (s .path));
         exactly = rw (z, er, e) refl;
       }
 
-  pub leaf-true : (k : ℕ) → k ≡ kindFor (truthForm true) → left ≡ pushed ws ofConstant 1 0 → Leaf (formOf k) n a depth ws (Gave 1 r) left
+  pub leaf-true : m .kind ≡ kindFor (truthForm true) → left ≡ pushed ws ofConstant 1 0 → Leaf (formOf (m .kind)) n m depth ws (Gave 1 r) left
   unfolding leafExec leafGives formOf rowOf rows
-  leaf-true k z e =
+  leaf-true z e =
       record {
         ruled = pushed-ruled (room-space q) ofConstant 1 0 e;
         yields = λ env p s. rw (z, er, e) (truth-yields (made-constant (room-space q) (s .path .distinct) true 0) (s .path));
         exactly = rw (z, er, e) refl;
       }
 
-  pub leaf-other : (k : ℕ) → NoneOf k (intForm ∷ truthForm true ∷ varForm ∷ []) → left ≡ pushed ws ofConstant 0 0 → Leaf (formOf k) n a depth ws (Gave 1 r) left
+  pub leaf-other : NoneOf (m .kind) (intForm ∷ truthForm true ∷ varForm ∷ []) → left ≡ pushed ws ofConstant 0 0 → Leaf (formOf (m .kind)) n m depth ws (Gave 1 r) left
   unfolding leafExec leafGives rows
-  leaf-other k d e =
+  leaf-other d e =
       record {
         ruled = pushed-ruled (room-space q) ofConstant 0 0 e;
         yields = λ env p s.
-            rw (other-form (λ f. leafExec f n a env p) _ k refl d, er, e)
+            rw (other-form (λ f. leafExec f n m env p) _ (m .kind) refl d, er, e)
             (truth-yields (made-constant (room-space q) (s .path .distinct) false 0) (s .path));
-        exactly = rw (other-form (λ f. leafGives f n a depth ws) _ k refl d, er, e) refl;
+        exactly = rw (other-form (λ f. leafGives f n m depth ws) _ (m .kind) refl d, er, e) refl;
       }
 
-module _ (n k depth : ℕ) (ws : List ℕ) where
-  pub variable-found : k < depth → Leaf varForm n k depth ws (Gave (getD ws (2 * k) 0) (getD ws (2 * k + 1) 0)) ws
+module _ (n : ℕ) (m : Node) (depth : ℕ) (ws : List ℕ) where
+  pub variable-found : m .a < depth → Leaf varForm n m depth ws (Gave (getD ws (2 * m .a) 0) (getD ws (2 * m .a + 1) 0)) ws
   unfolding leafExec leafGives variable
   variable-found l =
       record {
         ruled = ruled-refl ws;
-        yields = λ env p s. let a = variables-at k l (s .variables) in rw (a .found) (ending (a .means) (s .path));
-        exactly = rw (lt-ltb k depth l) refl;
+        yields = λ env p s. let a = variables-at (m .a) l (s .variables) in rw (a .found) (ending (a .means) (s .path));
+        exactly = rw (lt-ltb (m .a) depth l) refl;
       }
 
-  pub variable-unknown : depth ≤ k → Leaf varForm n k depth ws (Stopped (UnknownVariable n)) ws
+  pub variable-unknown : depth ≤ m .a → Leaf varForm n m depth ws (Stopped (UnknownVariable n)) ws
   unfolding leafExec leafGives variable
   variable-unknown l =
       record {
         ruled = ruled-refl ws;
-        yields = λ env p s. let e = variables-length (s .variables) in rw (none-at env k (omega arith)) stopping;
-        exactly = rw (le-ltb k depth l) refl;
+        yields = λ env p s. let e = variables-length (s .variables) in rw (none-at env (m .a) (omega arith)) stopping;
+        exactly = rw (le-ltb (m .a) depth l) refl;
       }
+
+pub leaf-var : {n : ℕ} {m : Node} {depth : ℕ} {ws left : List ℕ} {r : Step} → m .kind ≡ kindFor varForm → Leaf varForm n m depth ws r left
+    → Leaf (formOf (m .kind)) n m depth ws r left
+leaf-var {n} {m} {depth} {ws} {left} {r} e l = subst (λ (f : Form). Leaf f n m depth ws r left) (sym (form-at varForm (m .kind) e)) l
 
 -- ---- one operand
 

@@ -51,7 +51,7 @@ several-no-sym {k} h e = let z = kind-operands symForm k e in omega arith
 -- ---- node n
 
 module _ {xs ws : List ℕ} {depth n : ℕ} (q : Checkable xs ws depth n) where
-  pub leaf-judged : (limit : ℕ) → nodeIn xs n .kind < leafKinds → {r : Checked} → r ≡ leafType (formOf (nodeIn xs n .kind)) n (nodeIn xs n .a) (typesOn ws depth)
+  pub leaf-judged : (limit : ℕ) → nodeIn xs n .kind < leafKinds → {r : Checked} → r ≡ leafType (formOf (nodeIn xs n .kind)) n (nodeIn xs n) (typesOn ws depth)
       → Judged (check limit (treeIn xs n) (typesOn ws depth)) depth ws r ws
   leaf-judged limit z e =
       record {
@@ -110,7 +110,7 @@ module _ {xs ws : List ℕ} {depth n : ℕ} (q : Checkable xs ws depth n) where
 
       pub rest-judged : 2 ≤ nodeOperands (nodeIn xs n .kind) → {s : Checked} {left₂ : List ℕ}
           → Judged
-          (restType (formOf (nodeIn xs n .kind)) limit n (treeIn xs (nodeIn xs n .b)) (treeIn xs (nodeIn xs n .c)) t (typesOn left depth)) depth left s left₂
+          (restType (nodeIn xs n) limit n (treeIn xs (nodeIn xs n .b)) (treeIn xs (nodeIn xs n .c)) t (typesOn left depth)) depth left s left₂
           → Judged (check limit (treeIn xs n) (typesOn ws depth)) depth ws s left₂
       rest-judged m j =
           record {
@@ -140,7 +140,7 @@ module _ {xs ws : List ℕ} {depth n : ℕ} (q : CheckableRest xs ws depth n) wh
   pub second-earlier : nodeIn xs n .b < n
   second-earlier = rest-of (shaped 0 (q .formed)) (q .several) .earlier
 
-  module _ {t : ℕ} {ws₁ : List ℕ} {inner : ℕ} (b : BoundTypes (nodeIn xs n .kind) depth t ws inner ws₁) where
+  module _ {t : ℕ} {ws₁ : List ℕ} {inner : ℕ} (b : BoundTypes (nodeIn xs n) depth t ws inner ws₁) where
     pub second-checkable : Checkable xs ws₁ inner (nodeIn xs n .b)
     second-checkable =
         let f = rest-of (shaped 0 (q .formed)) (q .several) in
@@ -153,12 +153,12 @@ module _ {xs ws : List ℕ} {depth n : ℕ} (q : CheckableRest xs ws depth n) wh
 
     module _ (limit : ℕ) {r : Checked} {left : List ℕ} (d : Judged (check limit (treeIn xs (nodeIn xs n .b)) (typesOn ws₁ inner)) inner ws₁ r left) where
       abbrev rest : Checked
-      rest = restType (formOf (nodeIn xs n .kind)) limit n (treeIn xs (nodeIn xs n .b)) (treeIn xs (nodeIn xs n .c)) t (typesOn ws depth)
+      rest = restType (nodeIn xs n) limit n (treeIn xs (nodeIn xs n .b)) (treeIn xs (nodeIn xs n .c)) t (typesOn ws depth)
 
       second-aside : Aside depth ws left
       second-aside = aside-trans (b .least) (b .aside) (d .aside)
 
-      second-is : {c : Checked} → r ≡ c → check limit (treeIn xs (nodeIn xs n .b)) (boundOn (formOf (nodeIn xs n .kind)) t (typesOn ws depth)) ≡ c
+      second-is : {c : Checked} → r ≡ c → check limit (treeIn xs (nodeIn xs n .b)) (boundOn (nodeIn xs n) t (typesOn ws depth)) ≡ c
       second-is e = rw (sym (b .types)) (sym (d .answer) ∙ e)
 
       -- an `if`
@@ -178,9 +178,9 @@ module _ {xs ws : List ℕ} {depth n : ℕ} (q : CheckableRest xs ws depth n) wh
 
         rest-if : {c : Checked} → r ≡ c → rest ≡ andThen c λ u. andThen (check limit (treeIn xs (nodeIn xs n .c)) (typesOn ws depth)) (ifType n t u)
         rest-if e =
-            if-rest-check (nodeIn xs n .kind) h limit n (treeIn xs (nodeIn xs n .b)) (treeIn xs (nodeIn xs n .c)) t (typesOn ws depth)
+            if-rest-check (nodeIn xs n) h limit n (treeIn xs (nodeIn xs n .b)) (treeIn xs (nodeIn xs n .c)) t (typesOn ws depth)
             ∙ ap (λ (c : Checked). andThen c λ u. andThen (check limit (treeIn xs (nodeIn xs n .c)) (typesOn ws depth)) (ifType n t u))
-            (ap (check limit (treeIn xs (nodeIn xs n .b))) (sym (if-bound (nodeIn xs n .kind) h t (typesOn ws depth))) ∙ second-is e)
+            (ap (check limit (treeIn xs (nodeIn xs n .b))) (sym (if-bound (nodeIn xs n) h t (typesOn ws depth))) ∙ second-is e)
 
         module _ {u : ℕ} (e : r ≡ Accepted u) {s : Checked} {left₂ : List ℕ}
             (k : Judged (check limit (treeIn xs (nodeIn xs n .c)) (typesOn left depth)) depth left s left₂) where

@@ -7,13 +7,14 @@ use lib.Dec.{eqb}
 use lib.ListN.{length, set, length-set}
 use lib.Seq.{getD-set-same, getD-set-other}
 use borrow.Author.Tests.{eq-eqb, ne-eqb, le-leb, lt-leb}
-use Rattle.script.specs.Code.Forms.{formOf, form-at, other-form}
+use Rattle.script.specs.Code.Forms.{formOf, form-at, severalBy, other-form}
 use Rattle.script.specs.Limits.{deepest, typeLimit}
-use Rattle.script.specs.Rows.{Form, intForm, varForm, letForm, rows, kindFor, notOp, refOp, getOp, addOp, eqOp, andOp, setOp}
+use Rattle.script.specs.Rows.{intForm, varForm, letForm, rows, kindFor, notOp, refOp, getOp, addOp, eqOp, andOp, setOp}
 use Rattle.script.specs.Rows.Laws.{NoneOf, none-left, but, unaryForms, binaryForms}
 use Rattle.script.specs.Tests.{pick}
 use Rattle.script.specs.declared.Checked.{Checked}
 use Rattle.script.specs.declared.Checked.the-variants.{Accepted, Refused}
+use Rattle.script.specs.declared.Node.{Node}
 use Rattle.script.specs.declared.Refusal.the-variants.{TooManyReferences}
 use Rattle.rules.specs.TypedRules.{wrong, unaryType, binaryType, ifType, truthType, wordType}
 use Rattle.terms.specs.Places.{variablesEnd, symbolLimit}
@@ -115,9 +116,9 @@ module _ (n : ℕ) where
 
 -- ---- all kinds but some
 
-pub leaf-type-other : (n a : ℕ) (env : List ℕ) (k : ℕ) → NoneOf k (intForm ∷ varForm ∷ []) → Accepted 1 ≡ leafType (formOf k) n a env
+pub leaf-type-other : (n : ℕ) (m : Node) (env : List ℕ) → NoneOf (m .kind) (intForm ∷ varForm ∷ []) → Accepted 1 ≡ leafType (formOf (m .kind)) n m env
 unfolding leafType rows
-leaf-type-other n a env k d = sym (other-form (λ f. leafType f n a env) _ k refl d)
+leaf-type-other n m env d = sym (other-form (λ f. leafType f n m env) _ (m .kind) refl d)
 
 pub one-type-other : (n t k : ℕ) → NoneOf k unaryForms → Accepted t ≡ oneType (formOf k) n t
 unfolding oneType rows
@@ -127,18 +128,18 @@ pub two-type-other : (n t u k : ℕ) → NoneOf k binaryForms → Accepted u ≡
 unfolding twoType rows
 two-type-other n t u k d = sym (other-form (λ f. twoType f n t u) _ k refl d)
 
-pub bound-other : {A : Type 0} (v : A) (env : List A) (k : ℕ) → (k ≡ kindFor letForm → ⊥) → boundOn (formOf k) v env ≡ env
-unfolding boundOn rows
-bound-other v env k d = other-form (λ f. boundOn f v env) (letForm ∷ []) k refl (but d none-left)
+pub bound-other : {A : Type 0} (m : Node) (v : A) (env : List A) → (m .kind ≡ kindFor letForm → ⊥) → boundOn m v env ≡ env
+unfolding severalBy rows
+bound-other m v env d = other-form (λ f. severalBy f env (env ++ (v ∷ [])) (λ o. env) env) (letForm ∷ []) (m .kind) refl (but d none-left)
 
-pub let-bound : {A : Type 0} (v : A) (env : List A) (k : ℕ) → k ≡ kindFor letForm → boundOn (formOf k) v env ≡ env ++ (v ∷ [])
-unfolding boundOn
-let-bound v env k e = ap (λ (f : Form). boundOn f v env) (form-at letForm k e)
+pub let-bound : {A : Type 0} (m : Node) (v : A) (env : List A) → m .kind ≡ kindFor letForm → boundOn m v env ≡ env ++ (v ∷ [])
+unfolding severalBy
+let-bound m v env e = rw (form-at letForm (m .kind) e)
 
 -- ---- the variables of the second operand
 
-module _ (k depth t : ℕ) (ws : List ℕ) (l : depth < symbolLimit) (h : variablesEnd ≤ length ws) where
-  pub bind-type-let : k ≡ kindFor letForm → BoundTypes k depth t ws (depth + 1) (set ws (2 * depth) t)
+module _ (m : Node) (depth t : ℕ) (ws : List ℕ) (l : depth < symbolLimit) (h : variablesEnd ≤ length ws) where
+  pub bind-type-let : m .kind ≡ kindFor letForm → BoundTypes m depth t ws (depth + 1) (set ws (2 * depth) t)
   unfolding typesOn
   bind-type-let e =
       let z : depth + 1 ≡ suc depth = omega arith in
@@ -149,7 +150,7 @@ module _ (k depth t : ℕ) (ws : List ℕ) (l : depth < symbolLimit) (h : variab
         most = omega arith;
         types =
             rw (
-              let-bound t (typesOn ws depth) k e,
+              let-bound m t (typesOn ws depth) e,
               z,
               getD-set-same ws (2 * depth) t 0 (omega arith),
               types-kept ws (set ws (2 * depth) t) depth λ i j. getD-set-other ws (2 * depth) i t 0 λ y. omega arith,
@@ -161,13 +162,13 @@ module _ (k depth t : ℕ) (ws : List ℕ) (l : depth < symbolLimit) (h : variab
         };
       }
 
-  pub bind-type-other : (k ≡ kindFor letForm → ⊥) → BoundTypes k depth t ws depth ws
+  pub bind-type-other : (m .kind ≡ kindFor letForm → ⊥) → BoundTypes m depth t ws depth ws
   bind-type-other d =
       record {
         bound = λ e. absurd (d e);
         other = λ _. (refl, refl);
         least = omega arith;
         most = omega arith;
-        types = sym (bound-other t (typesOn ws depth) k d);
+        types = sym (bound-other m t (typesOn ws depth) d);
         aside = aside-refl depth ws;
       }

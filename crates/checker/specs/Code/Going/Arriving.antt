@@ -72,7 +72,7 @@ module _ {limit : ℕ} {table : List ℕ} {bound base : ℕ} {ground : List Symb
 
   -- ---- a leaf
 
-  pub leaf-gives : nodeIn table n .kind < leafKinds → {a : Step} {left : List ℕ} → LeafRule (formOf (nodeIn table n .kind)) n (nodeIn table n .a) (depthIn ws) ws a left
+  pub leaf-gives : nodeIn table n .kind < leafKinds → {a : Step} {left : List ℕ} → LeafRule (formOf (nodeIn table n .kind)) n (nodeIn table n) (depthIn ws) ws a left
       → Gives limit table bound base ground left fs ls a
   leaf-gives k l =
       yields-gives (q .stands) (l .ruled) enters-room enters-tops
@@ -209,7 +209,7 @@ module _ {table ws fs : List ℕ} {n : ℕ} (x : Leafable table ws fs n) where
   pub leaf-lent : 2 * depthIn ws ≤ length ws
   leaf-lent = enters-lent e
 
-  module _ {a : Step} {left : List ℕ} (l : LeafRule (formOf (nodeIn table n .kind)) n (nodeIn table n .a) (depthIn ws) ws a left) where
+  module _ {a : Step} {left : List ℕ} (l : LeafRule (formOf (nodeIn table n .kind)) n (nodeIn table n) (depthIn ws) ws a left) where
     pub leaf-returnable : {t q : ℕ} → a ≡ Gave t q → Returnable table left fs t q
     leaf-returnable i =
         record {

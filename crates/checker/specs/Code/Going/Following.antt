@@ -111,7 +111,7 @@ module _ {limit : ℕ} {table : List ℕ} {bound base : ℕ} {ground : List Symb
               (ap (λ (y : Paths). bind y (goOn limit table (x .later)))
               (two-rest-exec d (several-of (shaped limit node-formed) (x .several)) (treeIn table b) (treeIn table c) (r .value) (r .environment) (r .path)
               ∙ ap (λ (env : List Symbolic). bind (exec limit (treeIn table b) env (r .path)) (twoExec (formOf (nodeIn table n .kind)) n (r .value)))
-              (bound-other (r .value) (r .environment) (nodeIn table n .kind) e))
+              (bound-other (nodeIn table n) (r .value) (r .environment) e))
               ∙ then-on (exec limit (treeIn table b) (r .environment) (r .path)) (twoExec (formOf (nodeIn table n .kind)) n (r .value))
               (goOn limit table (second n (r .value) ∷ x .later)) (goOn limit table (x .later)) λ v p. refl);
         }
@@ -201,7 +201,7 @@ module _ {limit : ℕ} {table : List ℕ} {bound base : ℕ} {ground : List Symb
               (ap (λ (y : Paths). bind y (goOn limit table (x .later)))
               (two-rest-exec (λ i. omega arith) (several-of (shaped limit node-formed) (x .several)) (treeIn table b) (treeIn table c) (r .value) (r .environment) (r .path)
               ∙ ap (λ (env : List Symbolic). bind (exec limit (treeIn table b) env (r .path)) (twoExec (formOf (nodeIn table n .kind)) n (r .value)))
-              (let-bound (r .value) (r .environment) (nodeIn table n .kind) e))
+              (let-bound (nodeIn table n) (r .value) (r .environment) e))
               ∙ then-on (exec limit (treeIn table b) (r .environment ++ (r .value ∷ [])) (r .path)) (twoExec (formOf (nodeIn table n .kind)) n (r .value))
               (goOn limit table (second n (r .value) ∷ x .later)) (goOn limit table (x .later)) λ v p. refl);
         }
@@ -215,7 +215,7 @@ module _ {limit : ℕ} {table : List ℕ} {bound base : ℕ} {ground : List Symb
       unfolding goOn bind
       branch-goes y =
           bind-same y (goOn limit table (x .later)) (goOn limit table (second n (r .value) ∷ x .later)) λ v p.
-          sym (ap (λ (z : Paths). bind z (goOn limit table (x .later))) (if-two (nodeIn table n .kind) h n (r .value) v p))
+          sym (ap (λ (z : Paths). bind z (goOn limit table (x .later))) (if-two (nodeIn table n) h n (r .value) v p))
 
       decided : (y : Paths) → decide n (r .value) (r .path) (exec limit (treeIn table b) (r .environment)) (exec limit (treeIn table c) (r .environment)) ≡ y
           → ls ≡ leaves (bind y (goOn limit table (second n (r .value) ∷ x .later))) ++ r .others
@@ -223,7 +223,7 @@ module _ {limit : ℕ} {table : List ℕ} {bound base : ℕ} {ground : List Symb
           x .is
           ∙ ap (λ (z : Paths). leaves z ++ r .others)
           (ap (λ (z : Paths). bind z (goOn limit table (x .later)))
-          (if-rest-exec (nodeIn table n .kind) h limit n (treeIn table b) (treeIn table c) (r .value) (r .environment) (r .path) ∙ e)
+          (if-rest-exec (nodeIn table n) h limit n (treeIn table b) (treeIn table c) (r .value) (r .environment) (r .path) ∙ e)
           ∙ branch-goes y)
 
       -- one branch is taken, on which the path is p₁

@@ -114,7 +114,7 @@ module _ {limit : ℕ} {table : List ℕ} {bound base : ℕ} {ground : List Symb
                 (ap (λ (x : Paths). bind x (goOn limit table (q .later)))
                 (rest-exec-of (shaped limit enters-formed) o (q .environment) (q .path))
                 ∙ then-on (exec limit (treeIn table (nodeIn table m .a)) (q .environment) (q .path))
-                (λ v p. restExec (formOf (nodeIn table m .kind)) limit m (treeIn table (nodeIn table m .b)) (treeIn table (nodeIn table m .c)) v (q .environment) p)
+                (λ v p. restExec (nodeIn table m) limit m (treeIn table (nodeIn table m .b)) (treeIn table (nodeIn table m .c)) v (q .environment) p)
                 (goOn limit table (first m (q .environment) ∷ q .later)) (goOn limit table (q .later)) λ v p. refl);
           }
 

@@ -113,7 +113,7 @@ pub data Upper (limit : ℕ) (table : List ℕ) (bound base : ℕ) (ground : Lis
       → owed ≡ suc rest + less → frames ≡ rest + fewer → Stands limit table bound base ground ws (set fs goalAt g) env p ks less fewer others
       → ls
       ≡ leaves
-      (bind (restExec (formOf (nodeIn table n .kind)) limit n (treeIn table (nodeIn table n .b)) (treeIn table (nodeIn table n .c)) v env p)
+      (bind (restExec (nodeIn table n) limit n (treeIn table (nodeIn table n .b)) (treeIn table (nodeIn table n .c)) v env p)
       (goOn limit table ks))
       ++ others
       → Upper limit table bound base ground ws fs env p v owed frames others ls x y n g 0
@@ -340,7 +340,7 @@ module _ {limit : ℕ} {table : List ℕ} {bound base : ℕ} {ground : List Symb
     pub is : ls
         ≡ leaves
         (bind
-        (restExec (formOf (nodeIn table (nodeOf fs (frameIn fs)) .kind)) limit (nodeOf fs (frameIn fs)) (treeIn table (nodeIn table (nodeOf fs (frameIn fs)) .b))
+        (restExec (nodeIn table (nodeOf fs (frameIn fs))) limit (nodeOf fs (frameIn fs)) (treeIn table (nodeIn table (nodeOf fs (frameIn fs)) .b))
         (treeIn table (nodeIn table (nodeOf fs (frameIn fs)) .c)) (r .value) (r .environment) (r .path))
         (goOn limit table later))
         ++ r .others
