@@ -5,7 +5,8 @@ ghost use mathlib.Core.Bool.{false};
 ghost use mathlib.Core.Path.{_≡_};
 ghost use Prim.Native.Nat.{_≤_, _<_};
 ghost use Rattle.script.specs.Code.Forms.{nodeIn, treeIn};
-ghost use Rattle.script.specs.Rows.{typedForm, kindFor, nodeOperands};
+ghost use Rattle.script.specs.Rows.{typedForm, nodeOperands};
+ghost use Rattle.script.specs.Rows.Kinds.{kindFor};
 ghost use Rattle.rules.specs.Checking.{check, exec};
 ghost use Rattle.rules.specs.Paths.{start, leaves};
 ghost use Rattle.rules.specs.Symbolic.{symbols};
@@ -241,7 +242,7 @@ fn block_up(table: &[u32], space: &mut [u32], frames: &mut [u32], limit: u32, n:
         Checked::Refused(why) => Move::Stopped(why),
         Checked::Accepted(t) => match typed_result(t, space, n) {
             Step::Stopped(why) => Move::Stopped(why),
-            Step::Gave(u, p) => climb(table, space, frames, u, p),
+            Step::Gave(u, q) => climb(table, space, frames, u, q),
         },
     }
 }

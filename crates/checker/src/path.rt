@@ -19,24 +19,24 @@ use workspace::CONDITION;
 use workspace::DEPTH;
 use workspace::KNOWN;
 
-// The decision at an `if` whose condition has type t and place p.
-pub fn choose(space: &mut [u32], t: u32, p: u32, n: u32) -> Branch
-    requires { ⌜ Decidable (now space) t p ⌝ }
-    ensures { λ r. ⌜ Chooses n t p (now (space .entry)) r (now (space .exit)) ⌝ }
+// The decision at an `if` whose condition has type t and place q.
+pub fn choose(space: &mut [u32], t: u32, q: u32, n: u32) -> Branch
+    requires { ⌜ Decidable (now space) t q ⌝ }
+    ensures { λ r. ⌜ Chooses n t q (now (space .entry)) r (now (space .exit)) ⌝ }
 {
     if t != 1 {
         return Branch::Neither(Refusal::WrongType(n));
     }
     let condition = space[CONDITION];
-    match decide(space, KNOWN, condition, p) {
+    match decide(space, KNOWN, condition, q) {
         Decision::TooMany => Branch::Neither(Refusal::TooManyAtoms(n)),
         Decision::Both => Branch::Both,
         Decision::OnlyTrue => {
-            with_guard(space, p);
+            with_guard(space, q);
             Branch::First
         }
         Decision::OnlyFalse => {
-            without_guard(space, p);
+            without_guard(space, q);
             Branch::Second
         }
     }

@@ -3,7 +3,7 @@
 ghost use mathlib.Core.Path.{_≡_};
 ghost use Prim.Native.Nat.{_+_, _^_, _<_};
 ghost use lib.ListN.{length, set};
-ghost use Rattle.script.specs.Rows.{kindCount};
+ghost use Rattle.script.specs.Rows.Kinds.{kindCount};
 ghost use Rattle.text.specs.Code.Output.{Put, wordOf};
 ghost use Rattle.text.specs.Writing.{digits, typeText};
 use fields::words::LENGTHS;

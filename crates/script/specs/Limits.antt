@@ -1,7 +1,7 @@
 -- The limits of a script, and a script by its counts (docs/SCRIPTS.md, 'Limits'). The code's names for the limits are the constants of
 -- `Script`. Assumes nothing.
 use mathlib.Core.Bool.{Bool, true, false, _&&_}
-use Prim.Native.Nat.{ℕ, _+_, _-_}
+use Prim.Native.Nat.{ℕ, _+_}
 use lib.Dec.{leb, ltb}
 use Rattle.script.specs.declared.Script.{Script}
 use Rattle.script.specs.declared.Sized.{Sized}
@@ -29,10 +29,6 @@ wordLimit = 4294967295
 -- the largest code of a type: 15 references to a truth
 abbrev pub typeLimit : ℕ
 typeLimit = 31
-
--- from this code on a type has 15 references
-abbrev pub deepest : ℕ
-deepest = typeLimit - 1
 
 abbrev pub sizeOf : ℕ → ℕ → Script
 sizeOf n m = record { nodes = n; entries = m }

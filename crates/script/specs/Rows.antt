@@ -4,10 +4,11 @@ use mathlib.Core.Bool.{Bool, true, false}
 use mathlib.Core.List.{List, [], _∷_}
 use mathlib.Core.Option.{Option, none, some}
 use Prim.Native.Nat.{ℕ}
-use lib.ListN.{length, getElem?}
+use lib.ListN.{getElem?}
 use Rattle.script.specs.Limits.{variableLimit, wordLimit}
 use Rattle.script.specs.declared.table.Takes.{Takes}
 use Rattle.script.specs.declared.table.Takes.the-variants.{Number, Nodes}
+pub mod Kinds
 pub mod Laws
 
 pub data UnaryOp : Type 0 where
@@ -48,32 +49,6 @@ rows =
     ∷ row (116 ∷ 121 ∷ 112 ∷ 101 ∷ 100 ∷ []) 1 typedForm  -- typed
     ∷ row (115 ∷ 121 ∷ 109 ∷ []) 1 symForm  -- sym
     ∷ []
-
--- the kind of each form: the place of its row
-abbrev pub kindFor : Form → ℕ
-kindFor intForm = 0
-kindFor (truthForm true) = 1
-kindFor (truthForm false) = 2
-kindFor varForm = 3
-kindFor (binaryForm addOp) = 4
-kindFor (binaryForm eqOp) = 5
-kindFor (unaryForm notOp) = 6
-kindFor (binaryForm andOp) = 7
-kindFor ifForm = 8
-kindFor letForm = 9
-kindFor (unaryForm refOp) = 10
-kindFor (unaryForm getOp) = 11
-kindFor (binaryForm setOp) = 12
-kindFor typedForm = 13
-kindFor symForm = 14
-
--- how many kinds there are
-abbrev pub kindCount : ℕ
-kindCount = length rows
-
--- the kinds below this one are those of leaves, whose operands are no nodes
-abbrev pub leafKinds : ℕ
-leafKinds = kindFor (binaryForm addOp)
 
 -- the row of a kind, if it has a word
 unfoldable pub rowOf : ℕ → Option Row

@@ -7,7 +7,8 @@ use Prim.Native.Nat.{ℕ, suc, _+_, pred}
 use lib.Dec.{leb, ltb, eqb}
 use lib.ListN.{length, take, drop, getD}
 use Rattle.script.specs.Limits.{nodeLimit, entryLimit, nestingLimit, typeLimit, countsFit}
-use Rattle.script.specs.Rows.{Row, truthForm, rowOf, kindFor, numberUpTo, isSym}
+use Rattle.script.specs.Rows.{Row, truthForm, rowOf, numberUpTo, isSym}
+use Rattle.script.specs.Rows.Kinds.{kindFor}
 use Rattle.script.specs.Tests.{pick, all, lowest, need, needNone}
 use Rattle.script.specs.declared.Node.{Node}
 use Rattle.script.specs.declared.Refusal.{Refusal}

@@ -5,7 +5,8 @@ use mathlib.Core.Path.{_≡_, refl}
 use Prim.Native.Nat.{ℕ}
 use lib.ListN.{replicate}
 use Rattle.script.specs.Answers.{Report, tableOf, bytesOf, refusedWith, reportOfReading, reportOfWriting}
-use Rattle.script.specs.Rows.{rows, rowOf, kindCount}
+use Rattle.script.specs.Rows.{rows, rowOf}
+use Rattle.script.specs.Rows.Kinds.{kindCount}
 use Rattle.script.specs.Table.{Table, nodeOf, wellFormed, operands, timesIn, uses, symsAround, tooDeep, treeTest, nodesTest, tableTest}
 use Rattle.script.specs.Table.Cases.{lend, int′, true′, add′, sym′}
 use Rattle.script.specs.Tests.{lowestFrom}

@@ -6,7 +6,8 @@ use Prim.Native.Nat.{ℕ, suc, _≤_, _<_}
 use lib.Dec.{eqb}
 use lib.ListN.{length, drop, getD, drop-of-length-le}
 use lib.Seq.{drop-cons}
-use Rattle.script.specs.Rows.{truthForm, kindFor}
+use Rattle.script.specs.Rows.{truthForm}
+use Rattle.script.specs.Rows.Kinds.{kindFor}
 use Rattle.script.specs.Tests.{all}
 use Rattle.script.specs.declared.Node.{Node}
 

@@ -6,7 +6,7 @@ use Prim.Native.Nat.{ℕ, suc, _+_, _*_, _-_, _/_, _%_, _≤_, _<_}
 use lib.ListN.{length, getD, set}
 use Rattle.terms.specs.Places.{countAt, rowsEnd}
 use Rattle.terms.specs.Terms.{countIn}
-use Rattle.workspace.specs.Frames.{frameIn, topIn, upOf, firstOf, secondOf, awaitsOf, forBody}
+use Rattle.workspace.specs.Frames.{frameIn, topIn, firstOf, secondOf, awaitsOf, forBody}
 use Rattle.workspace.specs.Places.{forkAt, forkLimit, forkedAt, framesSize, knownAt, logAt, spaceSize}
 use Rattle.workspace.specs.State.{nextIn, conditionIn, writesIn, startIn, depthIn}
 

@@ -10,7 +10,8 @@ use lib.ListN.{length, getD}
 use Rattle.script.specs.Code.Forms.{nodeIn, treeIn}
 use Rattle.script.specs.Flat.{FormedNodes}
 use Rattle.script.specs.Limits.{nodeLimit}
-use Rattle.script.specs.Rows.{typedForm, kindFor, leafKinds}
+use Rattle.script.specs.Rows.{typedForm}
+use Rattle.script.specs.Rows.Kinds.{kindFor, leafKinds}
 use Rattle.script.specs.Tree.{size}
 use Rattle.workspace.specs.Places.{frameWidth, framesEnd, goalAt, topAt}
 use Rattle.workspace.specs.declared.Frame.{Frame}
@@ -25,8 +26,8 @@ abbrev pub topIn : List ℕ → ℕ
 topIn fs = getD fs topAt 0
 
 -- of frame f: the node, where its value goes to and what it waits for, and its first operand's value
-abbrev pub nodeOf : List ℕ → ℕ → ℕ
-nodeOf fs f = getD fs (frameWidth * f) 0
+abbrev pub waiterOf : List ℕ → ℕ → ℕ
+waiterOf fs f = getD fs (frameWidth * f) 0
 
 abbrev pub upOf : List ℕ → ℕ → ℕ
 upOf fs f = getD fs (frameWidth * f + 1) 0
@@ -72,7 +73,7 @@ pub record Waits (n awaits x y : ℕ) (fs left : List ℕ) : Type 0 where
   pub same : length left ≡ length fs
   pub frame : frameIn left ≡ suc (topIn fs)
   pub top : topIn left ≡ suc (topIn fs)
-  pub node : nodeOf left (suc (topIn fs)) ≡ n
+  pub node : waiterOf left (suc (topIn fs)) ≡ n
   pub up : upOf left (suc (topIn fs)) ≡ upTo (frameIn fs) awaits
   pub first : firstOf left (suc (topIn fs)) ≡ x
   pub second : secondOf left (suc (topIn fs)) ≡ y
@@ -80,7 +81,7 @@ pub record Waits (n awaits x y : ℕ) (fs left : List ℕ) : Type 0 where
 
 -- the frame that a value goes to
 abbrev pub frameAt : List ℕ → ℕ → Frame
-frameAt fs f = record { node = nodeOf fs f; awaits = awaitsOf fs f; x = firstOf fs f; y = secondOf fs f }
+frameAt fs f = record { node = waiterOf fs f; awaits = awaitsOf fs f; x = firstOf fs f; y = secondOf fs f }
 
 -- a node with a first operand that is a node, and no typed block
 abbrev pub waitsFor : ℕ → Bool

@@ -4,7 +4,6 @@ use mathlib.Core.List.{List}
 use Prim.Native.Nat.{ℕ, zero, suc, _+_, _*_, _-_}
 use lib.Dec.{leb, ltb, eqb}
 use lib.ListN.{getD, set}
-use Rattle.script.specs.Limits.{deepest}
 use Rattle.script.specs.Rows.{Form, intForm, varForm, ifForm, letForm, typedForm, symForm, truthForm, unaryForm, binaryForm, UnaryOp, notOp, refOp, getOp, BinaryOp, addOp, eqOp, andOp, setOp}
 use Rattle.script.specs.Tests.{pick}
 use Rattle.script.specs.declared.Node.{Node}
@@ -16,7 +15,7 @@ use Rattle.terms.specs.Terms.{countIn, pushed, ofConjunction, ofConstant, ofEqu
 use Rattle.words.specs.Words.{equalRow, equalLeft}
 use Rattle.workspace.specs.Log.{written, emptied, consistentIn, lookupIn}
 use Rattle.workspace.specs.Places.{nextAt}
-use Rattle.workspace.specs.State.{nextIn}
+use Rattle.workspace.specs.State.{nextIn, deepest}
 use Rattle.workspace.specs.declared.Found.{Found}
 use Rattle.workspace.specs.declared.Found.the-variants.{Value, Nothing}
 use Rattle.workspace.specs.declared.Step.{Step}

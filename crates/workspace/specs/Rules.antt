@@ -13,7 +13,8 @@ use Prim.Native.Nat.{ℕ, suc, _+_, _*_, _≤_, _<_}
 use lib.ListN.{length, getD, set, getElem?}
 use Rattle.script.specs.Code.Forms.{formOf, severalBy, nodeIn, treeIn}
 use Rattle.script.specs.Flat.{FormedNodes}
-use Rattle.script.specs.Rows.{Form, intForm, varForm, ifForm, letForm, typedForm, symForm, truthForm, unaryForm, binaryForm, kindFor, nodeOperands}
+use Rattle.script.specs.Rows.{Form, intForm, varForm, ifForm, letForm, typedForm, symForm, truthForm, unaryForm, binaryForm, nodeOperands}
+use Rattle.script.specs.Rows.Kinds.{kindFor}
 use Rattle.script.specs.Tree.{Expr, size}
 use Rattle.script.specs.declared.Checked.{Checked}
 use Rattle.script.specs.declared.Checked.the-variants.{Accepted}

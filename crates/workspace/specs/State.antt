@@ -4,9 +4,9 @@ pub mod Laws
 use mathlib.Core.Bool.{true}
 use mathlib.Core.List.{List, [], _∷_, _++_}
 use mathlib.Core.Path.{_≡_}
-use Prim.Native.Nat.{ℕ, zero, suc, _+_, _*_, _≤_, _<_}
+use Prim.Native.Nat.{ℕ, zero, suc, _+_, _-_, _*_, _≤_, _<_}
 use lib.ListN.{length, getD}
-use Rattle.script.specs.Limits.{nodeLimit}
+use Rattle.script.specs.Limits.{nodeLimit, typeLimit}
 use Rattle.script.specs.declared.Refusal.{Refusal}
 use Rattle.rules.specs.Paths.{Path, Paths, ends, stops, Write, writeOf}
 use Rattle.rules.specs.Satisfiable.{satisfiable}
@@ -42,6 +42,10 @@ depthIn ws = getD ws depthAt 0
 unfoldable pub typesOn : List ℕ → ℕ → List ℕ
 typesOn ws zero = []
 typesOn ws (suc d) = typesOn ws d ++ (getD ws (2 * d) 0 ∷ [])
+
+-- from this code on a type has 15 references, so that `ref` makes no type of it
+abbrev pub deepest : ℕ
+deepest = typeLimit - 1
 
 -- what a type and a place stand for
 pub data Means (ws : List ℕ) : ℕ → ℕ → Symbolic → Type 0 where

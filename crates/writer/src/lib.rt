@@ -4,7 +4,7 @@ ghost use mathlib.Core.Path.{_≡_};
 ghost use Prim.Native.Nat.{ℕ, _+_, _*_, _^_, _≤_, _<_};
 ghost use lib.ListN.{length, take};
 ghost use Rattle.script.specs.Flat.{nodeWidth, nodesIn, tableIn};
-ghost use Rattle.script.specs.Rows.{kindCount};
+ghost use Rattle.script.specs.Rows.Kinds.{kindCount};
 ghost use Rattle.script.specs.Table.{nodeAt, tableTest};
 ghost use Rattle.text.specs.Code.Output.{Put, operandIf, textIn};
 ghost use Rattle.text.specs.Writing.{outcome, entryText, nodeText, entriesText, nodesText, longEnough, writing};

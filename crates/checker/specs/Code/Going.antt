@@ -1,16 +1,16 @@
 -- A path as the code goes along it: what waits for a value, the forks that are left, and the leaves that are still to come. And what the functions that go
 -- along a path promise: that these leaves stay the same. Assumes nothing.
+pub mod AllFrames
 pub mod Arriving
-pub mod Back
 pub mod Branching
-pub mod Climbing
 pub mod Ends
-pub mod Following
+pub mod FrameRules
 pub mod Keeping
+pub mod NextOperand
+pub mod OneFrame
 pub mod Resuming
 pub mod Rewinding
 pub mod Steps
-pub mod Upwards
 pub mod Walking
 use mathlib.Core.Bool.{Bool, true}
 use mathlib.Core.List.{List, [], _∷_, _++_}
@@ -19,7 +19,8 @@ use Prim.Native.Nat.{ℕ, suc, _+_, _*_, _-_, _≤_, _<_}
 use lib.ListN.{length, getD, set}
 use Rattle.script.specs.Code.Forms.{formOf, nodeIn, treeIn}
 use Rattle.script.specs.Flat.{FormedNodes}
-use Rattle.script.specs.Rows.{letForm, kindFor, leafKinds, nodeOperands}
+use Rattle.script.specs.Rows.{letForm, nodeOperands}
+use Rattle.script.specs.Rows.Kinds.{kindFor, leafKinds}
 use Rattle.script.specs.Tests.{pick}
 use Rattle.script.specs.Tree.{size}
 use Rattle.script.specs.declared.Checked.the-variants.{Accepted, Refused}
@@ -33,7 +34,7 @@ use Rattle.rules.specs.SymbolicRules.{firstType, judge}
 use Rattle.terms.specs.Places.{symbolLimit, variablesEnd}
 use Rattle.terms.specs.Terms.{Grown, ofConjunction}
 use Rattle.workspace.specs.Forks.{forkedIn, Forked, Forks}
-use Rattle.workspace.specs.Frames.{frameIn, topIn, nodeOf, upOf, firstOf, secondOf, Waits, upTo}
+use Rattle.workspace.specs.Frames.{frameIn, topIn, waiterOf, upOf, firstOf, secondOf, Waits, upTo, forBody, forFirst, forNext}
 use Rattle.workspace.specs.Notes.{baseIn, Kept}
 use Rattle.workspace.specs.Paths.{assumed, forgotten}
 use Rattle.workspace.specs.Places.{depthAt, forkAt, frameWidth, framesEnd, framesSize, logAt, spaceSize, writeAt}
@@ -69,7 +70,7 @@ goOn limit table (second n w ∷ ks) v p = bind (twoExec (formOf (nodeIn table n
 
 -- in frame f node n waits, for its first operand, the next one or the body of a `let`; its value goes to frame g
 pub record Slot (fs : List ℕ) (f n g awaits : ℕ) : Type 0 where
-  pub node : nodeOf fs f ≡ n
+  pub node : waiterOf fs f ≡ n
   pub up : upOf fs f ≡ upTo g awaits
   pub earlier : g < f
 
@@ -77,16 +78,16 @@ pub record Slot (fs : List ℕ) (f n g awaits : ℕ) : Type 0 where
 -- variables at the start
 pub data Awaits (table : List ℕ) (bound base : ℕ) (ground : List Symbolic) (ws fs : List ℕ) : ℕ → ℕ → List Symbolic → List Later → ℕ → ℕ → Type 0 where
   no-frame : Awaits table bound base ground ws fs 0 base ground [] 0 0
-  for-only : {f g n depth owed frames : ℕ} {env : List Symbolic} {ks : List Later} → Slot fs f n g 0 → n < bound → nodeOperands (nodeIn table n .kind) ≡ 1
+  for-only : {f g n depth owed frames : ℕ} {env : List Symbolic} {ks : List Later} → Slot fs f n g forFirst → n < bound → nodeOperands (nodeIn table n .kind) ≡ 1
       → Awaits table bound base ground ws fs g depth env ks owed frames → Awaits table bound base ground ws fs f depth env (only n ∷ ks) (suc owed) frames
-  for-first : {f g n depth owed frames rest : ℕ} {env : List Symbolic} {ks : List Later} → Slot fs f n g 0 → n < bound
+  for-first : {f g n depth owed frames rest : ℕ} {env : List Symbolic} {ks : List Later} → Slot fs f n g forFirst → n < bound
       → 2 ≤ nodeOperands (nodeIn table n .kind) → restSize table n ≡ suc rest → depth + suc rest ≤ symbolLimit
       → Awaits table bound base ground ws fs g depth env ks owed frames
       → Awaits table bound base ground ws fs f depth env (first n env ∷ ks) (suc rest + owed) (rest + frames)
-  for-second : {f g n depth owed frames : ℕ} {env : List Symbolic} {ks : List Later} {v : Symbolic} → Slot fs f n g 1 → n < bound
+  for-second : {f g n depth owed frames : ℕ} {env : List Symbolic} {ks : List Later} {v : Symbolic} → Slot fs f n g forNext → n < bound
       → Means ws (firstOf fs f) (secondOf fs f) v → Awaits table bound base ground ws fs g depth env ks owed frames
       → Awaits table bound base ground ws fs f depth env (second n v ∷ ks) (suc owed) frames
-  for-body : {f g n depth owed frames : ℕ} {env : List Symbolic} {ks : List Later} {v : Symbolic} → Slot fs f n g 2 → n < bound
+  for-body : {f g n depth owed frames : ℕ} {env : List Symbolic} {ks : List Later} {v : Symbolic} → Slot fs f n g forBody → n < bound
       → nodeIn table n .kind ≡ kindFor letForm → Means ws (firstOf fs f) (secondOf fs f) v → Awaits table bound base ground ws fs g depth env ks owed frames
       → Awaits table bound base ground ws fs f (suc depth) (env ++ (v ∷ [])) (second n v ∷ ks) (suc owed) frames
 
@@ -121,15 +122,15 @@ pub record Forking (limit : ℕ) (table : List ℕ) (bound base : ℕ) (ground :
   pub newest : frameIn gs ≡ topIn gs
   pub means : Means xs 1 (secondOf gs (frameIn gs)) (aTruth guard)
   pub allowed : satisfiable (withoutGuard guard path .condition) ≡ true
-  pub low : nodeOf gs (frameIn gs) < bound
-  pub branch : nodeIn table (nodeOf gs (frameIn gs)) .c < bound
-  pub room : Room xs (suc (size (treeIn table (nodeIn table (nodeOf gs (frameIn gs)) .c)) + owed))
-  pub tops : topIn gs + forkedIn gs + size (treeIn table (nodeIn table (nodeOf gs (frameIn gs)) .c)) + frames ≤ nodeLimit
-  pub variables : depthIn xs + size (treeIn table (nodeIn table (nodeOf gs (frameIn gs)) .c)) ≤ symbolLimit
+  pub low : waiterOf gs (frameIn gs) < bound
+  pub branch : nodeIn table (waiterOf gs (frameIn gs)) .c < bound
+  pub room : Room xs (suc (size (treeIn table (nodeIn table (waiterOf gs (frameIn gs)) .c)) + owed))
+  pub tops : topIn gs + forkedIn gs + size (treeIn table (nodeIn table (waiterOf gs (frameIn gs)) .c)) + frames ≤ nodeLimit
+  pub variables : depthIn xs + size (treeIn table (nodeIn table (waiterOf gs (frameIn gs)) .c)) ≤ symbolLimit
   pub few : suc (forkedIn gs) ≤ topIn gs
   pub is : ls
       ≡ leaves
-      (bind (exec limit (treeIn table (nodeIn table (nodeOf gs (frameIn gs)) .c)) environment (withoutGuard guard path)) (goOn limit table later))
+      (bind (exec limit (treeIn table (nodeIn table (waiterOf gs (frameIn gs)) .c)) environment (withoutGuard guard path)) (goOn limit table later))
 
 -- the forks that are left, the last in front, and the leaves that they come to
 pub data Left (limit : ℕ) (table : List ℕ) (bound base : ℕ) (ground : List Symbolic) : List ℕ → List ℕ → ℕ → List Leaf → Type 0 where
@@ -202,20 +203,20 @@ movedBy (step.Stopped x) = Stopped x
 
 -- at an `if`, which waits for a branch
 pub data Branched (b c n t q : ℕ) (ws fs left gs : List ℕ) : Move → Type 0 where
-  to-first : Waits n 1 t q fs gs → Chooses n t q ws First left → Branched b c n t q ws fs left gs (Operand b)
-  to-second : Waits n 1 t q fs gs → Chooses n t q ws Second left → Branched b c n t q ws fs left gs (Operand c)
-  to-both : {between hs : List ℕ} → Waits n 1 t q fs hs → Chooses n t q ws Both between → Forks between hs gs
+  to-first : Waits n forNext t q fs gs → Chooses n t q ws First left → Branched b c n t q ws fs left gs (Operand b)
+  to-second : Waits n forNext t q fs gs → Chooses n t q ws Second left → Branched b c n t q ws fs left gs (Operand c)
+  to-both : {between hs : List ℕ} → Waits n forNext t q fs hs → Chooses n t q ws Both between → Forks between hs gs
       → left ≡ assumed (forgotten between) ofConjunction q → Branched b c n t q ws fs left gs (Operand b)
-  to-none : {x : Refusal} → Waits n 1 t q fs gs → Chooses n t q ws (Neither x) left → Branched b c n t q ws fs left gs (Stopped x)
+  to-none : {x : Refusal} → Waits n forNext t q fs gs → Chooses n t q ws (Neither x) left → Branched b c n t q ws fs left gs (Stopped x)
 
 -- node n after its last operand: the body of a `let`, or another one
-pub record Lasts (kind awaits n t p u q : ℕ) (ws : List ℕ) (r : Move) (left : List ℕ) : Type 0 where
-  pub body : awaits ≡ 2 → (r ≡ Value u q) × (left ≡ unbound ws)
-  pub other : (awaits ≡ 2 → ⊥) → (a : Step) × (r ≡ movedBy a) × Two (formOf kind) n t p u q ws a left
+pub record Lasts (kind awaits n t q u s : ℕ) (ws : List ℕ) (r : Move) (left : List ℕ) : Type 0 where
+  pub body : awaits ≡ forBody → (r ≡ Value u s) × (left ≡ unbound ws)
+  pub other : (awaits ≡ forBody → ⊥) → (a : Step) × (r ≡ movedBy a) × Two (formOf kind) n t q u s ws a left
 
-pub record Lastable (awaits : ℕ) (ws : List ℕ) (t p u q : ℕ) : Type 0 where
-  pub operable : Operable ws t p u q
-  pub variable : awaits ≡ 2 → 1 ≤ depthIn ws
+pub record Lastable (awaits : ℕ) (ws : List ℕ) (t q u s : ℕ) : Type 0 where
+  pub operable : Operable ws t q u s
+  pub variable : awaits ≡ forBody → 1 ≤ depthIn ws
 
 pub record Restorable (ws fs : List ℕ) : Type 0 where
   pub lent : spaceSize ≤ length ws
@@ -308,14 +309,14 @@ pub record AtEnd (table ws fs : List ℕ) (t : ℕ) : Type 0 where
   pub place : ℕ
   pub returnable : Returnable table ws fs t place
 
-pub record PathEnds (table : List ℕ) (n t : ℕ) (isFirst : Bool) (kind : ℕ) (ws fs : List ℕ) (r : Walked) (left gs : List ℕ) : Type 0 where
+pub record PathEnds (table : List ℕ) (n t : ℕ) (isFirst : Bool) (wanted : ℕ) (ws fs : List ℕ) (r : Walked) (left gs : List ℕ) : Type 0 where
   pub ends : (limit bound base q : ℕ) (ground : List Symbolic) (ls : List Leaf) → Returning limit table bound base ground ws fs t q ls
-      → WalkOf limit table bound base ground n (pick isFirst (firstType ls) kind) left gs ls r
+      → WalkOf limit table bound base ground n (pick isFirst (firstType ls) wanted) left gs ls r
 
 -- a path from node m on
-pub record Walks (limit : ℕ) (table : List ℕ) (n m : ℕ) (isFirst : Bool) (kind : ℕ) (ws fs : List ℕ) (r : Walked) (left gs : List ℕ) : Type 0 where
+pub record Walks (limit : ℕ) (table : List ℕ) (n m : ℕ) (isFirst : Bool) (wanted : ℕ) (ws fs : List ℕ) (r : Walked) (left gs : List ℕ) : Type 0 where
   pub walked : (bound base : ℕ) (ground : List Symbolic) (ls : List Leaf) → Entering limit table bound base ground ws fs m ls
-      → WalkOf limit table bound base ground n (pick isFirst (firstType ls) kind) left gs ls r
+      → WalkOf limit table bound base ground n (pick isFirst (firstType ls) wanted) left gs ls r
 
 pub record Walkable (limit : ℕ) (table ws fs : List ℕ) (n m : ℕ) : Type 0 where
   pub can : Enterable limit table ws fs m

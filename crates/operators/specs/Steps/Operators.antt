@@ -10,7 +10,8 @@ use lib.ListN.{length, getElem?, drop, length-set, length-append}
 use lib.Seq.{sets}
 use Rattle.script.specs.Code.Forms.{formOf, severalBy, other-form}
 use Rattle.script.specs.Answers.{kindOf, bitsOf}
-use Rattle.script.specs.Rows.{intForm, varForm, ifForm, letForm, truthForm, rows, kindFor, refOp, getOp, eqOp, setOp}
+use Rattle.script.specs.Rows.{intForm, varForm, ifForm, letForm, truthForm, rows, refOp, getOp, eqOp, setOp}
+use Rattle.script.specs.Rows.Kinds.{kindFor}
 use Rattle.script.specs.Rows.Laws.{NoneOf, none-left, but, unaryForms, binaryForms}
 use Rattle.script.specs.declared.Node.{Node}
 use Rattle.script.specs.declared.Value.{Value}

@@ -7,7 +7,8 @@ use native.Mathlib.Omega.{arith}
 use lib.ListN.{length, take, length-append}
 use lib.Seq.{take-take}
 use Rattle.script.specs.Code.Forms.{formOf, severalBy, leaf-kinds, nodeIn, treeIn, formed-less}
-use Rattle.script.specs.Rows.{Form, intForm, varForm, ifForm, letForm, typedForm, symForm, truthForm, unaryForm, binaryForm, leafKinds, nodeOperands}
+use Rattle.script.specs.Rows.{Form, intForm, varForm, ifForm, letForm, typedForm, symForm, truthForm, unaryForm, binaryForm, nodeOperands}
+use Rattle.script.specs.Rows.Kinds.{leafKinds}
 use Rattle.script.specs.Tree.{Expr, size}
 use Rattle.script.specs.declared.Node.{Node}
 use Rattle.script.specs.declared.Value.{Value}

@@ -11,7 +11,8 @@ use borrow.Author.Tests.{not-false, le-leb, leb-true, leb-false, eqb-true, eqb-f
 use Rattle.script.specs.Code.TableTests.Laws.{same-node}
 use Rattle.script.specs.Flat.{FormedNodes, nodesIn}
 use Rattle.script.specs.Flat.Laws.{nodesIn-holds}
-use Rattle.script.specs.Rows.{Row, Form, BinaryOp, intForm, varForm, ifForm, letForm, typedForm, symForm, truthForm, unaryForm, binaryForm, rows, rowOf, kindFor, kindCount, leafKinds, numberUpTo, countBy, operandCount, takesBy, takesIn, takesOf, nodesOnly, nodeOperands}
+use Rattle.script.specs.Rows.{Row, Form, BinaryOp, intForm, varForm, ifForm, letForm, typedForm, symForm, truthForm, unaryForm, binaryForm, rows, rowOf, numberUpTo, countBy, operandCount, takesBy, takesIn, takesOf, nodesOnly, nodeOperands}
+use Rattle.script.specs.Rows.Kinds.{kindCount, kindFor, leafKinds}
 use Rattle.script.specs.Rows.Laws.{formBy, row-form, form-row, countOf, row-count, row-kind, NoneOf, unaryForms, elsewhere, other-row}
 use Rattle.script.specs.Table.{nodeAt, rightNode, wellFormed}
 use Rattle.script.specs.Table.Laws.{formed-at}

@@ -10,7 +10,8 @@ use lib.Dec.{leb, eqb}
 use lib.ListN.{getElem?, length, getD, replicate}
 use borrow.Author.Tests.{not-false, eqb-true, ne-eqb, leb-true}
 use Rattle.script.specs.Limits.{variableLimit, wordLimit}
-use Rattle.script.specs.Rows.{Row, Form, rows, rowOf, kindFor, kindCount, countBy, operandCount, takesIn, takesOf, nodesOnly, nodeOperands, intForm, varForm, ifForm, letForm, typedForm, symForm, truthForm, unaryForm, binaryForm, notOp, refOp, getOp, addOp, eqOp, andOp, setOp}
+use Rattle.script.specs.Rows.{Row, Form, rows, rowOf, countBy, operandCount, takesIn, takesOf, nodesOnly, nodeOperands, intForm, varForm, ifForm, letForm, typedForm, symForm, truthForm, unaryForm, binaryForm, notOp, refOp, getOp, addOp, eqOp, andOp, setOp}
+use Rattle.script.specs.Rows.Kinds.{kindCount, kindFor}
 use Rattle.script.specs.Tests.{pick, lowestFrom}
 use Rattle.script.specs.Tests.Laws.{all-getElem?, lowest-none, some-not-none}
 use Rattle.script.specs.declared.table.Takes.{Takes}

@@ -6,7 +6,8 @@ use Prim.Native.Nat.{ℕ, suc, _-_}
 use lib.ListN.{length, replicate}
 use Rattle.script.specs.Answers.{numberOf, placeOf}
 use Rattle.script.specs.Limits.{nodeLimit, entryLimit}
-use Rattle.script.specs.Rows.{rows, rowOf, kindCount}
+use Rattle.script.specs.Rows.{rows, rowOf}
+use Rattle.script.specs.Rows.Kinds.{kindCount}
 use Rattle.script.specs.Table.{Table, nodeOf, unused, wellFormed, operands, timesIn, uses, symsAround, tooDeep, treeTest, nodesTest, tableTest}
 use Rattle.script.specs.Tests.{lowestFrom}
 use Rattle.script.specs.declared.Node.{Node}

@@ -9,7 +9,8 @@ use lib.Dec.{eqb}
 use lib.ListN.{length, take, drop, getD, List·getD-eq-default}
 use lib.Seq.{take-suc, drop-cons, length-take-le, getD-take}
 use borrow.Author.Tests.{eqb-true, eqb-false}
-use Rattle.script.specs.Rows.{Row, symForm, rows, rowOf, kindFor, numberUpTo, takesBy, takesIn, takesOf, countBy, operandCount, nodesOnly, nodeOperands}
+use Rattle.script.specs.Rows.{Row, symForm, rows, rowOf, numberUpTo, takesBy, takesIn, takesOf, countBy, operandCount, nodesOnly, nodeOperands}
+use Rattle.script.specs.Rows.Kinds.{kindFor}
 use Rattle.script.specs.Rows.Laws.{none-left, but, other-row, node-operands-most}
 use Rattle.script.specs.Table.{unused, nodeAt, fields, wellFormed, nodesAmong, operandsBy, operands, timesIn, uses, symBy, isSymNode, symsAround}
 use Rattle.script.specs.Table.Laws.{not-before}

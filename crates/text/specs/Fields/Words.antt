@@ -9,7 +9,8 @@ use lib.Dec.{leb}
 use lib.ListN.{length, getD, getElem?, take, drop, replicate, length-append, length-replicate}
 use lib.Seq.{drop-drop, take-append-le, take-append-seam, drop-append-seam}
 use borrow.Author.Tests.{leb-true}
-use Rattle.script.specs.Rows.{Row, rows, rowOf, kindCount}
+use Rattle.script.specs.Rows.{Row, rows, rowOf}
+use Rattle.script.specs.Rows.Kinds.{kindCount}
 use Rattle.script.specs.Rows.Laws.{row-some}
 use Rattle.script.specs.Tests.{all, lowest}
 use Rattle.script.specs.Tests.Laws.{both-true, lowest-some}

@@ -6,7 +6,8 @@ use Prim.Native.Nat.{ℕ, _+_, _*_, _≤_, _<_}
 use lib.Dec.{leb, eqb}
 use lib.ListN.{length}
 use borrow.Author.Tests.{not-true, not-false, eqb-true, leb-true}
-use Rattle.script.specs.Rows.{Row, rows, rowOf, kindCount, numberUpTo, operandCount}
+use Rattle.script.specs.Rows.{Row, rows, rowOf, numberUpTo, operandCount}
+use Rattle.script.specs.Rows.Kinds.{kindCount}
 use Rattle.script.specs.Rows.Laws.{row-kind, operands-most}
 use Rattle.script.specs.Tests.{all, lowestFrom}
 use Rattle.script.specs.Tests.Laws.{all-getElem?, lowest-none, true-or-false}

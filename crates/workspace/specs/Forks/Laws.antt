@@ -8,7 +8,7 @@ use lib.Seq.{getD-set-same, getD-set-other}
 use Rattle.terms.specs.Places.{countAt, rowsEnd}
 use Rattle.terms.specs.Terms.{countIn}
 use Rattle.workspace.specs.Forks.{forkedIn, small, manyRows, savedFrame, savedCount, savedNext, savedCondition, savedWrites, savedStart, savedDepth, Forkable, Forks, Rewound, RestoredOne}
-use Rattle.workspace.specs.Frames.{frameIn, upOf, firstOf, secondOf, awaitsOf, forBody}
+use Rattle.workspace.specs.Frames.{frameIn, firstOf, secondOf, awaitsOf, forBody}
 use Rattle.workspace.specs.Places.{conditionAt, depthAt, forkAt, forkedAt, framesSize, goalAt, knownAt, logAt, nextAt, spaceSize, startAt, topAt, writesAt}
 use Rattle.workspace.specs.State.{nextIn, conditionIn, writesIn, startIn, depthIn}
 

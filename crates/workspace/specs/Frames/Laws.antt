@@ -9,7 +9,8 @@ use lib.ListN.{length, getD, set, length-set}
 use lib.Seq.{getD-set-same, getD-set-other}
 use borrow.Author.Tests.{leb-true, leb-false, le-leb, lt-leb, eq-eqb, ne-eqb}
 use Rattle.script.specs.Code.Forms.{nodeIn, treeIn, some-operand, formed-less}
-use Rattle.script.specs.Rows.{typedForm, kindFor, leafKinds}
+use Rattle.script.specs.Rows.{typedForm}
+use Rattle.script.specs.Rows.Kinds.{kindFor, leafKinds}
 use Rattle.script.specs.Tree.{Expr, int, truth, var, unary, binary, ifElse, letIn, typedBlock, symBlock, size}
 use Rattle.workspace.specs.Frames.{frameIn, topIn, waitsFor, Waitable, Waits, Descendable, upTo, forFirst}
 use Rattle.workspace.specs.Places.{frameWidth, goalAt, topAt}

@@ -6,7 +6,8 @@ use Prim.Native.Nat.{ℕ, suc, _≤_, _<_}
 use native.Mathlib.Omega.{arith}
 use Rattle.script.specs.Code.Forms.{formOf, form-at, no-form, other-form, form-is, form-operands, leaf-kinds, nodeIn, treeIn, viewed}
 use Rattle.script.specs.Flat.{FormedNodes, nodesIn}
-use Rattle.script.specs.Rows.{Form, varForm, ifForm, rows, kindFor, leafKinds, nodeOperands}
+use Rattle.script.specs.Rows.{Form, varForm, ifForm, rows, nodeOperands}
+use Rattle.script.specs.Rows.Kinds.{kindFor, leafKinds}
 use Rattle.script.specs.Rows.Laws.{none-left, but}
 use Rattle.script.specs.Tests.Laws.{or-first, or-second}
 use Rattle.script.specs.Tree.{Expr}

@@ -8,7 +8,7 @@ use native.Mathlib.Omega.{arith}
 use lib.ListN.{length, getD, set, length-set}
 use lib.Seq.{getD-set-same, getD-set-other}
 use borrow.Author.Tests.{le-leb, lt-leb, lt-ltb, le-ltb}
-use Rattle.script.specs.Limits.{deepest, typeLimit, nodeLimit}
+use Rattle.script.specs.Limits.{typeLimit, nodeLimit}
 use Rattle.script.specs.Rows.{unaryForm, binaryForm, refOp, getOp, setOp}
 use Rattle.script.specs.declared.Refusal.the-variants.{WrongType, TooManyReferences, InconsistentLog}
 use Rattle.rules.specs.Paths.{Path, ends, taken, forget, consistent, lookup}
@@ -27,7 +27,7 @@ use Rattle.workspace.specs.Paths.Conditions.{ruled-refl}
 use Rattle.workspace.specs.Paths.Symbols.{fresh-reference}
 use Rattle.workspace.specs.Places.{conditionAt, depthAt, nextAt, spaceSize, startAt, writesAt}
 use Rattle.workspace.specs.Rules.{oneExec, twoExec, Ruled, One, Two, After}
-use Rattle.workspace.specs.State.{nextIn, writesIn, startIn, depthIn, Means, wordRow, truthRow, referencePlace, noWrite, PathIn, Room, Went, Unnoted, Yields, ending, stopping}
+use Rattle.workspace.specs.State.{nextIn, writesIn, startIn, depthIn, Means, wordRow, truthRow, referencePlace, noWrite, PathIn, Room, Went, Unnoted, Yields, ending, stopping, deepest}
 use Rattle.workspace.specs.State.Laws.{still-known, path-moved, means-type, means-kept, went-trans, room-on, unnoted-trans}
 use Rattle.workspace.specs.declared.Found.{Found}
 use Rattle.workspace.specs.declared.Found.the-variants.{Value, Nothing}

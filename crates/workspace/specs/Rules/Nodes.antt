@@ -7,7 +7,8 @@ use native.Mathlib.Omega.{arith}
 use lib.ListN.{length}
 use Rattle.script.specs.Code.Forms.{formOf, form-at, severalBy, no-form, form-is, form-operands, kind-operands, nodeIn, treeIn, viewed}
 use Rattle.script.specs.Flat.{FormedNodes, nodesIn}
-use Rattle.script.specs.Rows.{Form, ifForm, letForm, typedForm, symForm, unaryForm, binaryForm, UnaryOp, BinaryOp, kindFor, nodeOperands}
+use Rattle.script.specs.Rows.{Form, ifForm, letForm, typedForm, symForm, unaryForm, binaryForm, UnaryOp, BinaryOp, nodeOperands}
+use Rattle.script.specs.Rows.Kinds.{kindFor}
 use Rattle.script.specs.Tree.{Expr, size}
 use Rattle.script.specs.Tree.Laws.{Unrolled, is-int, is-truth, is-var, is-unary, is-binary, is-if, is-let, is-typed, is-sym}
 use Rattle.script.specs.declared.Checked.{Checked}

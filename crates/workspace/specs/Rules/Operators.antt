@@ -8,7 +8,8 @@ use lib.ListN.{length, getD}
 use lib.Dec.{eqb}
 use borrow.Author.Tests.{eqb-true, lt-ltb, le-ltb, eq-eqb, ne-eqb}
 use Rattle.script.specs.Code.Forms.{formOf, form-at, other-form}
-use Rattle.script.specs.Rows.{Form, intForm, varForm, truthForm, unaryForm, binaryForm, rows, rowOf, kindFor, notOp, addOp, eqOp, andOp}
+use Rattle.script.specs.Rows.{Form, intForm, varForm, truthForm, unaryForm, binaryForm, rows, rowOf, notOp, addOp, eqOp, andOp}
+use Rattle.script.specs.Rows.Kinds.{kindFor}
 use Rattle.script.specs.Rows.Laws.{NoneOf, unaryForms, binaryForms}
 use Rattle.script.specs.declared.Node.{Node}
 use Rattle.script.specs.declared.Refusal.the-variants.{WrongType, UnknownVariable}

@@ -8,7 +8,8 @@ use native.Mathlib.Omega.{arith}
 use lib.Dec.{eqb}
 use borrow.Author.Tests.{eqb-true, eqb-false}
 use Rattle.script.specs.Code.Forms.{formOf, kind-operands, leaf-kinds, nodeIn, treeIn, formed-less}
-use Rattle.script.specs.Rows.{ifForm, symForm, kindFor, leafKinds, nodeOperands}
+use Rattle.script.specs.Rows.{ifForm, symForm, nodeOperands}
+use Rattle.script.specs.Rows.Kinds.{kindFor, leafKinds}
 use Rattle.script.specs.declared.Checked.{Checked}
 use Rattle.script.specs.declared.Checked.the-variants.{Accepted, Refused}
 use Rattle.script.specs.declared.Refusal.{Refusal}

@@ -8,8 +8,9 @@ use lib.ListN.{length, set, length-set}
 use lib.Seq.{getD-set-same, getD-set-other}
 use borrow.Author.Tests.{eq-eqb, ne-eqb, le-leb, lt-leb}
 use Rattle.script.specs.Code.Forms.{formOf, form-at, severalBy, other-form}
-use Rattle.script.specs.Limits.{deepest, typeLimit}
-use Rattle.script.specs.Rows.{intForm, varForm, letForm, rows, kindFor, notOp, refOp, getOp, addOp, eqOp, andOp, setOp}
+use Rattle.script.specs.Limits.{typeLimit}
+use Rattle.script.specs.Rows.{intForm, varForm, letForm, rows, notOp, refOp, getOp, addOp, eqOp, andOp, setOp}
+use Rattle.script.specs.Rows.Kinds.{kindFor}
 use Rattle.script.specs.Rows.Laws.{NoneOf, none-left, but, unaryForms, binaryForms}
 use Rattle.script.specs.Tests.{pick}
 use Rattle.script.specs.declared.Checked.{Checked}
@@ -20,7 +21,7 @@ use Rattle.rules.specs.TypedRules.{wrong, unaryType, binaryType, ifType, truthT
 use Rattle.terms.specs.Places.{variablesEnd, symbolLimit}
 use Rattle.workspace.specs.Rules.{leafType, oneType, twoType, boundOn, BoundTypes}
 use Rattle.workspace.specs.Rules.Typed.{aside-refl}
-use Rattle.workspace.specs.State.{typesOn}
+use Rattle.workspace.specs.State.{typesOn, deepest}
 use Rattle.workspace.specs.State.Laws.{types-kept}
 
 -- ---- the rules of operators

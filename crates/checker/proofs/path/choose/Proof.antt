@@ -5,10 +5,10 @@ use Rattle.checker.proofs.path.choose.Statement.{statement}
 use Rattle.checker.proofs.path.choose.Tie as tie
 
 returns : tie.Need-returns
-returns c = let a = c .before .before .args in chooses-no-truth (a .n) (a .t) (a .p) (a .space .now) (c .if1 .taken)
+returns c = let a = c .before .before .args in chooses-no-truth (a .n) (a .t) (a .q) (a .space .now) (c .if1 .taken)
 
 decide-requires : tie.Need-decide-requires
-decide-requires c κs = decide-needs (c .before .before .before .before .args .space .now) (c .before .before .before .before .args .t) (c .before .before .before .before .args .p) (c .before .before .if1 .left) (c .before .before .before .before .pre)
+decide-requires c κs = decide-needs (c .before .before .before .before .args .space .now) (c .before .before .before .before .args .t) (c .before .before .before .before .args .q) (c .before .before .if1 .left) (c .before .before .before .before .pre)
 
 with-guard-requires : tie.Need-with-guard-requires
 with-guard-requires c κs = let d = c .before .before .before .before .before .decide .ensures in let r = c .before .before .before .before .before .before .before .before .before .before .pre .room in (decided-space r d, decided-lent r d)

@@ -2,7 +2,7 @@
 -- answers s is the `requires`, l what the frame has, n its node, g that no operand had given yet, o that there are several. Assumes nothing.
 use borrow.Author.Needs.{needs}
 use native.Mathlib.Omega.{arith}
-use Rattle.checker.specs.Code.Going.Back.{more-than-one, back-framed, back-lent, back-inside, back-node, back-lastable, back-last, back-room, back-one, back-waitable, back-plain, back-deep, back-let, back-decidable, back-forked, back-branch}
+use Rattle.checker.specs.Code.Going.OneFrame.{more-than-one, back-framed, back-lent, back-inside, back-node, back-lastable, back-last, back-room, back-one, back-waitable, back-plain, back-deep, back-let, back-decidable, back-forked, back-branch}
 use Rattle.script.specs.Code.Forms.{has-one}
 use Rattle.checker.proofs.steps.back.Statement.{statement}
 use Rattle.checker.proofs.steps.back.Tie as tie

@@ -3,15 +3,15 @@ use borrow.Author.Needs.{needs}
 use native.Mathlib.Omega.{arith}
 use mathlib.Core.Path.{_∙_}
 use Rattle.workspace.specs.Frames.{frameIn}
-use Rattle.checker.specs.Code.Going.Climbing.{Climbing, climbing-start, climbing-end, climbing-on, climbing-operand, climbing-stopped}
+use Rattle.checker.specs.Code.Going.AllFrames.{Climbing, climbing-start, climbing-end, climbing-on, climbing-operand, climbing-stopped}
 use Rattle.checker.proofs.steps.climb.Statement.{statement}
 use Rattle.checker.proofs.steps.climb.Tie as tie
 
 abbrev Inv-loop : tie.InvT-loop
-Inv-loop table space₀ frames₀ t p u₀ q₀ space frames u q = Climbing table t p space₀ frames₀ space frames u q
+Inv-loop table space₀ frames₀ t q u₀ s₀ space frames u s = Climbing table t q space₀ frames₀ space frames u s
 
 abbrev μ-loop : tie.MeasureT-loop
-μ-loop table space₀ frames₀ t p u₀ q₀ space frames u q = frameIn frames
+μ-loop table space₀ frames₀ t q u₀ s₀ space frames u s = frameIn frames
 
 loop-holds : tie.Need-loop-holds Inv-loop μ-loop
 loop-holds c =

@@ -7,7 +7,8 @@ use lib.ListN.{length, getD}
 use Rattle.script.specs.Code.Forms.{formOf, leaf-kinds, nodeIn, treeIn, some-operand, formed-less}
 use Rattle.script.specs.Flat.{HasNode}
 use Rattle.script.specs.Limits.{nodeLimit}
-use Rattle.script.specs.Rows.{typedForm, kindFor, leafKinds, nodeOperands}
+use Rattle.script.specs.Rows.{typedForm, nodeOperands}
+use Rattle.script.specs.Rows.Kinds.{kindFor, leafKinds}
 use Rattle.script.specs.declared.Checked.{Checked}
 use Rattle.script.specs.declared.Checked.the-variants.{Accepted, Refused}
 use Rattle.script.specs.declared.Refusal.{Refusal}
@@ -29,7 +30,7 @@ use Rattle.workspace.specs.State.Laws.{still-known, room-same, variables-kept, 
 use Rattle.workspace.specs.declared.Step.{Step}
 use Rattle.workspace.specs.declared.Step.the-variants.{Gave, Stopped}
 use Rattle.checker.specs.Code.Going.{goOn, Stands, Entering, Returning, Enterable, Returnable, came-stopped, Climbs, Arrives, Leafable, LeafArrives}
-use Rattle.checker.specs.Code.Going.Climbing.{stopped-not-operand, stopped-not-value}
+use Rattle.checker.specs.Code.Going.AllFrames.{stopped-not-operand, stopped-not-value}
 use Rattle.checker.specs.Code.Going.Keeping.{stands-base, stands-noting, stands-by, awaits-kept}
 use Rattle.checker.specs.Code.Going.Steps.{enters-formed, Gives, gives, gives-none, yields-gives}
 use Rattle.checker.specs.declared.steps.Move.{Move}

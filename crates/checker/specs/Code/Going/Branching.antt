@@ -10,7 +10,7 @@ use Rattle.rules.specs.Paths.{Path}
 use Rattle.rules.specs.Symbolic.{Symbolic}
 use Rattle.terms.specs.Places.{symbolLimit}
 use Rattle.terms.specs.Terms.{Space, ofConjunction}
-use Rattle.workspace.specs.Frames.{Waitable, Waits}
+use Rattle.workspace.specs.Frames.{Waitable, Waits, forBody, forNext}
 use Rattle.workspace.specs.Forks.{forkedIn, Forkable, Forks}
 use Rattle.workspace.specs.Paths.{assumed, forgotten}
 use Rattle.workspace.specs.Paths.Conditions.{learns-set, learnt-room}
@@ -27,11 +27,11 @@ use Rattle.checker.specs.declared.steps.Move.the-variants.{Value, Operan
 
 -- ---- the last operand
 
-pub lasts-body : {kind awaits n t p u q : ℕ} {ws left : List ℕ} → awaits ≡ 2 → left ≡ unbound ws → Lasts kind awaits n t p u q ws (Value u q) left
+pub lasts-body : {kind awaits n t q u s : ℕ} {ws left : List ℕ} → awaits ≡ forBody → left ≡ unbound ws → Lasts kind awaits n t q u s ws (Value u s) left
 lasts-body e l = record { body = λ _. (refl, l); other = λ d. absurd (d e) }
 
-pub lasts-other : {kind awaits n t p u q : ℕ} {ws left : List ℕ} {a : Step} {r : Move} → (awaits ≡ 2 → ⊥) → r ≡ movedBy a
-    → Two (formOf kind) n t p u q ws a left → Lasts kind awaits n t p u q ws r left
+pub lasts-other : {kind awaits n t q u s : ℕ} {ws left : List ℕ} {a : Step} {r : Move} → (awaits ≡ forBody → ⊥) → r ≡ movedBy a
+    → Two (formOf kind) n t q u s ws a left → Lasts kind awaits n t q u s ws r left
 lasts-other {a = a} d e w = record { body = λ x. absurd (d x); other = λ _. (a, e, w) }
 
 -- ---- the branch
@@ -84,7 +84,7 @@ both-forkable {ws = ws} {gs = gs} d e h narrow w can l f = rw (both-same d e h) 
           depth = omega arith;
         }
 
-module _ {b c n t q : ℕ} {ws fs left gs : List ℕ} {r : Branch} (w : Waits n 1 t q fs gs) (h : Chooses n t q ws r left) where
+module _ {b c n t q : ℕ} {ws fs left gs : List ℕ} {r : Branch} (w : Waits n forNext t q fs gs) (h : Chooses n t q ws r left) where
   pub branched-first : r ≡ First → Branched b c n t q ws fs left gs (Operand b)
   branched-first e = to-first w (rw e at h)
 

@@ -23,13 +23,13 @@ use Rattle.checker.specs.declared.nodes.Walked.the-variants.{Wrong, Last
 -- ---- the end of a path
 
 -- a path whose type is the first's, or is not
-right-type : (t kind : ℕ) (first : Bool) → (first || eqb t kind) ≡ true → pick first t kind ≡ t
-right-type t kind true e = refl
-right-type t kind false e = sym (eqb-true t kind e)
+right-type : (t wanted : ℕ) (first : Bool) → (first || eqb t wanted) ≡ true → pick first t wanted ≡ t
+right-type t wanted true e = refl
+right-type t wanted false e = sym (eqb-true t wanted e)
 
-other-type : (t kind : ℕ) (first : Bool) → (first || eqb t kind) ≡ false → eqb t (pick first t kind) ≡ false
-other-type t kind true e = absurd (false≢true (sym e))
-other-type t kind false e = e
+other-type : (t wanted : ℕ) (first : Bool) → (first || eqb t wanted) ≡ false → eqb t (pick first t wanted) ≡ false
+other-type t wanted true e = absurd (false≢true (sym e))
+other-type t wanted false e = e
 
 -- nothing waits where no frame is left
 none-waits : {table : List ℕ} {bound base : ℕ} {ground : List Symbolic} {ws fs : List ℕ} {f depth owed frames : ℕ} {env : List Symbolic} {ks : List Later}
@@ -57,39 +57,39 @@ module _ {limit : ℕ} {table : List ℕ} {bound base : ℕ} {ground : List Symb
   consistent-here : {b : Bool} → consistentIn ws ≡ b → consistent (r .path) ≡ b
   consistent-here e = sym (consistent-is (r .stands .state .path .log)) ∙ e
 
-  module _ (n : ℕ) (isFirst : Bool) (kind : ℕ) where
-    first-is : pick isFirst (firstType ls) kind ≡ pick isFirst t kind
-    first-is = ap (λ (u : ℕ). pick isFirst u kind) (ap firstType ends-is ∙ type-is)
+  module _ (n : ℕ) (isFirst : Bool) (wanted : ℕ) where
+    first-is : pick isFirst (firstType ls) wanted ≡ pick isFirst t wanted
+    first-is = ap (λ (u : ℕ). pick isFirst u wanted) (ap firstType ends-is ∙ type-is)
 
     pub end-inconsistent : {left gs : List ℕ} → consistentIn ws ≡ false
-        → WalkOf limit table bound base ground n (pick isFirst (firstType ls) kind) left gs ls (Wrong (InconsistentLog n))
+        → WalkOf limit table bound base ground n (pick isFirst (firstType ls) wanted) left gs ls (Wrong (InconsistentLog n))
     unfolding judge
-    end-inconsistent e = refused {x = InconsistentLog n} λ k. ap (judge n (suc k) (pick isFirst (firstType ls) kind)) ends-is ∙ rw (consistent-here e) refl
+    end-inconsistent e = refused {x = InconsistentLog n} λ k. ap (judge n (suc k) (pick isFirst (firstType ls) wanted)) ends-is ∙ rw (consistent-here e) refl
 
     module _ (e : consistentIn ws ≡ true) where
-      pub end-other : {left gs : List ℕ} → (isFirst || eqb t kind) ≡ false
-          → WalkOf limit table bound base ground n (pick isFirst (firstType ls) kind) left gs ls (Wrong (PathTypesDiffer n))
+      pub end-other : {left gs : List ℕ} → (isFirst || eqb t wanted) ≡ false
+          → WalkOf limit table bound base ground n (pick isFirst (firstType ls) wanted) left gs ls (Wrong (PathTypesDiffer n))
       unfolding judge
       end-other d =
           refused {x = PathTypesDiffer n} λ k.
-          ap (judge n (suc k) (pick isFirst (firstType ls) kind)) ends-is ∙ rw (consistent-here e, type-is, first-is, other-type t kind isFirst d) refl
+          ap (judge n (suc k) (pick isFirst (firstType ls) wanted)) ends-is ∙ rw (consistent-here e, type-is, first-is, other-type t wanted isFirst d) refl
 
-      module _ (y : (isFirst || eqb t kind) ≡ true) where
-        right : pick isFirst (firstType ls) kind ≡ t
-        right = first-is ∙ right-type t kind isFirst y
+      module _ (y : (isFirst || eqb t wanted) ≡ true) where
+        right : pick isFirst (firstType ls) wanted ≡ t
+        right = first-is ∙ right-type t wanted isFirst y
 
-        goes : (k : ℕ) → judge n (suc k) (pick isFirst (firstType ls) kind) ls ≡ judge n k (pick isFirst (firstType ls) kind) (r .others)
+        goes : (k : ℕ) → judge n (suc k) (pick isFirst (firstType ls) wanted) ls ≡ judge n k (pick isFirst (firstType ls) wanted) (r .others)
         unfolding judge
-        goes k = ap (judge n (suc k) (pick isFirst (firstType ls) kind)) ends-is ∙ rw (consistent-here e, type-is, right, eq-eqb t t refl) refl
+        goes k = ap (judge n (suc k) (pick isFirst (firstType ls) wanted)) ends-is ∙ rw (consistent-here e, type-is, right, eq-eqb t t refl) refl
 
-        pub end-last : {left gs : List ℕ} → forkedIn fs ≡ 0 → WalkOf limit table bound base ground n (pick isFirst (firstType ls) kind) left gs ls (Last t)
+        pub end-last : {left gs : List ℕ} → forkedIn fs ≡ 0 → WalkOf limit table bound base ground n (pick isFirst (firstType ls) wanted) left gs ls (Last t)
         unfolding judge
         end-last z =
             lasted λ k.
-            goes k ∙ ap (judge n k (pick isFirst (firstType ls) kind)) (none-left-of (r .stands .left) z) ∙ ap Accepted right
+            goes k ∙ ap (judge n k (pick isFirst (firstType ls) wanted)) (none-left-of (r .stands .left) z) ∙ ap Accepted right
 
         pub end-more : {left gs : List ℕ} {m : ℕ} → Resumes table ws fs m left gs
-            → WalkOf limit table bound base ground n (pick isFirst (firstType ls) kind) left gs ls (More t m)
+            → WalkOf limit table bound base ground n (pick isFirst (firstType ls) wanted) left gs ls (More t m)
         end-more u =
             went-on (r .others) right
             (u .resumed limit bound base ground (r .environment) (r .path) (r .later) (r .owed) (r .frames) (r .others) (r .stands)) goes
@@ -114,21 +114,21 @@ module _ {limit : ℕ} {table : List ℕ} {bound base : ℕ} {ground : List Symb
 
 -- ---- as the code ends a path
 
-module _ {table ws fs : List ℕ} {t n : ℕ} {isFirst : Bool} {kind : ℕ} (x : AtEnd table ws fs t) {a : Bool} (c : a ≡ consistentIn ws) where
-  pub path-inconsistent : not a ≡ true → PathEnds table n t isFirst kind ws fs (Wrong (InconsistentLog n)) ws fs
+module _ {table ws fs : List ℕ} {t n : ℕ} {isFirst : Bool} {wanted : ℕ} (x : AtEnd table ws fs t) {a : Bool} (c : a ≡ consistentIn ws) where
+  pub path-inconsistent : not a ≡ true → PathEnds table n t isFirst wanted ws fs (Wrong (InconsistentLog n)) ws fs
   path-inconsistent e =
-      record { ends = λ limit bound base q ground ls r. end-inconsistent r (x .none) n isFirst kind (sym c ∙ not-true a e) }
+      record { ends = λ limit bound base q ground ls r. end-inconsistent r (x .none) n isFirst wanted (sym c ∙ not-true a e) }
 
-  module _ (e : not a ≡ false) {b : Bool} (w : b ≡ (isFirst || eqb t kind)) where
-    pub path-other : not b ≡ true → PathEnds table n t isFirst kind ws fs (Wrong (PathTypesDiffer n)) ws fs
-    path-other d = record { ends = λ limit bound base q ground ls r. end-other r (x .none) n isFirst kind (sym c ∙ not-false a e) (sym w ∙ not-true b d) }
+  module _ (e : not a ≡ false) {b : Bool} (w : b ≡ (isFirst || eqb t wanted)) where
+    pub path-other : not b ≡ true → PathEnds table n t isFirst wanted ws fs (Wrong (PathTypesDiffer n)) ws fs
+    path-other d = record { ends = λ limit bound base q ground ls r. end-other r (x .none) n isFirst wanted (sym c ∙ not-false a e) (sym w ∙ not-true b d) }
 
     module _ (d : not b ≡ false) where
-      pub path-last : forkedIn fs ≡ 0 → PathEnds table n t isFirst kind ws fs (Last t) ws fs
-      path-last z = record { ends = λ limit bound base q ground ls r. end-last r (x .none) n isFirst kind (sym c ∙ not-false a e) (sym w ∙ not-false b d) z }
+      pub path-last : forkedIn fs ≡ 0 → PathEnds table n t isFirst wanted ws fs (Last t) ws fs
+      path-last z = record { ends = λ limit bound base q ground ls r. end-last r (x .none) n isFirst wanted (sym c ∙ not-false a e) (sym w ∙ not-false b d) z }
 
-      pub path-more : {m : ℕ} {left gs : List ℕ} → Resumes table ws fs m left gs → PathEnds table n t isFirst kind ws fs (More t m) left gs
-      path-more u = record { ends = λ limit bound base q ground ls r. end-more r (x .none) n isFirst kind (sym c ∙ not-false a e) (sym w ∙ not-false b d) u }
+      pub path-more : {m : ℕ} {left gs : List ℕ} → Resumes table ws fs m left gs → PathEnds table n t isFirst wanted ws fs (More t m) left gs
+      path-more u = record { ends = λ limit bound base q ground ls r. end-more r (x .none) n isFirst wanted (sym c ∙ not-false a e) (sym w ∙ not-false b d) u }
 
 pub path-resumable : {table ws fs : List ℕ} {t : ℕ} → AtEnd table ws fs t → (forkedIn fs ≡ 0 → ⊥) → Resumable table ws fs
 path-resumable x z = end-resumable (x .returnable .returning) (x .none) (omega arith)

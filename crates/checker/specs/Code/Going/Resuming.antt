@@ -12,7 +12,7 @@ use Rattle.rules.specs.Paths.{Path, Leaf}
 use Rattle.rules.specs.Symbolic.{Symbolic, aTruth}
 use Rattle.terms.specs.Places.{countAt, rowAt, rowsAt, variablesEnd, symbolLimit}
 use Rattle.terms.specs.Terms.{Space, Grown, ofExclusion}
-use Rattle.workspace.specs.Frames.{frameIn, topIn, nodeOf, secondOf}
+use Rattle.workspace.specs.Frames.{frameIn, topIn, waiterOf, secondOf}
 use Rattle.workspace.specs.Frames.Laws.{size-some}
 use Rattle.workspace.specs.Forks.{forkedIn, Forked, Rewound}
 use Rattle.workspace.specs.Notes.{baseIn, Kept, Noting}
@@ -126,9 +126,9 @@ module _ {limit : ℕ} {table : List ℕ} {bound base : ℕ} {ground : List Symb
       rw (frame-is, depth-is) (awaits-kept (topIn gs) (omega arith) rewound-grown frames-are (f .awaits))
 
   few-frames : topIn gs < nodeLimit
-  few-frames = let z = size-some (treeIn table (nodeIn table (nodeOf gs (frameIn gs)) .c)) in omega (arith, z, f .tops)
+  few-frames = let z = size-some (treeIn table (nodeIn table (waiterOf gs (frameIn gs)) .c)) in omega (arith, z, f .tops)
 
-  last-low : nodeOf (last .gs) (frameIn (last .gs)) < bound
+  last-low : waiterOf (last .gs) (frameIn (last .gs)) < bound
   last-low = f .low
 
   resume-restorable : Restorable ws₁ hs
@@ -220,8 +220,8 @@ module _ {limit : ℕ} {table : List ℕ} {bound base : ℕ} {ground : List Symb
 
     -- ---- its false branch
 
-    node-is : nodeOf hs (frameIn hs) ≡ nodeOf gs (frameIn gs)
-    node-is = ap (nodeOf hs) frame-is ∙ frames-are (frameWidth * frameIn gs) (omega (arith, f .newest, f .few)) (omega (arith, f .newest))
+    node-is : waiterOf hs (frameIn hs) ≡ waiterOf gs (frameIn gs)
+    node-is = ap (waiterOf hs) frame-is ∙ frames-are (frameWidth * frameIn gs) (omega (arith, f .newest, f .few)) (omega (arith, f .newest))
 
     guard-is : secondOf hs (frameIn hs) ≡ secondOf gs (frameIn gs)
     guard-is = ap (secondOf hs) frame-is ∙ frames-are (frameWidth * frameIn gs + 3) (omega (arith, f .newest, f .few)) (omega (arith, f .newest))
@@ -237,7 +237,7 @@ module _ {limit : ℕ} {table : List ℕ} {bound base : ℕ} {ground : List Symb
     guard-means : Means ws₂ 1 (secondOf hs (frameIn hs)) (aTruth (f .guard))
     guard-means = rw guard-is (means-kept all-grown (f .means))
 
-    resume-enters : Entering limit table bound base ground (assumed ws₂ ofExclusion (secondOf hs (frameIn hs))) hs (nodeIn table (nodeOf hs (frameIn hs)) .c) ls
+    resume-enters : Entering limit table bound base ground (assumed ws₂ ofExclusion (secondOf hs (frameIn hs))) hs (nodeIn table (waiterOf hs (frameIn hs)) .c) ls
     resume-enters =
         let u = assumed-ruled guard-room (learns-refl ws₂) 7 (secondOf hs (frameIn hs)) in
         record {
@@ -253,7 +253,7 @@ module _ {limit : ℕ} {table : List ℕ} {bound base : ℕ} {ground : List Symb
           low = rw node-is (f .branch);
           room =
               rw node-is
-              (room-on {n = size (treeIn table (nodeIn table (nodeOf gs (frameIn gs)) .c)) + f .owed} (resume-room (room-less (omega arith) (f .room))) (u .went));
+              (room-on {n = size (treeIn table (nodeIn table (waiterOf gs (frameIn gs)) .c)) + f .owed} (resume-room (room-less (omega arith) (f .room))) (u .went));
           tops = rw node-is (omega (arith, top-is, w .forked, last .count, f .tops));
           variables = rw node-is (omega (arith, u .depth, restored-depth, depth-is, f .variables));
           is = rw node-is (last .is ∙ ap (λ (ms : List Leaf). ms ++ last .others) (f .is));
@@ -285,19 +285,19 @@ module _ {table ws fs : List ℕ} (x : Resumable table ws fs) where
       pub guard-lent : spaceSize ≤ length ws₂
       guard-lent = guard-room (x .stands) (forkedIn fs - 1) some-is w v .lent
 
-      pub branch-node : HasNode table (nodeOf hs (frameIn hs))
+      pub branch-node : HasNode table (waiterOf hs (frameIn hs))
       branch-node =
           let e = node-is (x .stands) (forkedIn fs - 1) some-is w v in
           let l = last-low (x .stands) (forkedIn fs - 1) some-is w in
           omega (arith, e, l, x .stands .formed .room)
 
-      pub branch-few : nodeOf hs (frameIn hs) < nodeLimit
+      pub branch-few : waiterOf hs (frameIn hs) < nodeLimit
       branch-few =
           let e = node-is (x .stands) (forkedIn fs - 1) some-is w v in
           let l = last-low (x .stands) (forkedIn fs - 1) some-is w in
           omega (arith, e, l, x .stands .formed .most)
 
-      pub resumed : {left : List ℕ} → left ≡ assumed ws₂ ofExclusion (secondOf hs (frameIn hs)) → Resumes table ws fs (nodeIn table (nodeOf hs (frameIn hs)) .c) left hs
+      pub resumed : {left : List ℕ} → left ≡ assumed ws₂ ofExclusion (secondOf hs (frameIn hs)) → Resumes table ws fs (nodeIn table (waiterOf hs (frameIn hs)) .c) left hs
       resumed e =
           rw e
           (record {

@@ -8,7 +8,7 @@ use lib.Seq.{getD-set-same, getD-set-other}
 use Rattle.rules.specs.Symbolic.{Symbolic}
 use Rattle.terms.specs.Places.{symbolLimit, variablesEnd}
 use Rattle.terms.specs.Terms.{Grown}
-use Rattle.workspace.specs.Frames.{frameIn, firstOf, secondOf, goesTo}
+use Rattle.workspace.specs.Frames.{frameIn, firstOf, secondOf, goesTo, forBody}
 use Rattle.workspace.specs.Forks.{RestoredOne}
 use Rattle.workspace.specs.Notes.{baseIn}
 use Rattle.workspace.specs.Places.{baseAt}
@@ -108,7 +108,7 @@ module _ {table : List ℕ} {bound base : ℕ} {ground : List Symbolic} {ws fs x
       }
 
   -- one that does
-  upward-body : {f n g d owed frames : ℕ} {env : List Symbolic} {ks : List Later} {v : Symbolic} → RestoredOne fs f (suc d) xs r left → Slot fs f n g 2
+  upward-body : {f n g d owed frames : ℕ} {env : List Symbolic} {ks : List Later} {v : Symbolic} → RestoredOne fs f (suc d) xs r left → Slot fs f n g forBody
       → 2 * suc d ≤ length xs → suc d ≤ symbolLimit → ((k : ℕ) → variablesEnd ≤ k → getD xs k 0 ≡ getD ws k 0) → Means ws (firstOf fs f) (secondOf fs f) v
       → Awaits table bound base ground ws fs g d env ks owed frames → Upward table bound base ground ws fs f (suc d) (env ++ (v ∷ [])) xs r left
   upward-body {f = f} {g = g} {d = d} {owed = owed} {frames = frames} {env = env} {ks = ks} o s l n b m a =

@@ -14,7 +14,7 @@ use Rattle.script.specs.declared.Refusal.{Refusal}
 use Rattle.rules.specs.Checking.{exec}
 use Rattle.rules.specs.Paths.{Path, Paths, ends, stops, forks, bind, Leaf, stopped, leaves}
 use Rattle.rules.specs.Symbolic.{Symbolic}
-use Rattle.workspace.specs.Frames.{topIn, Waits, waitsFor, Descendable, Descends, down-to, down-from}
+use Rattle.workspace.specs.Frames.{topIn, Waits, waitsFor, Descendable, Descends, down-to, down-from, forFirst}
 use Rattle.workspace.specs.Frames.Laws.{waits-inner, waits-other, size-some}
 use Rattle.workspace.specs.Forks.{forkedIn}
 use Rattle.workspace.specs.Rules.{oneExec, restExec, restSize, Ruled}
@@ -54,7 +54,7 @@ module _ {limit : ℕ} {table : List ℕ} {bound base : ℕ} {ground : List Symb
       }
 
   -- node m waits for its first operand, which is next
-  pub enters-first : waitsFor (nodeIn table m .kind) ≡ true → {gs : List ℕ} → Waits m 0 0 0 fs gs
+  pub enters-first : waitsFor (nodeIn table m .kind) ≡ true → {gs : List ℕ} → Waits m forFirst 0 0 fs gs
       → Entering limit table bound base ground ws gs (nodeIn table m .a) ls
   unfolding goOn
   enters-first e {gs} w = by (eqb (nodeOperands (nodeIn table m .kind)) 1) refl

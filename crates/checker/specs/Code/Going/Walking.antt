@@ -28,7 +28,7 @@ use Rattle.workspace.specs.Rules.{Checkable, Started}
 use Rattle.workspace.specs.Rules.Nodes.{bind-ends}
 use Rattle.workspace.specs.State.{typesOn}
 use Rattle.checker.specs.Code.Going.{goOn, no-frame, none-left, Entering, Enterable, Arrives, AtEnd, PathEnds, WalkOf, refused, lasted, went-on, Walks, Walkable}
-use Rattle.checker.specs.Code.Going.Climbing.{came-returning, came-entering, came-none}
+use Rattle.checker.specs.Code.Going.AllFrames.{came-returning, came-entering, came-none}
 use Rattle.checker.specs.Code.Going.Steps.{enters-descendable, enters-descends, descends-tops}
 use Rattle.checker.specs.declared.nodes.Walked.{Walked}
 use Rattle.checker.specs.declared.nodes.Walked.the-variants.{Wrong, Last, More}
@@ -92,13 +92,13 @@ module _ {limit : ℕ} {table : List ℕ} {n m : ℕ} {ws fs left gs : List ℕ}
             goes = λ bound base ground ls q. came-entering (a .came bound base ground ls (enters-descends (w .goes bound base ground ls q) d)) e;
           }
 
-      pub walking-stopped : {isFirst : Bool} {kind : ℕ} {x : Refusal} → r ≡ Stopped x → Walks limit table n m isFirst kind ws fs (Wrong x) left₂ ks
+      pub walking-stopped : {isFirst : Bool} {wanted : ℕ} {x : Refusal} → r ≡ Stopped x → Walks limit table n m isFirst wanted ws fs (Wrong x) left₂ ks
       unfolding judge
-      walking-stopped {isFirst} {kind} {x} e =
+      walking-stopped {isFirst} {wanted} {x} e =
           record {
             walked = λ bound base ground ls q.
                 let z = came-none (a .came bound base ground ls (enters-descends (w .goes bound base ground ls q) d)) e in
-                refused {x = x} λ k. ap (judge n (suc k) (pick isFirst (firstType ls) kind)) (z .1);
+                refused {x = x} λ k. ap (judge n (suc k) (pick isFirst (firstType ls) wanted)) (z .1);
           }
 
       pub walking-end : {u s : ℕ} → r ≡ Value u s → AtEnd table left₂ ks u
@@ -117,8 +117,8 @@ module _ {limit : ℕ} {table : List ℕ} {n m : ℕ} {ws fs left gs : List ℕ}
             };
           }
 
-      pub walking-ended : {u s : ℕ} → r ≡ Value u s → {isFirst : Bool} {kind : ℕ} {v : Walked} {left₃ js : List ℕ}
-          → PathEnds table n u isFirst kind left₂ ks v left₃ js → Walks limit table n m isFirst kind ws fs v left₃ js
+      pub walking-ended : {u s : ℕ} → r ≡ Value u s → {isFirst : Bool} {wanted : ℕ} {v : Walked} {left₃ js : List ℕ}
+          → PathEnds table n u isFirst wanted left₂ ks v left₃ js → Walks limit table n m isFirst wanted ws fs v left₃ js
       walking-ended {s = s} e p =
           record {
             walked = λ bound base ground ls q.
@@ -153,7 +153,7 @@ module _ {limit : ℕ} {table : List ℕ} {bound base : ℕ} {ground : List Symb
       record { after = after; type = q ∙ cc; entering = rw (sym z) i; goes = h }
 
 -- after so many paths, the rest of the verdict is that of the leaves to come from node `next` on
-pub record Turn (table types : List ℕ) (depth limit n a : ℕ) (ws fs : List ℕ) (followed kind next : ℕ) : Type 0 where
+pub record Turn (table types : List ℕ) (depth limit n a : ℕ) (ws fs : List ℕ) (followed wanted next : ℕ) : Type 0 where
   pub whole : length ws ≡ spaceSize
   pub framed : length fs ≡ framesSize
   pub above : suc a ≤ n
@@ -161,10 +161,10 @@ pub record Turn (table types : List ℕ) (depth limit n a : ℕ) (ws fs : List �
   pub entering : Entering limit table (suc a) depth (symbols 0 (typesOn types depth)) ws fs next to-come
   pub rest : verdict n limit (leaves (exec limit (treeIn table a) (symbols 0 (typesOn types depth)) (start depth)))
       ≡ judge n (limit - followed) (firstType (leaves (exec limit (treeIn table a) (symbols 0 (typesOn types depth)) (start depth)))) to-come
-  pub type : pick (eqb followed 0) (firstType to-come) kind
+  pub type : pick (eqb followed 0) (firstType to-come) wanted
       ≡ firstType (leaves (exec limit (treeIn table a) (symbols 0 (typesOn types depth)) (start depth)))
 
-module _ {table types : List ℕ} {depth limit n a : ℕ} {ws fs : List ℕ} {followed kind next : ℕ} (u : Turn table types depth limit n a ws fs followed kind next) where
+module _ {table types : List ℕ} {depth limit n a : ℕ} {ws fs : List ℕ} {followed wanted next : ℕ} (u : Turn table types depth limit n a ws fs followed wanted next) where
   abbrev whole-verdict : Paths
   whole-verdict = exec limit (treeIn table a) (symbols 0 (typesOn types depth)) (start depth)
 
@@ -185,11 +185,11 @@ module _ {table types : List ℕ} {depth limit n a : ℕ} {ws fs : List ℕ} {fo
       let e : u .to-come ≡ s .0 ∷ (s .1 ++ q .others) = q .is ∙ ap (λ (ls : List Leaf). ls ++ q .others) (s .2) in
       sym (u .rest ∙ rw (z, e) refl)
 
-  module _ (l : followed < limit) {w : Walked} {left gs : List ℕ} (k : Walks limit table n next (eqb followed 0) kind ws fs w left gs) where
+  module _ (l : followed < limit) {w : Walked} {left gs : List ℕ} (k : Walks limit table n next (eqb followed 0) wanted ws fs w left gs) where
     abbrev first : ℕ
-    first = pick (eqb followed 0) (firstType (u .to-come)) kind
+    first = pick (eqb followed 0) (firstType (u .to-come)) wanted
 
-    walked : WalkOf limit table (suc a) depth (symbols 0 (typesOn types depth)) n (pick (eqb followed 0) (firstType (u .to-come)) kind) left gs (u .to-come) w
+    walked : WalkOf limit table (suc a) depth (symbols 0 (typesOn types depth)) n (pick (eqb followed 0) (firstType (u .to-come)) wanted) left gs (u .to-come) w
     walked = k .walked (suc a) depth (symbols 0 (typesOn types depth)) (u .to-come) (u .entering)
 
     next-rest : verdict n limit (leaves whole-verdict) ≡ judge n (suc (limit - suc followed)) first (u .to-come)

@@ -3,7 +3,8 @@ use borrow.Author.Needs.{needs}
 use mathlib.Core.Path.{sym, ap, _∙_}
 use Prim.Native.Nat.{_-_}
 use native.Mathlib.Omega.{arith}
-use Rattle.script.specs.Rows.{rows, kindCount}
+use Rattle.script.specs.Rows.{rows}
+use Rattle.script.specs.Rows.Kinds.{kindCount}
 use Rattle.script.specs.Tests.Loops.{Looked, look, look-on, look-found, look-none}
 use Rattle.text.specs.Fields.Words.{word-most, word-part, word-is, isKindOf, kind-lowest}
 use Rattle.text.specs.Code.Scan.{saidBy}

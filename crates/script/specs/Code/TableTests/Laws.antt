@@ -12,7 +12,8 @@ use lib.Seq.{getD-take, length-take-le}
 use borrow.Author.Tests.{lt-ltb, le-ltb}
 use Rattle.script.specs.Flat.{nodesIn}
 use Rattle.script.specs.Flat.Laws.{nodesIn-holds}
-use Rattle.script.specs.Rows.{Row, rowOf, kindCount, numberUpTo, takesBy, takesIn, takesOf, countBy, operandCount}
+use Rattle.script.specs.Rows.{Row, rowOf, numberUpTo, takesBy, takesIn, takesOf, countBy, operandCount}
+use Rattle.script.specs.Rows.Kinds.{kindCount}
 use Rattle.script.specs.Rows.Laws.{row-some, row-none}
 use Rattle.script.specs.Table.{unused, nodeAt, fields, rightOperands, rightNode, wellFormed, uses, treeTest, nodesTest}
 use Rattle.script.specs.Code.TableTests.{Lent, rightOperand, rightField, operandsTest, usesTest, depthsTest}

@@ -8,7 +8,8 @@ use native.Mathlib.Omega.{arith}
 use lib.Dec.{ltb}
 use lib.ListN.{length, getD, take, drop, length-append}
 use lib.Seq.{drop-cons, getD-take, drop-length, length-take-le}
-use Rattle.script.specs.Rows.{Row, rowOf, kindCount, countBy, operandCount}
+use Rattle.script.specs.Rows.{Row, rowOf, countBy, operandCount}
+use Rattle.script.specs.Rows.Kinds.{kindCount}
 use Rattle.script.specs.Rows.Laws.{row-some}
 use Rattle.script.specs.Table.{nodeAt, unused}
 use Rattle.script.specs.declared.Node.{Node}

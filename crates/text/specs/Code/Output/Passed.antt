@@ -11,7 +11,7 @@ use lib.ListN.{length, take, length-append}
 use lib.Seq.{getD-take}
 use Rattle.script.specs.Flat.{nodeWidth, nodesIn, tableIn}
 use Rattle.script.specs.Flat.Laws.{length-nodesIn}
-use Rattle.script.specs.Rows.{kindCount}
+use Rattle.script.specs.Rows.Kinds.{kindCount}
 use Rattle.script.specs.Rows.Laws.{row-kind}
 use Rattle.script.specs.Table.{Table, nodesOf, entriesOf, nodeAt, unused, tableTest}
 use Rattle.script.specs.Table.Laws.{passes, formed-at}

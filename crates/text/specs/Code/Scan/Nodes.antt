@@ -9,8 +9,9 @@ use native.Mathlib.Omega.{arith}
 use lib.Dec.{ltb}
 use lib.ListN.{length, drop}
 use borrow.Author.Tests.{ltb-true, ltb-false}
-use Rattle.script.specs.Rows.{Row, rowOf, kindCount, operandCount, takesIn, takesOf}
+use Rattle.script.specs.Rows.{Row, rowOf, operandCount, takesIn, takesOf}
 use Rattle.script.specs.Rows as Rows
+use Rattle.script.specs.Rows.Kinds.{kindCount}
 use Rattle.script.specs.Rows.Laws.{row-some}
 use Rattle.script.specs.Table.{nodeOf}
 use Rattle.script.specs.Tests.{pick}

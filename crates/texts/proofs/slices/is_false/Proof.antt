@@ -2,9 +2,10 @@
 use borrow.Author.Tests.{eq-eqb, ne-eqb}
 use mathlib.Core.Bool.{false}
 use mathlib.Core.Path.{refl}
-use Rattle.script.specs.Rows.{truthForm, kindFor}
+use Rattle.script.specs.Rows.{truthForm}
 use Rattle.texts.proofs.slices.is_false.Statement.{statement}
 use Rattle.texts.proofs.slices.is_false.Tie as tie
+use Rattle.script.specs.Rows.Kinds.{kindFor}
 
 returns-3 : tie.Need-returns-3
 returns-3 c =

@@ -8,9 +8,10 @@ use native.Mathlib.Omega.{arith}
 use lib.ListN.{getD, set, length-set}
 use lib.Seq.{getD-set-same, getD-set-other}
 use Rattle.script.specs.Code.Forms.{formOf, nodeIn, treeIn, formed-less}
-use Rattle.script.specs.Rows.{ifForm, letForm, kindFor}
+use Rattle.script.specs.Rows.{ifForm, letForm}
 use Rattle.script.specs.Flat.{FormedNodes}
 use Rattle.script.specs.Limits.{nodeLimit}
+use Rattle.script.specs.Rows.Kinds.{kindFor}
 use Rattle.script.specs.Tree.{size}
 use Rattle.script.specs.declared.Refusal.{Refusal}
 use Rattle.rules.specs.Checking.{exec}
@@ -22,7 +23,7 @@ use Rattle.rules.specs.Satisfiable.{satisfiable}
 use Rattle.terms.specs.Places.{symbolLimit}
 use Rattle.terms.specs.Terms.{Grown, ofConjunction}
 use Rattle.terms.specs.Terms.Laws.{grown-refl}
-use Rattle.workspace.specs.Frames.{frameIn, topIn, nodeOf, firstOf, secondOf, Waitable, Waits, goesTo}
+use Rattle.workspace.specs.Frames.{frameIn, topIn, waiterOf, firstOf, secondOf, Waitable, Waits, goesTo, forBody, forNext}
 use Rattle.workspace.specs.Frames.Laws.{size-some}
 use Rattle.workspace.specs.Forks.{forkedIn, Forks}
 use Rattle.workspace.specs.Paths.{assumed, forgotten}
@@ -40,7 +41,7 @@ use Rattle.checker.specs.Code.Going.Keeping.{onward-trans, waits-onward,
 use Rattle.checker.specs.Code.Going.Steps.{then-on}
 use Rattle.checker.specs.declared.steps.Move.{Move}
 use Rattle.checker.specs.declared.steps.Move.the-variants.{Operand}
-use Rattle.checker.specs.Code.Going.Upwards.{Shifted, shifted-grown, shifted-path, shifted-onward, shifted-room, shifted-unnoted, Next, up, up-room, up-valued, left-top, left-forked}
+use Rattle.checker.specs.Code.Going.FrameRules.{Shifted, shifted-grown, shifted-path, shifted-onward, shifted-room, shifted-unnoted, Next, up, up-room, up-valued, left-top, left-forked}
 
 module _ {limit : ℕ} {table : List ℕ} {bound base : ℕ} {ground : List Symbolic} {ws fs : List ℕ} {t q : ℕ} {ls : List Leaf}
     (r : Returning limit table bound base ground ws fs t q ls) (some : 1 ≤ frameIn fs) where
@@ -48,7 +49,7 @@ module _ {limit : ℕ} {table : List ℕ} {bound base : ℕ} {ground : List Symb
   f = frameIn fs
 
   abbrev n : ℕ
-  n = nodeOf fs (frameIn fs)
+  n = waiterOf fs (frameIn fs)
 
   abbrev g : ℕ
   g = goesTo fs (frameIn fs)
@@ -82,13 +83,13 @@ module _ {limit : ℕ} {table : List ℕ} {bound base : ℕ} {ground : List Symb
     value-at w = rw (w .first, w .second) (r .means)
 
     -- it waits for the next one
-    pub next-stands : {gs : List ℕ} → Waits n 1 t q fs₁ gs
+    pub next-stands : {gs : List ℕ} → Waits n forNext t q fs₁ gs
         → Stands limit table bound base ground ws gs (r .environment) (r .path) (second n (r .value) ∷ x .later) (suc (x .less)) (x .fewer) (r .others)
     next-stands w =
         waits-stands (x .stands) next-few w (for-second (waits-slot (x .stands) next-few w) (up r some .low) (value-at w) (waits-awaits (x .stands) next-few w))
 
     -- of an operator
-    pub next-plain : (nodeIn table n .kind ≡ kindFor ifForm → ⊥) → (nodeIn table n .kind ≡ kindFor letForm → ⊥) → {gs : List ℕ} → Waits n 1 t q fs₁ gs
+    pub next-plain : (nodeIn table n .kind ≡ kindFor ifForm → ⊥) → (nodeIn table n .kind ≡ kindFor letForm → ⊥) → {gs : List ℕ} → Waits n forNext t q fs₁ gs
         → Entering limit table bound base ground ws gs b ls
     unfolding goOn
     next-plain d e w =
@@ -172,7 +173,7 @@ module _ {limit : ℕ} {table : List ℕ} {bound base : ℕ} {ground : List Symb
         (r .stands .state .variables))
         (means-at bound-grown bound-type bound-place (r .means)))
 
-    pub next-let : nodeIn table n .kind ≡ kindFor letForm → {gs : List ℕ} → Waits n 2 t q fs₁ gs → Entering limit table bound base ground ws₁ gs b ls
+    pub next-let : nodeIn table n .kind ≡ kindFor letForm → {gs : List ℕ} → Waits n forBody t q fs₁ gs → Entering limit table bound base ground ws₁ gs b ls
     unfolding goOn
     next-let e {gs} w =
         let h = after .second-fits in
@@ -227,7 +228,7 @@ module _ {limit : ℕ} {table : List ℕ} {bound base : ℕ} {ground : List Symb
           ∙ branch-goes y)
 
       -- one branch is taken, on which the path is p₁
-      module _ {gs : List ℕ} (w : Waits n 1 t q fs₁ gs) where
+      module _ {gs : List ℕ} (w : Waits n forNext t q fs₁ gs) where
         one-branch : (m : ℕ) → m < n → suc (suc (size (treeIn table m))) ≤ restSize table n → {left : List ℕ} {p₁ : Path} → Ruled ws left → PathIn left p₁
             → decide n (r .value) (r .path) (exec limit (treeIn table b) (r .environment)) (exec limit (treeIn table c) (r .environment))
             ≡ exec limit (treeIn table m) (r .environment) p₁ → Entering limit table bound base ground left gs m ls
@@ -268,15 +269,15 @@ module _ {limit : ℕ} {table : List ℕ} {bound base : ℕ} {ground : List Symb
       means-truth : {y z : ℕ} {k : Formula} → Means ws y z (aTruth k) → y ≡ 1
       means-truth (truthRow i e) = refl
 
-      module _ {hs gs : List ℕ} (w : Waits n 1 t q fs₁ hs) (y : Forks ws hs gs) {k : Formula} (v : r .value ≡ aTruth k)
+      module _ {hs gs : List ℕ} (w : Waits n forNext t q fs₁ hs) (y : Forks ws hs gs) {k : Formula} (v : r .value ≡ aTruth k)
           (yes : satisfiable (withGuard k (r .path) .condition) ≡ true) (none : satisfiable (withoutGuard k (r .path) .condition) ≡ true) where
         guard-means : Means ws 1 q (aTruth k)
         guard-means =
             let z : Means ws t q (aTruth k) = subst (λ (a : Symbolic). Means ws t q a) v (r .means) in
             subst (λ (a : ℕ). Means ws a q (aTruth k)) (means-truth z) z
 
-        hs-node : nodeOf hs (frameIn hs) ≡ n
-        hs-node = ap (nodeOf hs) (w .frame) ∙ w .node
+        hs-node : waiterOf hs (frameIn hs) ≡ n
+        hs-node = ap (waiterOf hs) (w .frame) ∙ w .node
 
         forked-here : forkedIn hs ≡ forkedIn fs
         forked-here = waits-forked (x .stands) next-few w ∙ (left-forked r some)
@@ -392,7 +393,7 @@ module _ {limit : ℕ} {table : List ℕ} {bound base : ℕ} {ground : List Symb
                   (leaves (bind (exec limit (treeIn table b) (r .environment) (withGuard k (r .path))) (goOn limit table (second n (r .value) ∷ x .later)))) onto (r .others);
             }
 
-      takes-either : {between hs gs : List ℕ} → Waits n 1 t q fs₁ hs → Chosen ws between n (r .value) (r .path) Both → Forks between hs gs
+      takes-either : {between hs gs : List ℕ} → Waits n forNext t q fs₁ hs → Chosen ws between n (r .value) (r .path) Both → Forks between hs gs
           → Entering limit table bound base ground (assumed (forgotten between) ofConjunction q) gs b ls
       takes-either {hs = hs} {gs = gs} w (chosen-both s v a d e) y =
           rw s (takes-both w (subst (λ (ws : List ℕ). Forks ws hs gs) s y) v a d e)

@@ -7,12 +7,13 @@ use lib.ListN.{length, getD, set, length-set}
 use lib.Seq.{getD-set-same, getD-set-other}
 use Rattle.script.specs.Code.Forms.{formOf, form-at, nodeIn, treeIn}
 use Rattle.script.specs.Limits.{nodeLimit}
-use Rattle.script.specs.Rows.{Form, letForm, kindFor, nodeOperands}
+use Rattle.script.specs.Rows.{Form, letForm, nodeOperands}
+use Rattle.script.specs.Rows.Kinds.{kindFor}
 use Rattle.rules.specs.Paths.{Path, Paths, ends, forks, bind, Leaf, leaves}
 use Rattle.rules.specs.Symbolic.{Symbolic}
 use Rattle.terms.specs.Places.{countAt, variablesEnd, symbolLimit}
 use Rattle.terms.specs.Terms.{Grown}
-use Rattle.workspace.specs.Frames.{frameIn, topIn, nodeOf, upOf, firstOf, secondOf, awaitsOf, goesTo, upTo}
+use Rattle.workspace.specs.Frames.{frameIn, topIn, waiterOf, upOf, firstOf, secondOf, awaitsOf, goesTo, upTo, forBody, forFirst, forNext}
 use Rattle.workspace.specs.Forks.{forkedIn}
 use Rattle.workspace.specs.Places.{conditionAt, depthAt, forkedAt, goalAt, nextAt, startAt, topAt, writesAt}
 use Rattle.workspace.specs.Rules.{oneExec, twoExec, restExec, restSize, One, Operable}
@@ -108,7 +109,7 @@ pub data Upper (limit : ℕ) (table : List ℕ) (bound base : ℕ) (ground : Lis
   upper-only : {ks : List Later} {less : ℕ} → nodeOperands (nodeIn table n .kind) ≡ 1 → owed ≡ suc less
       → Stands limit table bound base ground ws (set fs goalAt g) env p ks less frames others
       → ls ≡ leaves (bind (oneExec (formOf (nodeIn table n .kind)) n v p) (goOn limit table ks)) ++ others
-      → Upper limit table bound base ground ws fs env p v owed frames others ls x y n g 0
+      → Upper limit table bound base ground ws fs env p v owed frames others ls x y n g forFirst
   upper-first : {ks : List Later} {rest less fewer : ℕ} → 2 ≤ nodeOperands (nodeIn table n .kind) → restSize table n ≡ suc rest → depthIn ws + suc rest ≤ symbolLimit
       → owed ≡ suc rest + less → frames ≡ rest + fewer → Stands limit table bound base ground ws (set fs goalAt g) env p ks less fewer others
       → ls
@@ -116,15 +117,15 @@ pub data Upper (limit : ℕ) (table : List ℕ) (bound base : ℕ) (ground : Lis
       (bind (restExec (nodeIn table n) limit n (treeIn table (nodeIn table n .b)) (treeIn table (nodeIn table n .c)) v env p)
       (goOn limit table ks))
       ++ others
-      → Upper limit table bound base ground ws fs env p v owed frames others ls x y n g 0
+      → Upper limit table bound base ground ws fs env p v owed frames others ls x y n g forFirst
   upper-second : {ks : List Later} {less : ℕ} {w : Symbolic} → Means ws x y w → owed ≡ suc less
       → Stands limit table bound base ground ws (set fs goalAt g) env p ks less frames others
       → ls ≡ leaves (bind (twoExec (formOf (nodeIn table n .kind)) n w v p) (goOn limit table ks)) ++ others
-      → Upper limit table bound base ground ws fs env p v owed frames others ls x y n g 1
+      → Upper limit table bound base ground ws fs env p v owed frames others ls x y n g forNext
   upper-body : {ks : List Later} {less depth : ℕ} {w : Symbolic} {around : List Symbolic} → nodeIn table n .kind ≡ kindFor letForm → Means ws x y w → owed ≡ suc less
       → depthIn ws ≡ suc depth → env ≡ around ++ (w ∷ []) → Awaits table bound base ground ws fs g depth around ks less frames
       → ls ≡ leaves (bind (twoExec (formOf (nodeIn table n .kind)) n w v p) (goOn limit table ks)) ++ others
-      → Upper limit table bound base ground ws fs env p v owed frames others ls x y n g 2
+      → Upper limit table bound base ground ws fs env p v owed frames others ls x y n g forBody
 
 module _ {limit : ℕ} {table : List ℕ} {bound base : ℕ} {ground : List Symbolic} {ws fs : List ℕ} {t q : ℕ} {ls : List Leaf}
     (r : Returning limit table bound base ground ws fs t q ls) (some : 1 ≤ frameIn fs) where
@@ -132,27 +133,27 @@ module _ {limit : ℕ} {table : List ℕ} {bound base : ℕ} {ground : List Symb
   f = frameIn fs
 
   abbrev n : ℕ
-  n = nodeOf fs (frameIn fs)
+  n = waiterOf fs (frameIn fs)
 
   abbrev g : ℕ
   g = goesTo fs (frameIn fs)
 
   -- the frame that the value goes to
   pub record Up : Type 0 where
-    pub low : nodeOf fs (frameIn fs) < bound
+    pub low : waiterOf fs (frameIn fs) < bound
     pub falls : goesTo fs (frameIn fs) < frameIn fs
     pub view : Upper limit table bound base ground ws fs (r .environment) (r .path) (r .value) (r .owed) (r .frames) (r .others) ls (firstOf fs (frameIn fs))
-        (secondOf fs (frameIn fs)) (nodeOf fs (frameIn fs)) (goesTo fs (frameIn fs)) (awaitsOf fs (frameIn fs))
+        (secondOf fs (frameIn fs)) (waiterOf fs (frameIn fs)) (goesTo fs (frameIn fs)) (awaitsOf fs (frameIn fs))
 
   up-by : {h depth owed frames : ℕ} {env : List Symbolic} {ks : List Later} → Awaits table bound base ground ws fs h depth env ks owed frames → h ≡ frameIn fs
       → depth ≡ depthIn ws → env ≡ r .environment → ks ≡ r .later → owed ≡ r .owed → frames ≡ r .frames → Up
   unfolding goOn
   up-by no-frame e d i k o w = absurd (omega arith)
   up-by (for-only {f = h} {g = g₁} {n = m} {owed = less} {ks = ks₁} s l c a) e d i k o w =
-      let u : upOf fs (frameIn fs) ≡ upTo g₁ 0 = ap (upOf fs) (sym e) ∙ s .up in
-      let z : nodeOf fs (frameIn fs) ≡ m = ap (nodeOf fs) (sym e) ∙ s .node in
+      let u : upOf fs (frameIn fs) ≡ upTo g₁ forFirst = ap (upOf fs) (sym e) ∙ s .up in
+      let z : waiterOf fs (frameIn fs) ≡ m = ap (waiterOf fs) (sym e) ∙ s .node in
       let x : goesTo fs (frameIn fs) ≡ g₁ = omega arith in
-      let y : awaitsOf fs (frameIn fs) ≡ 0 = omega arith in
+      let y : awaitsOf fs (frameIn fs) ≡ forFirst = omega arith in
       let b = s .earlier in
       record {
         low = omega arith;
@@ -164,10 +165,10 @@ module _ {limit : ℕ} {table : List ℕ} {bound base : ℕ} {ground : List Symb
             (r .is ∙ ap (λ (ks : List Later). leaves (goOn limit table ks (r .value) (r .path)) ++ r .others) (sym k)));
       }
   up-by (for-first {f = h} {g = g₁} {n = m} {owed = less} {frames = fewer} {rest = rest} {ks = ks₁} s l c j v a) e d i k o w =
-      let u : upOf fs (frameIn fs) ≡ upTo g₁ 0 = ap (upOf fs) (sym e) ∙ s .up in
-      let z : nodeOf fs (frameIn fs) ≡ m = ap (nodeOf fs) (sym e) ∙ s .node in
+      let u : upOf fs (frameIn fs) ≡ upTo g₁ forFirst = ap (upOf fs) (sym e) ∙ s .up in
+      let z : waiterOf fs (frameIn fs) ≡ m = ap (waiterOf fs) (sym e) ∙ s .node in
       let x : goesTo fs (frameIn fs) ≡ g₁ = omega arith in
-      let y : awaitsOf fs (frameIn fs) ≡ 0 = omega arith in
+      let y : awaitsOf fs (frameIn fs) ≡ forFirst = omega arith in
       let b = s .earlier in
       record {
         low = omega arith;
@@ -179,10 +180,10 @@ module _ {limit : ℕ} {table : List ℕ} {bound base : ℕ} {ground : List Symb
             (r .is ∙ ap (λ (ks : List Later). leaves (goOn limit table ks (r .value) (r .path)) ++ r .others) (sym k ∙ ap (λ (xs : List Symbolic). first m xs ∷ ks₁) i)));
       }
   up-by (for-second {f = h} {g = g₁} {n = m} {owed = less} {ks = ks₁} {v = u₁} s l v a) e d i k o w =
-      let u : upOf fs (frameIn fs) ≡ upTo g₁ 1 = ap (upOf fs) (sym e) ∙ s .up in
-      let z : nodeOf fs (frameIn fs) ≡ m = ap (nodeOf fs) (sym e) ∙ s .node in
+      let u : upOf fs (frameIn fs) ≡ upTo g₁ forNext = ap (upOf fs) (sym e) ∙ s .up in
+      let z : waiterOf fs (frameIn fs) ≡ m = ap (waiterOf fs) (sym e) ∙ s .node in
       let x : goesTo fs (frameIn fs) ≡ g₁ = omega arith in
-      let y : awaitsOf fs (frameIn fs) ≡ 1 = omega arith in
+      let y : awaitsOf fs (frameIn fs) ≡ forNext = omega arith in
       let b = s .earlier in
       record {
         low = omega arith;
@@ -194,10 +195,10 @@ module _ {limit : ℕ} {table : List ℕ} {bound base : ℕ} {ground : List Symb
             (r .is ∙ ap (λ (ks : List Later). leaves (goOn limit table ks (r .value) (r .path)) ++ r .others) (sym k)));
       }
   up-by (for-body {f = h} {g = g₁} {n = m} {depth = inner} {owed = less} {env = around} {ks = ks₁} {v = u₁} s l c v a) e d i k o w =
-      let u : upOf fs (frameIn fs) ≡ upTo g₁ 2 = ap (upOf fs) (sym e) ∙ s .up in
-      let z : nodeOf fs (frameIn fs) ≡ m = ap (nodeOf fs) (sym e) ∙ s .node in
+      let u : upOf fs (frameIn fs) ≡ upTo g₁ forBody = ap (upOf fs) (sym e) ∙ s .up in
+      let z : waiterOf fs (frameIn fs) ≡ m = ap (waiterOf fs) (sym e) ∙ s .node in
       let x : goesTo fs (frameIn fs) ≡ g₁ = omega arith in
-      let y : awaitsOf fs (frameIn fs) ≡ 2 = omega arith in
+      let y : awaitsOf fs (frameIn fs) ≡ forBody = omega arith in
       let b = s .earlier in
       record {
         low = omega arith;
@@ -238,12 +239,12 @@ module _ {limit : ℕ} {table : List ℕ} {bound base : ℕ} {ground : List Symb
 
   -- ---- the only operand
 
-  pub up-one : awaitsOf fs f ≡ 0 → nodeOperands (nodeIn table n .kind) ≡ 1 → {a : Step} {left : List ℕ} → One (formOf (nodeIn table n .kind)) n t q ws a left
+  pub up-one : awaitsOf fs f ≡ forFirst → nodeOperands (nodeIn table n .kind) ≡ 1 → {a : Step} {left : List ℕ} → One (formOf (nodeIn table n .kind)) n t q ws a left
       → Gives limit table bound base ground left (set fs goalAt g) ls a
   up-one z o {a} {left} x = by (up .view) z
     where
       by : {awaits : ℕ} → Upper limit table bound base ground ws fs (r .environment) (r .path) (r .value) (r .owed) (r .frames) (r .others) ls (firstOf fs f) (secondOf fs f) n g awaits
-          → awaits ≡ 0 → Gives limit table bound base ground left (set fs goalAt g) ls a
+          → awaits ≡ forFirst → Gives limit table bound base ground left (set fs goalAt g) ls a
       by (upper-only c e s i) z =
           yields-gives s (x .ruled) (room-less (omega arith) (r .room)) left-tops i (x .yields (r .value) (r .path) (r .means) (r .stands .state .path))
       by (upper-first c j d e w s i) z = absurd (omega arith)
@@ -252,7 +253,7 @@ module _ {limit : ℕ} {table : List ℕ} {bound base : ℕ} {ground : List Symb
 
   -- ---- the last of several operands
 
-  pub up-lastable : (awaitsOf fs f ≡ 0 → ⊥) → Lastable (awaitsOf fs f) ws (firstOf fs f) (secondOf fs f) t q
+  pub up-lastable : (awaitsOf fs f ≡ forFirst → ⊥) → Lastable (awaitsOf fs f) ws (firstOf fs f) (secondOf fs f) t q
   up-lastable z = by (up .view) refl
     where
       operable : {w : Symbolic} → Means ws (firstOf fs f) (secondOf fs f) w → Operable ws (firstOf fs f) (secondOf fs f) t q
@@ -275,7 +276,7 @@ module _ {limit : ℕ} {table : List ℕ} {bound base : ℕ} {ground : List Symb
         beyond = λ k l e. getD-set-other ws depthAt k (depthIn ws - 1) 0 e;
       }
 
-  pub up-last : (awaitsOf fs f ≡ 0 → ⊥) → {m : Move} {left : List ℕ}
+  pub up-last : (awaitsOf fs f ≡ forFirst → ⊥) → {m : Move} {left : List ℕ}
       → Lasts (nodeIn table n .kind) (awaitsOf fs f) n (firstOf fs f) (secondOf fs f) t q ws m left → Came limit table bound base ground left (set fs goalAt g) ls m
   unfolding bind
   up-last z {m} {left} x = by (up .view) refl
@@ -331,8 +332,8 @@ module _ {limit : ℕ} {table : List ℕ} {bound base : ℕ} {ground : List Symb
     pub rest : ℕ
     pub less : ℕ
     pub fewer : ℕ
-    pub several : 2 ≤ nodeOperands (nodeIn table (nodeOf fs (frameIn fs)) .kind)
-    pub size-is : restSize table (nodeOf fs (frameIn fs)) ≡ suc rest
+    pub several : 2 ≤ nodeOperands (nodeIn table (waiterOf fs (frameIn fs)) .kind)
+    pub size-is : restSize table (waiterOf fs (frameIn fs)) ≡ suc rest
     pub narrow : depthIn ws + suc rest ≤ symbolLimit
     pub owed-is : r .owed ≡ suc rest + less
     pub frames-is : r .frames ≡ rest + fewer
@@ -340,16 +341,16 @@ module _ {limit : ℕ} {table : List ℕ} {bound base : ℕ} {ground : List Symb
     pub is : ls
         ≡ leaves
         (bind
-        (restExec (nodeIn table (nodeOf fs (frameIn fs))) limit (nodeOf fs (frameIn fs)) (treeIn table (nodeIn table (nodeOf fs (frameIn fs)) .b))
-        (treeIn table (nodeIn table (nodeOf fs (frameIn fs)) .c)) (r .value) (r .environment) (r .path))
+        (restExec (nodeIn table (waiterOf fs (frameIn fs))) limit (waiterOf fs (frameIn fs)) (treeIn table (nodeIn table (waiterOf fs (frameIn fs)) .b))
+        (treeIn table (nodeIn table (waiterOf fs (frameIn fs)) .c)) (r .value) (r .environment) (r .path))
         (goOn limit table later))
         ++ r .others
 
-  pub up-next : awaitsOf fs f ≡ 0 → (nodeOperands (nodeIn table n .kind) ≡ 1 → ⊥) → Next
+  pub up-next : awaitsOf fs f ≡ forFirst → (nodeOperands (nodeIn table n .kind) ≡ 1 → ⊥) → Next
   up-next z o = by (up .view) z
     where
       by : {awaits : ℕ} → Upper limit table bound base ground ws fs (r .environment) (r .path) (r .value) (r .owed) (r .frames) (r .others) ls (firstOf fs f) (secondOf fs f) n g awaits
-          → awaits ≡ 0 → Next
+          → awaits ≡ forFirst → Next
       by (upper-only c e s i) z = absurd (o c)
       by (upper-first {ks = ks} {rest = rest} {less = less} {fewer = fewer} c j d e w s i) z =
           record {

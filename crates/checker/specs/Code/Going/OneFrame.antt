@@ -11,9 +11,10 @@ use borrow.Author.Tests.{eqb-true, eqb-false}
 use Rattle.script.specs.Code.Forms.{formOf, nodeIn}
 use Rattle.script.specs.Flat.{HasNode}
 use Rattle.script.specs.Limits.{nodeLimit}
-use Rattle.script.specs.Rows.{ifForm, letForm, kindFor, nodeOperands}
+use Rattle.script.specs.Rows.{ifForm, letForm, nodeOperands}
+use Rattle.script.specs.Rows.Kinds.{kindFor}
 use Rattle.terms.specs.Places.{symbolLimit}
-use Rattle.workspace.specs.Frames.{frameIn, topIn, nodeOf, firstOf, secondOf, Waitable, Waits, awaitsOf, goesTo}
+use Rattle.workspace.specs.Frames.{frameIn, topIn, waiterOf, firstOf, secondOf, Waitable, Waits, awaitsOf, goesTo, forBody, forFirst, forNext}
 use Rattle.workspace.specs.Forks.{forkedIn, Forks}
 use Rattle.workspace.specs.Places.{forkLimit, framesEnd, framesSize, goalAt, topAt}
 use Rattle.workspace.specs.Rules.{One, Decidable}
@@ -21,9 +22,9 @@ use Rattle.workspace.specs.State.{depthIn, Room}
 use Rattle.workspace.specs.declared.Step.{Step}
 use Rattle.workspace.specs.declared.Step.the-variants as step
 use Rattle.checker.specs.Code.Going.{Returnable, came-operand, boundTo, movedBy, Branched, to-first, to-second, to-both, to-none, Lasts, Lastable, Backs}
-use Rattle.checker.specs.Code.Going.Climbing.{value-not-operand, stopped-not-operand, stopped-not-value}
-use Rattle.checker.specs.Code.Going.Following.{next-waitable, next-plain, next-let, next-deep, next-branch, next-decidable, next-forked}
-use Rattle.checker.specs.Code.Going.Upwards.{up, up-room, up-one, up-lastable, up-last, gives-came, up-next}
+use Rattle.checker.specs.Code.Going.AllFrames.{value-not-operand, stopped-not-operand, stopped-not-value}
+use Rattle.checker.specs.Code.Going.NextOperand.{next-waitable, next-plain, next-let, next-deep, next-branch, next-decidable, next-forked}
+use Rattle.checker.specs.Code.Going.FrameRules.{up, up-room, up-one, up-lastable, up-last, gives-came, up-next}
 use Rattle.checker.specs.declared.steps.Move.{Move}
 use Rattle.checker.specs.declared.steps.Move.the-variants.{Value, Operand, Stopped}
 
@@ -39,7 +40,7 @@ module _ {table ws fs : List ℕ} {t q : ℕ} (x : Returnable table ws fs t q) (
   f = frameIn fs
 
   abbrev n : ℕ
-  n = nodeOf fs (frameIn fs)
+  n = waiterOf fs (frameIn fs)
 
   abbrev fs₁ : List ℕ
   fs₁ = set fs goalAt (goesTo fs (frameIn fs))
@@ -67,7 +68,7 @@ module _ {table ws fs : List ℕ} {t q : ℕ} (x : Returnable table ws fs t q) (
 
   -- ---- with its last operand
 
-  module _ (z : awaitsOf fs f ≡ 0 → ⊥) where
+  module _ (z : awaitsOf fs f ≡ forFirst → ⊥) where
     pub back-lastable : Lastable (awaitsOf fs f) ws (firstOf fs f) (secondOf fs f) t q
     back-lastable = up-lastable (x .returning) some z
 
@@ -90,7 +91,7 @@ module _ {table ws fs : List ℕ} {t q : ℕ} (x : Returnable table ws fs t q) (
   pub back-room : Room ws 1
   back-room = up-room (x .returning) some
 
-  pub back-one : awaitsOf fs f ≡ 0 → nodeOperands (nodeIn table n .kind) ≡ 1 → {a : Step} {left : List ℕ} → One (formOf (nodeIn table n .kind)) n t q ws a left
+  pub back-one : awaitsOf fs f ≡ forFirst → nodeOperands (nodeIn table n .kind) ≡ 1 → {a : Step} {left : List ℕ} → One (formOf (nodeIn table n .kind)) n t q ws a left
       → Backs table t q ws fs (movedBy a) left fs₁
   back-one z o {a} l =
       record {
@@ -102,7 +103,7 @@ module _ {table ws fs : List ℕ} {t q : ℕ} (x : Returnable table ws fs t q) (
 
   -- ---- with the first of several
 
-  module _ (z : awaitsOf fs f ≡ 0) (o : nodeOperands (nodeIn table n .kind) ≡ 1 → ⊥) where
+  module _ (z : awaitsOf fs f ≡ forFirst) (o : nodeOperands (nodeIn table n .kind) ≡ 1 → ⊥) where
     pub back-waitable : Waitable fs₁
     back-waitable = next-waitable (x .returning) some (up-next (x .returning) some z o)
 
@@ -110,7 +111,7 @@ module _ {table ws fs : List ℕ} {t q : ℕ} (x : Returnable table ws fs t q) (
     risen w = omega (arith, w .top, top-is)
 
     -- of an operator
-    pub back-plain : (nodeIn table n .kind ≡ kindFor ifForm → ⊥) → (nodeIn table n .kind ≡ kindFor letForm → ⊥) → {gs : List ℕ} → Waits n 1 t q fs₁ gs
+    pub back-plain : (nodeIn table n .kind ≡ kindFor ifForm → ⊥) → (nodeIn table n .kind ≡ kindFor letForm → ⊥) → {gs : List ℕ} → Waits n forNext t q fs₁ gs
         → Backs table t q ws fs (Operand (nodeIn table n .b)) ws gs
     back-plain d e w =
         record {
@@ -124,7 +125,7 @@ module _ {table ws fs : List ℕ} {t q : ℕ} (x : Returnable table ws fs t q) (
     pub back-deep : depthIn ws < symbolLimit
     back-deep = next-deep (x .returning) some (up-next (x .returning) some z o)
 
-    pub back-let : nodeIn table n .kind ≡ kindFor letForm → {gs : List ℕ} → Waits n 2 t q fs₁ gs → Backs table t q ws fs (Operand (nodeIn table n .b)) (boundTo ws t q) gs
+    pub back-let : nodeIn table n .kind ≡ kindFor letForm → {gs : List ℕ} → Waits n forBody t q fs₁ gs → Backs table t q ws fs (Operand (nodeIn table n .b)) (boundTo ws t q) gs
     back-let e w =
         record {
           came = λ limit bound base ground ls r. came-operand (next-let r some (up-next r some z o) e w);
