@@ -37,8 +37,8 @@ pub fn fork(space: &[u32], frames: &mut [u32])
     let count = frames[FORKED];
     let at = FORKS + FORK * (count as usize);
     let first = space[NEXT] + SMALL * (space[COUNT] + MANY_ROWS * space[CONDITION]);
-    let log = space[WRITES] + SMALL * (space[START] + SMALL * space[DEPTH]);
-    let second = frames[GOAL] + SMALL * log;
+    let later = space[WRITES] + SMALL * (space[START] + SMALL * space[DEPTH]);
+    let second = frames[GOAL] + SMALL * later;
     frames[at] = first;
     frames[at + 1] = second;
     frames[FORKED] = count + 1;

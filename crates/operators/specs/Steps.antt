@@ -1,11 +1,11 @@
 -- The steps of a run as the code makes them: values held in lent bytes, what a step answers and leaves in the cells, and evaluation by the form of a
 -- node: a leaf; the operand that comes after the first; the rule after the last. Assumes nothing.
 use mathlib.Core.Bool.{true, false}
-use mathlib.Core.List.{List, [], _∷_, _++_}
+use mathlib.Core.List.{List}
 use mathlib.Core.Path.{_≡_}
 use Prim.Native.Nat.{ℕ, suc, _+_, _*_, _%_, _^_, _≤_}
 use lib.ListN.{length, getElem?, take}
-use Rattle.script.specs.Code.Forms.{formOf, severalBy, nodeIn, treeIn}
+use Rattle.script.specs.Code.Forms.{formOf, nodeIn, treeIn, boundOn}
 use Rattle.script.specs.Flat.{FormedNodes}
 use Rattle.script.specs.Rows.{Form, intForm, varForm, ifForm, letForm, typedForm, symForm, truthForm, unaryForm, binaryForm, nodeOperands}
 use Rattle.script.specs.Tree.{size}
@@ -118,10 +118,6 @@ nextOn symForm v m = Operand (m .b)
 nextOn (truthForm t) v m = Operand (m .b)
 nextOn (unaryForm o) v m = Operand (m .b)
 nextOn (binaryForm o) v m = Operand (m .b)
-
--- the environment of that operand: a `let` adds v
-abbrev pub boundOn : Node → Value → List Value → List Value
-boundOn m v env = severalBy (formOf (m .kind)) env (env ++ (v ∷ [])) (λ o. env) env
 
 -- the bytes hold these variables, and the first ones as before
 pub record Bound (env : List ℕ) (depth : ℕ) (vs : List Value) (left : List ℕ) (count : ℕ) : Type 0 where

@@ -1,9 +1,9 @@
 // Evaluation by the table: each node runs its operands, whose numbers are smaller, and then its rule.
-ghost use Rattle.script.specs.Code.Forms.{nodeIn, treeIn};
+ghost use Rattle.script.specs.Code.Forms.{nodeIn, treeIn, boundOn};
 ghost use Rattle.rules.specs.Evaluation.{eval};
 ghost use Rattle.rules.specs.Running.{valuesOf};
 ghost use Rattle.rules.specs.Running.Laws.{InRange};
-ghost use Rattle.operators.specs.Steps.{wholeOf, Variables, boundOn, Bound, restOn, Ready, Halfway, Runs};
+ghost use Rattle.operators.specs.Steps.{wholeOf, Variables, Bound, restOn, Ready, Halfway, Runs};
 use cells::store;
 use operators::Next;
 use operators::Parts;

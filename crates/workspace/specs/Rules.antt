@@ -11,7 +11,7 @@ use mathlib.Core.List.{List, [], _∷_, _++_}
 use mathlib.Core.Path.{_≡_}
 use Prim.Native.Nat.{ℕ, suc, _+_, _*_, _≤_, _<_}
 use lib.ListN.{length, getD, set, getElem?}
-use Rattle.script.specs.Code.Forms.{formOf, severalBy, nodeIn, treeIn}
+use Rattle.script.specs.Code.Forms.{formOf, severalBy, nodeIn, treeIn, boundOn}
 use Rattle.script.specs.Flat.{FormedNodes}
 use Rattle.script.specs.Rows.{Form, intForm, varForm, ifForm, letForm, typedForm, symForm, truthForm, unaryForm, binaryForm, nodeOperands}
 use Rattle.script.specs.Rows.Kinds.{kindFor}
@@ -74,10 +74,6 @@ twoType symForm n t u = Accepted u
 twoType (truthForm b) n t u = Accepted u
 twoType (unaryForm o) n t u = Accepted u
 twoType (binaryForm o) n t u = binaryType n o t u
-
--- the environment of the second operand: a `let` adds something
-abbrev pub boundOn : {A : Type 0} → Node → A → List A → List A
-boundOn m v env = severalBy (formOf (m .kind)) env (env ++ (v ∷ [])) (λ o. env) env
 
 -- what is left of node n once its first operand has type t, where e and f are the trees of the other two
 unfoldable pub restType : Node → ℕ → ℕ → Expr → Expr → ℕ → List ℕ → Checked

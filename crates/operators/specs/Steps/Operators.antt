@@ -8,7 +8,7 @@ use native.Mathlib.Omega.{arith}
 use lib.Dec.{eqb}
 use lib.ListN.{length, getElem?, drop, length-set, length-append}
 use lib.Seq.{sets}
-use Rattle.script.specs.Code.Forms.{formOf, severalBy, other-form}
+use Rattle.script.specs.Code.Forms.{formOf, severalBy, other-form, boundOn}
 use Rattle.script.specs.Answers.{kindOf, bitsOf}
 use Rattle.script.specs.Rows.{intForm, varForm, ifForm, letForm, truthForm, rows, refOp, getOp, eqOp, setOp}
 use Rattle.script.specs.Rows.Kinds.{kindFor}
@@ -21,7 +21,7 @@ use Rattle.rules.specs.Evaluation.Every.{every-next}
 use Rattle.rules.specs.Evaluation.Laws.{cellsOf}
 use Rattle.rules.specs.Running.{bytesOf, valueAt, valuesOf, stored}
 use Rattle.rules.specs.Running.Laws.{InRange, length-values, values-some, values-none}
-use Rattle.operators.specs.Steps.{Cells, Variables, Does, Says, stepOf, leafOn, oneOn, twoOn, nextOn, boundOn, Bound, Holds}
+use Rattle.operators.specs.Steps.{Cells, Variables, Does, Says, stepOf, leafOn, oneOn, twoOn, nextOn, Bound, Holds}
 use Rattle.operators.specs.Steps.Values.{holds-stored, stored-holds, stored-set, stored-next, kept-next}
 use Rattle.operators.specs.declared.Next.the-variants.{Operand}
 use Rattle.operators.specs.declared.Step.{Step}

@@ -6,7 +6,7 @@ use Prim.Native.Nat.{ℕ, suc, _+_, _*_, _≤_, _<_}
 use native.Mathlib.Omega.{arith}
 use lib.ListN.{length, take, length-append}
 use lib.Seq.{take-take}
-use Rattle.script.specs.Code.Forms.{formOf, severalBy, leaf-kinds, nodeIn, treeIn, formed-less}
+use Rattle.script.specs.Code.Forms.{formOf, severalBy, leaf-kinds, nodeIn, treeIn, formed-less, boundOn}
 use Rattle.script.specs.Rows.{Form, intForm, varForm, ifForm, letForm, typedForm, symForm, truthForm, unaryForm, binaryForm, nodeOperands}
 use Rattle.script.specs.Rows.Kinds.{leafKinds}
 use Rattle.script.specs.Tree.{Expr, size}
@@ -17,7 +17,7 @@ use Rattle.rules.specs.Evaluation.Laws.{cellsOf, Grows, grows-gave, grows-faile
 use Rattle.rules.specs.Running.{valuesOf, stored}
 use Rattle.rules.specs.Running.Laws.{InRange, length-values}
 use Rattle.rules.specs.Running.Ranges.{OutcomeInRange, gaveInRange, failedInRange, eval-in-range}
-use Rattle.operators.specs.Steps.{Holds, Cells, Variables, Does, Says, leafOn, oneOn, twoOn, nextOn, boundOn, Bound, restBy, restOn, restSize, Ready, Halfway, Runs}
+use Rattle.operators.specs.Steps.{Holds, Cells, Variables, Does, Says, leafOn, oneOn, twoOn, nextOn, Bound, restBy, restOn, restSize, Ready, Halfway, Runs}
 use Rattle.operators.specs.Steps.Operators.{does-says, does-failed}
 use Rattle.operators.specs.Steps.Values.{holds-values, holds-front, stored-holds, stored-length, stored-over}
 use Rattle.operators.specs.declared.Next.{Next}

@@ -1,6 +1,6 @@
 -- The form of a kind and the tree of a node, for code that goes by the flat table. Assumes nothing.
 use mathlib.Core.Bool.{Bool, true, false, not, _&&_}
-use mathlib.Core.List.{List, _∷_, map}
+use mathlib.Core.List.{List, [], _∷_, _++_, map}
 use mathlib.Core.Option.{Option, none, some}
 use mathlib.Core.Path.{_≡_, refl, sym, ap, _∙_}
 use Prim.Native.Nat.{ℕ, suc, _≤_, _<_}
@@ -59,6 +59,10 @@ severalBy symForm i l b x = x
 severalBy (truthForm t) i l b x = x
 severalBy (unaryForm o) i l b x = x
 severalBy (binaryForm o) i l b x = b o
+
+-- the environment of the operand after the first, which gave v: a `let` adds v
+abbrev pub boundOn : {A : Type 0} → Node → A → List A → List A
+boundOn m v env = severalBy (formOf (m .kind)) env (env ++ (v ∷ [])) (λ o. env) env
 
 -- how many operands that are nodes a form has
 abbrev pub nodesOfForm : Form → ℕ

@@ -5,7 +5,7 @@ use mathlib.Core.Path.{_≡_, refl, sym, ap, _∙_}
 use Prim.Native.Nat.{ℕ, suc, _+_, _≤_, _<_}
 use native.Mathlib.Omega.{arith}
 use lib.ListN.{length}
-use Rattle.script.specs.Code.Forms.{formOf, form-at, severalBy, no-form, form-is, form-operands, kind-operands, nodeIn, treeIn, viewed}
+use Rattle.script.specs.Code.Forms.{formOf, form-at, severalBy, no-form, form-is, form-operands, kind-operands, nodeIn, treeIn, viewed, boundOn}
 use Rattle.script.specs.Flat.{FormedNodes, nodesIn}
 use Rattle.script.specs.Rows.{Form, ifForm, letForm, typedForm, symForm, unaryForm, binaryForm, UnaryOp, BinaryOp, nodeOperands}
 use Rattle.script.specs.Rows.Kinds.{kindFor}
@@ -20,7 +20,7 @@ use Rattle.rules.specs.Paths.{Path, Paths, ends, stops, forks, bind, start, lea
 use Rattle.rules.specs.Symbolic.{Symbolic, typeOf, symbols}
 use Rattle.rules.specs.SymbolicRules.{unaryExec, binaryExec, decide, typedResult, verdict}
 use Rattle.rules.specs.TypedRules.{andThen, unaryType, binaryType, ifType}
-use Rattle.workspace.specs.Rules.{leafType, oneType, twoType, boundOn, restType, leafExec, oneExec, twoExec, restExec, restSizeOn, restSize}
+use Rattle.workspace.specs.Rules.{leafType, oneType, twoType, restType, leafExec, oneExec, twoExec, restExec, restSizeOn, restSize}
 
 -- ---- going on with what there is
 

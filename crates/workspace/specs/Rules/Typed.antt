@@ -7,7 +7,7 @@ use Prim.Native.Nat.{ℕ, suc, _≤_, _<_}
 use native.Mathlib.Omega.{arith}
 use lib.Dec.{eqb}
 use borrow.Author.Tests.{eqb-true, eqb-false}
-use Rattle.script.specs.Code.Forms.{formOf, kind-operands, leaf-kinds, nodeIn, treeIn, formed-less}
+use Rattle.script.specs.Code.Forms.{formOf, kind-operands, leaf-kinds, nodeIn, treeIn, formed-less, boundOn}
 use Rattle.script.specs.Rows.{ifForm, symForm, nodeOperands}
 use Rattle.script.specs.Rows.Kinds.{kindFor, leafKinds}
 use Rattle.script.specs.declared.Checked.{Checked}
@@ -19,7 +19,7 @@ use Rattle.rules.specs.Symbolic.{symbols}
 use Rattle.rules.specs.SymbolicRules.{verdict}
 use Rattle.rules.specs.TypedRules.{andThen, ifType}
 use Rattle.terms.specs.Places.{symbolLimit}
-use Rattle.workspace.specs.Rules.{leafType, oneType, twoType, boundOn, restType, Checkable, CheckableRest, Aside, Judged, BoundTypes}
+use Rattle.workspace.specs.Rules.{leafType, oneType, twoType, restType, Checkable, CheckableRest, Aside, Judged, BoundTypes}
 use Rattle.workspace.specs.Rules.Nodes.{shaped, first-of, rest-of, several-of, leaf-check, sym-check, one-check, rest-check, branches-of, if-rest-check, if-bound, two-rest-check}
 use Rattle.workspace.specs.State.{typesOn}
 use Rattle.workspace.specs.State.Laws.{types-kept, types-length}

@@ -7,7 +7,7 @@ use lib.Dec.{eqb}
 use lib.ListN.{length, set, length-set}
 use lib.Seq.{getD-set-same, getD-set-other}
 use borrow.Author.Tests.{eq-eqb, ne-eqb, le-leb, lt-leb}
-use Rattle.script.specs.Code.Forms.{formOf, form-at, severalBy, other-form}
+use Rattle.script.specs.Code.Forms.{formOf, form-at, severalBy, other-form, boundOn}
 use Rattle.script.specs.Limits.{typeLimit}
 use Rattle.script.specs.Rows.{intForm, varForm, letForm, rows, notOp, refOp, getOp, addOp, eqOp, andOp, setOp}
 use Rattle.script.specs.Rows.Kinds.{kindFor}
@@ -19,7 +19,7 @@ use Rattle.script.specs.declared.Node.{Node}
 use Rattle.script.specs.declared.Refusal.the-variants.{TooManyReferences}
 use Rattle.rules.specs.TypedRules.{wrong, unaryType, binaryType, ifType, truthType, wordType}
 use Rattle.terms.specs.Places.{variablesEnd, symbolLimit}
-use Rattle.workspace.specs.Rules.{leafType, oneType, twoType, boundOn, BoundTypes}
+use Rattle.workspace.specs.Rules.{leafType, oneType, twoType, BoundTypes}
 use Rattle.workspace.specs.Rules.Typed.{aside-refl}
 use Rattle.workspace.specs.State.{typesOn, deepest}
 use Rattle.workspace.specs.State.Laws.{types-kept}
