@@ -14,7 +14,7 @@ use lib.ListN.{length, getD}
 use Rattle.script.specs.Tests.{pick}
 use Rattle.script.specs.Tests.Laws.{both-ways, true-or-false}
 use Rattle.rules.specs.Satisfiable.{holds, atomsOf, among, differentAtoms, satisfiable}
-use Rattle.rules.specs.Satisfiable.Apart.{Apart, apart-negation, apart-alone}
+use Rattle.rules.specs.Satisfiable.Disjoint.{Disjoint, disjoint-negation, disjoint-alone}
 use Rattle.rules.specs.Satisfiable.Laws.{Respects, holds-agree, satisfiable-if, satisfiable-only-if, true-satisfiable, among-same, among-different, in-first, in-second}
 use Rattle.rules.specs.Symbolic.{Atom, Formula, constantly, negation, conjunction, sameAtom}
 use Rattle.rules.specs.Symbolic.Laws.{sameAtom-sym, sameAtom-trans}
@@ -29,9 +29,9 @@ use Rattle.rows.specs.declared.Decision.{Decision}
 use Rattle.rows.specs.declared.Decision.the-variants.{TooMany, OnlyTrue, OnlyFalse}
 use Rattle.rows.specs.Marks.{Within, part, Parts, Kept, AtLeast, Odd, kept-least, kept-odd, marked-keeps, closed-first, closed-second, parts-marked, start-length, start-parts, start-first, start-second}
 use Rattle.rows.specs.Known.{assign, Assigned, Right}
-use Rattle.known.specs.Atoms.{assign-respects, numberOf, number-less, number-assigns, apart-length, different-apart}
+use Rattle.known.specs.Atoms.{assign-respects, numberOf, number-less, number-assigns, no-repeat-length, different-no-repeat}
 use Rattle.known.specs.Ordered.{numbered-rank}
-use Rattle.known.specs.Listed.{Counted, Listed, SomeList, some-list, list-made, rank-counted, listed-length, listed-in, listed-part, listed-apart, listed-assigns}
+use Rattle.known.specs.Listed.{Counted, Listed, SomeList, some-list, list-made, rank-counted, listed-length, listed-in, listed-part, listed-no-repeat, listed-assigns}
 use Rattle.known.specs.Words.{right-negation, right-conjunction, right-constant, Closed, RowOf, row-of, rows-of, Sweep, either, atom-op, rank-grows, rows-listed, rows-right}
 use Rattle.decision.specs.Conjuncts.{linked-branches}
 
@@ -314,7 +314,7 @@ module _ (ws : List ℕ) (c g : ℕ) (f h : Formula) (space : Space ws 0) (disti
 
     counted : length (differentAtoms (conjunction f h)) ≡ length xs
     counted =
-        apart-length (different-apart (atomsOf (conjunction f h))) (listed-apart distinct listed (above-within c g (countIn ws) low high))
+        no-repeat-length (different-no-repeat (atomsOf (conjunction f h))) (listed-no-repeat distinct listed (above-within c g (countIn ws) low high))
         (λ z. among-different (atomsOf (conjunction f h)) z
         ∙ both-ways (among (atomsOf (conjunction f h)) z) (among xs z)
         (with-atoms f h xs (in-list is-condition (above-first c g) (marks-condition (kept-least 1 (omega arith)) (omega arith)))
@@ -345,8 +345,8 @@ module _ (ws : List ℕ) (c g : ℕ) (f h : Formula) (space : Space ws 0) (disti
       go (no r) (no l) =
           let w = within in true-or-false (sameAtom y x) (sameAtom-sym x y same) (distinct .different j i y x (omega arith) (omega arith) b a)
 
-  guard-apart : rank ws marks 3 (above c g) ≡ 0 → Apart f h
-  guard-apart e =
+  guard-disjoint : rank ws marks 3 (above c g) ≡ 0 → Disjoint f h
+  guard-disjoint e =
       record {
         each = λ z p q.
             same-row z e (rows-of (marks-closed kept-odd) is-condition (above-first c g) (marks-condition kept-odd refl) z p)
@@ -357,20 +357,20 @@ module _ (ws : List ℕ) (c g : ℕ) (f h : Formula) (space : Space ws 0) (disti
   unfolding conditionWord spreadOf
   truth-right xs block = right-constant true
 
-  truth-apart : (e : Formula) → Apart (constantly true) e
+  truth-disjoint : (e : Formula) → Disjoint (constantly true) e
   unfolding atomsOf among
-  truth-apart e = record { each = λ z p q. false≢true p }
+  truth-disjoint e = record { each = λ z p q. false≢true p }
 
-  alone-is : (e : Formula) → Apart f e → satisfiable f ≡ true → satisfiable (conjunction (constantly true) e) ≡ satisfiable (conjunction f e)
-  alone-is e d s = apart-alone (constantly true) e (truth-apart e) true-satisfiable ∙ sym (apart-alone f e d s)
+  alone-is : (e : Formula) → Disjoint f e → satisfiable f ≡ true → satisfiable (conjunction (constantly true) e) ≡ satisfiable (conjunction f e)
+  alone-is e d s = disjoint-alone (constantly true) e (truth-disjoint e) true-satisfiable ∙ sym (disjoint-alone f e d s)
 
   module _ {xs : List Atom} (listed : Listed ws marks 2 (above c g) xs) where
-    searched-alone : length xs ≤ 10 → Apart f h → satisfiable f ≡ true
+    searched-alone : length xs ≤ 10 → Disjoint f h → satisfiable f ≡ true
         → searched ws marks 2 g g (blocksOf (length xs)) ≡ branchesOf (satisfiable (conjunction f h)) (satisfiable (conjunction f (negation h)))
     unfolding atomsOf among
     searched-alone few d s =
         searched-by 2 (omega arith) (omega arith) listed few g (above-second c g) (constantly true) (truth-right xs) (λ z p. absurd (false≢true p))
-        ∙ ap₂ branchesOf (alone-is h d s) (alone-is (negation h) (apart-negation d) s)
+        ∙ ap₂ branchesOf (alone-is h d s) (alone-is (negation h) (disjoint-negation d) s)
 
   -- ---- the decision
 
@@ -396,7 +396,7 @@ module _ (ws : List ℕ) (c g : ℕ) (f h : Formula) (space : Space ws 0) (disti
         two : (t : Bool) → eqb (rank ws marks 3 (above c g)) 0 ≡ t → length xs ≤ 10
             → pick t (searched ws marks 2 g g (blocksOf (length ys))) linking
             ≡ branchesOf (satisfiable (conjunction f h)) (satisfiable (conjunction f (negation h)))
-        two true e l = searched-alone own (few-own l) (guard-apart (eqb-true (rank ws marks 3 (above c g)) 0 e)) allowed
+        two true e l = searched-alone own (few-own l) (guard-disjoint (eqb-true (rank ws marks 3 (above c g)) 0 e)) allowed
         two false e l = linked-branches is-condition is-guard searching allowed (searched-both all l)
 
         go : (t : Bool) → leb (length xs) 10 ≡ t

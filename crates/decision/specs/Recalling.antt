@@ -19,7 +19,7 @@ use Rattle.terms.specs.Terms.{rowIn, TruthRow, AtomRow, firstAtom, ofExclusion}
 use Rattle.rows.specs.Code.{words, rowsFrom, isNumbered, numberedTo, noNumbers, knownRow, knownNumbers, guardMarks, guardRows, withKnown, withoutKnown, compared, recalled, recalls}
 use Rattle.rows.specs.Decision.{branchesOf, decisionOf}
 use Rattle.rows.specs.Marks.{kept-least, marked-keeps, closed-first, closed-second}
-use Rattle.known.specs.Atoms.{atom-one, apart-fits, different-apart}
+use Rattle.known.specs.Atoms.{atom-one, no-repeat-fits, different-no-repeat}
 use Rattle.known.specs.Ordered.{rows-skip, rows-more}
 use Rattle.rows.specs.Known.{Assigned, Right, Numbered, Known}
 use Rattle.known.specs.Words.{right-negation, right-conjunction, Sweep, atom-op, rows-listed, rows-right}
@@ -166,7 +166,7 @@ module _ {ws : List ℕ} {at : ℕ} {f : Formula} (k : Known ws at f) where
     few-atoms =
         let l = k .few in
         let a =
-        apart-fits (different-apart (atomsOf (conjunction f h))) (k .atoms)
+        no-repeat-fits (different-no-repeat (atomsOf (conjunction f h))) (k .atoms)
         (λ z m. with-atoms f h (k .atoms) (k .all) recalled-atoms z (sym (among-different (atomsOf (conjunction f h)) z) ∙ m)) in
         omega arith
 

@@ -28,18 +28,18 @@ same-turned x y e = go (sameAtom y x) refl
 
 -- ---- different atoms
 
-pub data Apart : List Atom → Type 0 where
-  apart-none : Apart []
-  apart-more : {x : Atom} {xs : List Atom} → among xs x ≡ false → Apart xs → Apart (x ∷ xs)
+pub data NoRepeat : List Atom → Type 0 where
+  no-repeat-none : NoRepeat []
+  no-repeat-more : {x : Atom} {xs : List Atom} → among xs x ≡ false → NoRepeat xs → NoRepeat (x ∷ xs)
 
-pub different-apart : (xs : List Atom) → Apart (different xs)
+pub different-no-repeat : (xs : List Atom) → NoRepeat (different xs)
 unfolding different
-different-apart [] = apart-none
-different-apart (x ∷ xs) = go (among (different xs) x) refl (different-apart xs)
+different-no-repeat [] = no-repeat-none
+different-no-repeat (x ∷ xs) = go (among (different xs) x) refl (different-no-repeat xs)
   where
-    go : (t : Bool) → among (different xs) x ≡ t → Apart (different xs) → Apart (pick t (different xs) (x ∷ different xs))
+    go : (t : Bool) → among (different xs) x ≡ t → NoRepeat (different xs) → NoRepeat (pick t (different xs) (x ∷ different xs))
     go true e a = a
-    go false e a = apart-more e a
+    go false e a = no-repeat-more e a
 
 -- without the first that is the same
 unfoldable without : List Atom → Atom → List Atom
@@ -69,12 +69,12 @@ without-keeps (y ∷ ys) x z d h = go (sameAtom y x) refl (sameAtom y z) refl h 
     go false e false f k r = or-second (sameAtom y z) (among (without ys x) z) (r k)
 
 -- different atoms that are all in a list are no more than the list has
-pub apart-fits : {xs : List Atom} → Apart xs → (ys : List Atom) → ((z : Atom) → among xs z ≡ true → among ys z ≡ true) → length xs ≤ length ys
+pub no-repeat-fits : {xs : List Atom} → NoRepeat xs → (ys : List Atom) → ((z : Atom) → among xs z ≡ true → among ys z ≡ true) → length xs ≤ length ys
 unfolding among
-apart-fits apart-none ys h = omega arith
-apart-fits (apart-more {x = x} {xs = xs} e a) ys h =
+no-repeat-fits no-repeat-none ys h = omega arith
+no-repeat-fits (no-repeat-more {x = x} {xs = xs} e a) ys h =
     let l = without-length ys x (h x (or-first (sameAtom x x) (among xs x) (sameAtom-refl x))) in
-    let r = apart-fits a (without ys x) (λ z k. without-keeps ys x z (other z k) (h z (or-second (sameAtom x z) (among xs z) k))) in
+    let r = no-repeat-fits a (without ys x) (λ z k. without-keeps ys x z (other z k) (h z (or-second (sameAtom x z) (among xs z) k))) in
     omega arith
   where
     other : (z : Atom) → among xs z ≡ true → sameAtom x z ≡ false
@@ -84,10 +84,10 @@ apart-fits (apart-more {x = x} {xs = xs} e a) ys h =
         go true f = absurd (true-or-false (among xs x) (among-same xs x z f ∙ k) e)
         go false f = f
 
-pub apart-length : {xs ys : List Atom} → Apart xs → Apart ys → ((z : Atom) → among xs z ≡ among ys z) → length xs ≡ length ys
-apart-length {xs} {ys} a b h =
-    let p = apart-fits a ys (λ z k. sym (h z) ∙ k) in
-    let q = apart-fits b xs (λ z k. h z ∙ k) in
+pub no-repeat-length : {xs ys : List Atom} → NoRepeat xs → NoRepeat ys → ((z : Atom) → among xs z ≡ among ys z) → length xs ≡ length ys
+no-repeat-length {xs} {ys} a b h =
+    let p = no-repeat-fits a ys (λ z k. sym (h z) ∙ k) in
+    let q = no-repeat-fits b xs (λ z k. h z ∙ k) in
     omega arith
 
 -- ---- a row has one atom

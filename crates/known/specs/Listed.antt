@@ -22,7 +22,7 @@ use Rattle.rows.specs.Bits.{bit}
 use Rattle.rows.specs.Code.{seenAfter, rank}
 use Rattle.rows.specs.Marks.{Part, part, Parts}
 use Rattle.rows.specs.Known.{assign}
-use Rattle.known.specs.Atoms.{Apart, apart-none, apart-more, same-turned, atom-one}
+use Rattle.known.specs.Atoms.{NoRepeat, no-repeat-none, no-repeat-more, same-turned, atom-one}
 
 -- a row that is an atom and has at least a mark
 pub record Counted (ws ms : List ℕ) (least i : ℕ) : Type 0 where
@@ -148,11 +148,11 @@ module _ {ws ms : List ℕ} {least : ℕ} where
   listed-below d (listed-more {i = i} {x = x} c a l) j y h k r =
       rw (d .different i j x y (omega arith) k a r, listed-below d l j y (omega arith) k r)
 
-  pub listed-apart : Distinct ws → {n : ℕ} {xs : List Atom} → Listed ws ms least n xs → n ≤ countIn ws → Apart xs
-  listed-apart d listed-none h = apart-none
-  listed-apart d (listed-skip e l) h = listed-apart d l (omega arith)
-  listed-apart d (listed-more {i = i} {x = x} c a l) h =
-      apart-more (listed-below d l i x (omega arith) (omega arith) a) (listed-apart d l (omega arith))
+  pub listed-no-repeat : Distinct ws → {n : ℕ} {xs : List Atom} → Listed ws ms least n xs → n ≤ countIn ws → NoRepeat xs
+  listed-no-repeat d listed-none h = no-repeat-none
+  listed-no-repeat d (listed-skip e l) h = listed-no-repeat d l (omega arith)
+  listed-no-repeat d (listed-more {i = i} {x = x} c a l) h =
+      no-repeat-more (listed-below d l i x (omega arith) (omega arith) a) (listed-no-repeat d l (omega arith))
 
   -- ---- the assignments by number
 

@@ -1,7 +1,7 @@
 -- Satisfiable formulas (docs/CHECKS.md, 'Symbolic mode'): some assignment of true and false to the different atoms makes the formula true.
 -- Assumes nothing.
 pub mod Laws
-pub mod Apart
+pub mod Disjoint
 use mathlib.Core.Bool.{Bool, false, not, _&&_, _||_, Bool·beq}
 use mathlib.Core.List.{List, [], _∷_, _++_}
 use Rattle.script.specs.Tests.{pick}

@@ -8,12 +8,12 @@ use Rattle.rules.specs.Satisfiable.Laws.{Respects, among-same, holds-agr
 use Rattle.rules.specs.Symbolic.{Atom, Formula, negation, conjunction}
 
 -- no atom of the one is the same as one of the other
-pub record Apart (f g : Formula) : Type 0 where
+pub record Disjoint (f g : Formula) : Type 0 where
   pub each : (z : Atom) → among (atomsOf f) z ≡ true → among (atomsOf g) z ≡ true → ⊥
 
-pub apart-negation : {f g : Formula} → Apart f g → Apart f (negation g)
+pub disjoint-negation : {f g : Formula} → Disjoint f g → Disjoint f (negation g)
 unfolding atomsOf
-apart-negation d = record { each = d .each }
+disjoint-negation d = record { each = d .each }
 
 module _ (f g : Formula) where
   -- one assignment for the atoms of f, another for the rest
@@ -26,7 +26,7 @@ module _ (f g : Formula) where
   joint-first : (a b : Atom → Bool) → holds (joint a b) f ≡ holds a f
   joint-first a b = holds-agree (joint a b) a f λ x h. rw h refl
 
-  joint-second : (a b : Atom → Bool) → Apart f g → holds (joint a b) g ≡ holds b g
+  joint-second : (a b : Atom → Bool) → Disjoint f g → holds (joint a b) g ≡ holds b g
   joint-second a b d = holds-agree (joint a b) b g λ x h. at x (among (atomsOf f) x) refl h
     where
       at : (x : Atom) (t : Bool) → among (atomsOf f) x ≡ t → among (atomsOf g) x ≡ true → pick t (a x) (b x) ≡ b x
@@ -34,7 +34,7 @@ module _ (f g : Formula) where
       at x false e h = refl
 
   -- both are satisfiable, so the two together are
-  together : Apart f g → satisfiable f ≡ true → satisfiable g ≡ true → satisfiable (conjunction f g) ≡ true
+  together : Disjoint f g → satisfiable f ≡ true → satisfiable g ≡ true → satisfiable (conjunction f g) ≡ true
   unfolding holds
   together d p q = go (satisfiable-only-if f p) (satisfiable-only-if g q)
     where
@@ -53,5 +53,5 @@ module _ (f g : Formula) where
       go : (a : Atom → Bool) × Respects a × (holds a f && holds a g ≡ true) → satisfiable g ≡ true
       go u = satisfiable-if g (u .0) (u .1) (both-true (holds (u .0) f) (holds (u .0) g) (u .2) .1)
 
-  pub apart-alone : Apart f g → satisfiable f ≡ true → satisfiable (conjunction f g) ≡ satisfiable g
-  apart-alone d p = both-ways (satisfiable (conjunction f g)) (satisfiable g) second-alone (together d p)
+  pub disjoint-alone : Disjoint f g → satisfiable f ≡ true → satisfiable (conjunction f g) ≡ satisfiable g
+  disjoint-alone d p = both-ways (satisfiable (conjunction f g)) (satisfiable g) second-alone (together d p)
