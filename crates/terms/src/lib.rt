@@ -35,8 +35,8 @@ pub type RowNumber = u8;
 pub const END: usize = FIRST_ROW + 3 * ROWS;
 
 // What a row is: a word (a number, a symbol, the sum of two rows), a truth (a constant, the negation of a row, the conjunction or the equality of two,
-// the first of two without the second), or an atom (a truth symbol, a pair of reference symbols, the difference of two words). The order counts: truths with operands stand together, and the
-// atoms come last.
+// the first of two without the second), or an atom (a truth symbol, a pair of reference symbols, the difference of two words). The order counts: truths
+// with operands stand together, and the atoms come last.
 pub const NUMBER: u32 = 0;
 
 pub const SYMBOL: u32 = 1;

@@ -1,5 +1,5 @@
--- The rules by the form of node n, which is m, as the code goes by them: a leaf; the rule after one operand; what is left after the first operand; the rule after the
--- second. And what the functions for them promise. Assumes nothing.
+-- The rules by the form of node n, which is m, as the code goes by them: a leaf; the rule after one operand; what is left after the first operand; the rule
+-- after the second. And what the functions for them promise. Assumes nothing.
 pub mod Blocks
 pub mod Memory
 pub mod Nodes

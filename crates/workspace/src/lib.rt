@@ -10,19 +10,19 @@ use terms::END;
 pub const NEXT: usize = END;
 
 // Where the row of the condition stands.
-pub const CONDITION: usize = END + 1;
+pub const CONDITION: usize = NEXT + 1;
 
 // Where the count of the writes stands.
-pub const WRITES: usize = END + 2;
+pub const WRITES: usize = CONDITION + 1;
 
 // Where the first write stands that still counts.
-pub const START: usize = END + 3;
+pub const START: usize = WRITES + 1;
 
 // Where the count of the variables stands.
-pub const DEPTH: usize = END + 4;
+pub const DEPTH: usize = START + 1;
 
 // Where the log begins.
-pub const LOG: usize = END + 5;
+pub const LOG: usize = DEPTH + 1;
 
 // How many numbers a write has: the reference's type and place, and the value's.
 pub const WRITE: usize = 4;
@@ -34,7 +34,7 @@ pub const BASE: usize = LOG + WRITE * Script::NODES;
 pub const TURN: usize = BASE + 1;
 
 // Where the first note begins.
-pub const NOTES: usize = BASE + 2;
+pub const NOTES: usize = TURN + 1;
 
 // Of how many variables a note can have the types.
 pub const NAMES: usize = 6;
