@@ -13,6 +13,7 @@ use script::Refusal;
 use symbolic::fresh;
 use terms::CONSTANT;
 use terms::push;
+use terms::references::INITIAL;
 use workspace::BASE;
 use workspace::Branch;
 use workspace::CONDITION;
@@ -67,7 +68,7 @@ fn start_variable(types: &[u32], space: &mut [u32], i: usize)
     ensures { λ r. ⌜ Starting (now (types .entry)) (now (space .exit)) (suc i) ⌝ }
 {
     let t = types[2 * i];
-    let place = fresh(space, t);
+    let place = fresh(space, t, INITIAL);
     space[2 * i] = t;
     space[2 * i + 1] = place;
 }

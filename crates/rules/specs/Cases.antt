@@ -22,6 +22,7 @@ use Rattle.rules.specs.Satisfiable.{holds, atomsOf, among, different, so
 use Rattle.rules.specs.Symbolic.{plusEach, oppositeEach, sameEach, sameSum, sameAtom, symbol, symbols, apart, equalReferences}
 use Rattle.rules.specs.SymbolicRules.{unaryExec, binaryExec, branches, decide, typedResult, variable, judge}
 use Rattle.rules.specs.TypedRules.{unaryType, binaryType, ifType}
+pub mod NewCells
 pub mod Refusals
 pub mod Traps
 

@@ -7,7 +7,7 @@ use Prim.Native.Nat.{ℕ, suc}
 use lib.Dec.{eqb}
 use Rattle.script.specs.Tests.{pick}
 use Rattle.script.specs.declared.Refusal.{Refusal}
-use Rattle.rules.specs.Symbolic.{Formula, constantly, Origin, Symbolic, typeOf, symbol, apart}
+use Rattle.rules.specs.Symbolic.{Formula, constantly, Origin, other, Symbolic, typeOf, symbol, apart}
 
 -- a write: the reference's origin, its cell's type, its symbol, and the value stored
 pub record Write : Type 0 where
@@ -79,9 +79,9 @@ bind (ends v p) k = k v p
 bind (stops r) k = stops r
 bind (forks t u) k = forks (bind t k) (bind u k)
 
--- a fresh symbol of the type
+-- a fresh symbol of the type, of which nothing is known
 abbrev pub fresh : ℕ → Path → Paths
-fresh t p = ends (symbol t (p .next)) (taken p)
+fresh t p = ends (symbol other t (p .next)) (taken p)
 
 pub data Leaf : Type 0 where
   ended : Symbolic → Path → Leaf

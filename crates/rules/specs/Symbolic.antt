@@ -80,9 +80,9 @@ pub data Formula : Type 0 where
   conjunction : Formula → Formula → Formula
   equality : Formula → Formula → Formula
 
--- where a reference symbol comes from: made by `ref` on this path, or otherwise
+-- where a reference symbol comes from: made by `ref` on this path, a variable's when the path began, or any other
 pub data Origin : Type 0 where
-  made other : Origin
+  made initial other : Origin
 
 -- the constructor is the type; of a reference: its origin, the type of its cell, and its symbol
 pub data Symbolic : Type 0 where
@@ -95,23 +95,26 @@ typeOf (aWord p) = 0
 typeOf (aTruth f) = 1
 typeOf (aReference o t s) = suc (suc t)
 
--- the symbol s as a value of type t
-unfoldable pub symbol : ℕ → ℕ → Symbolic
-symbol zero s = aWord (wordSymbol s)
-symbol (suc zero) s = aTruth (atom (truthSymbol s))
-symbol (suc (suc t)) s = aReference other t s
+-- the symbol s as a value of type t, from there
+unfoldable pub symbol : Origin → ℕ → ℕ → Symbolic
+symbol o zero s = aWord (wordSymbol s)
+symbol o (suc zero) s = aTruth (atom (truthSymbol s))
+symbol o (suc (suc t)) s = aReference o t s
 
--- each variable is a symbol of its type, numbered from s on
+-- when a path begins: each variable is a symbol of its type, numbered from s on
 unfoldable pub symbols : ℕ → List ℕ → List Symbolic
 symbols s [] = []
-symbols s (t ∷ ts) = symbol t s ∷ symbols (suc s) ts
+symbols s (t ∷ ts) = symbol initial t s ∷ symbols (suc s) ts
 
--- two symbols that are certainly different cells: two different `ref` symbols of this path
+-- two symbols that are certainly different cells: two different ones, a `ref` symbol of this path and one of its own kind or of a variable's
 unfoldable pub apart : Origin → ℕ → Origin → ℕ → Bool
 apart made s made u = not (eqb s u)
+apart made s initial u = not (eqb s u)
+apart initial s made u = not (eqb s u)
+apart initial s initial u = false
 apart made s other u = false
-apart other s made u = false
-apart other s other u = false
+apart initial s other u = false
+apart other s o u = false
 
 -- ---- equality
 

@@ -1,9 +1,10 @@
 // The symbolic rules: what node n gives on a path once its operands have given theirs. A value is its type's code and its place: a row of the terms, or what
 // `terms::references` says of a reference.
-ghost use Prim.Native.Nat.{_*_, _≤_};
+ghost use Prim.Native.Nat.{_*_, _≤_, _<_};
 ghost use lib.ListN.{length};
 ghost use Rattle.script.specs.Code.Forms.{formOf};
 ghost use Rattle.script.specs.Rows.{varForm, unaryForm, binaryForm, notOp, refOp, getOp, addOp, eqOp, andOp, setOp};
+ghost use Rattle.terms.specs.References.{origins, originBy};
 ghost use Rattle.workspace.specs.Paths.{Fresh};
 ghost use Rattle.workspace.specs.Rules.{Leaf, One, Two, After, Operable};
 ghost use Rattle.workspace.specs.State.{Room};
@@ -43,17 +44,18 @@ use workspace::Found;
 use workspace::NEXT;
 use workspace::Step;
 
-// A fresh symbol of type t: its place.
-pub fn fresh(space: &mut [u32], t: u32) -> u32
+// A fresh symbol of type t, and where it comes from: its place.
+pub fn fresh(space: &mut [u32], t: u32, origin: u32) -> u32
     requires { ⌜ Room (now space) 1 ⌝ }
-    ensures { λ r. ⌜ Fresh t (now (space .entry)) r (now (space .exit)) ⌝ }
+    requires { ⌜ origin < origins ⌝ }
+    ensures { λ r. ⌜ Fresh (originBy origin) t (now (space .entry)) r (now (space .exit)) ⌝ }
 {
     let symbol = space[NEXT];
     space[NEXT] = symbol + 1;
     match t {
         0 => push(space, SYMBOL, symbol, 0),
         1 => symbols_atom(space, TRUTH, symbol, symbol),
-        _ => reference(symbol, OTHER),
+        _ => reference(symbol, origin),
     }
 }
 
@@ -123,7 +125,7 @@ fn read_cell(t: u32, q: u32, space: &mut [u32], n: u32) -> Step
     }
     match lookup(space, q) {
         Found::Value(u, s) => Step::Gave(u, s),
-        Found::Nothing => Step::Gave(t - 2, fresh(space, t - 2)),
+        Found::Nothing => Step::Gave(t - 2, fresh(space, t - 2, OTHER)),
     }
 }
 
@@ -218,5 +220,5 @@ pub fn typed_result(t: u32, space: &mut [u32], n: u32) -> Step
         return Step::Stopped(Refusal::InconsistentLog(n));
     }
     forget(space);
-    Step::Gave(t, fresh(space, t))
+    Step::Gave(t, fresh(space, t, OTHER))
 }

@@ -2,19 +2,21 @@
 pub mod Laws
 use mathlib.Core.Bool.{Bool}
 use Prim.Native.Nat.{ℕ, zero, suc, _+_, _*_, _/_, _%_}
-use Rattle.rules.specs.Symbolic.{Origin, made, other, apart}
+use Rattle.rules.specs.Symbolic.{Origin, made, initial, other, apart}
 
 -- how many origins there are, and the number of each
 abbrev pub origins : ℕ
-origins = 2
+origins = 3
 
 abbrev pub originNumber : Origin → ℕ
 originNumber other = 0
-originNumber made = 1
+originNumber initial = 1
+originNumber made = 2
 
 abbrev pub originBy : ℕ → Origin
 originBy zero = other
-originBy (suc n) = made
+originBy (suc zero) = initial
+originBy (suc (suc n)) = made
 
 -- the place of a reference, and its symbol and origin by its place
 abbrev pub referenceAt : Origin → ℕ → ℕ

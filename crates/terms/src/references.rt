@@ -1,21 +1,23 @@
 // References by their places: a place is a symbol and its origin in one number.
 ghost use mathlib.Core.Path.{_≡_};
-ghost use Prim.Native.Nat.{_+_, _*_, _<_};
+ghost use Prim.Native.Nat.{_<_};
 ghost use Rattle.terms.specs.Places.{symbolLimit};
-ghost use Rattle.terms.specs.References.{origins, symbolAt, apartAt};
+ghost use Rattle.terms.specs.References.{origins, originBy, referenceAt, symbolAt, apartAt};
 
-// How many origins there are: made by `ref` on this path, or any other.
-const ORIGINS: u32 = 2;
+// How many origins there are: made by `ref` on this path, a variable's when the path began, or any other.
+const ORIGINS: u32 = 3;
 
 pub const OTHER: u32 = 0;
 
-pub const MADE: u32 = 1;
+pub const INITIAL: u32 = 1;
+
+pub const MADE: u32 = 2;
 
 // The place of a reference.
 pub fn reference(symbol: u32, origin: u32) -> u32
     requires { ⌜ symbol < symbolLimit ⌝ }
     requires { ⌜ origin < origins ⌝ }
-    ensures { λ r. ⌜ r ≡ origins * symbol + origin ⌝ }
+    ensures { λ r. ⌜ r ≡ referenceAt (originBy origin) symbol ⌝ }
 {
     ORIGINS * symbol + origin
 }
@@ -27,14 +29,12 @@ pub fn symbol_of(place: u32) -> u32
     place / ORIGINS
 }
 
-// The references at two places are certainly different cells: different symbols that `ref` made on this path.
+// The references at two places are certainly different cells: different symbols, of which `ref` made one on this path, and the other too or it was a
+// variable's when the path began. No other two origins add up to more than MADE.
 pub fn apart(q: u32, s: u32) -> bool
     ensures { λ r. ⌜ r ≡ apartAt q s ⌝ }
 {
-    if q % ORIGINS != MADE {
-        return false;
-    }
-    if s % ORIGINS != MADE {
+    if q % ORIGINS + s % ORIGINS <= MADE {
         return false;
     }
     q / ORIGINS != s / ORIGINS

@@ -8,7 +8,7 @@ use Rattle.script.specs.Rows.{Form, intForm, varForm, ifForm, letForm, typedFor
 use Rattle.script.specs.Tests.{pick}
 use Rattle.script.specs.declared.Node.{Node}
 use Rattle.script.specs.declared.Refusal.the-variants.{WrongType, UnknownVariable, TooManyReferences, InconsistentLog}
-use Rattle.rules.specs.Symbolic.{made, other}
+use Rattle.rules.specs.Symbolic.{Origin, made, other}
 use Rattle.terms.specs.Atoms.{atomRowOf, atomLeft, referencesRow, referencesLeft}
 use Rattle.terms.specs.References.{referenceAt}
 use Rattle.terms.specs.Terms.{countIn, pushed, ofConjunction, ofConstant, ofEquality, ofNegation, ofNumber, ofSum, ofSymbol, ofTruth}
@@ -34,11 +34,11 @@ gives r ws = record { step = r; space = ws }
 abbrev pub numbered : List ℕ → List ℕ
 numbered ws = set ws nextAt (nextIn ws + 1)
 
--- the place of a fresh symbol of a type: a row, or of a reference its place
-unfoldable pub freshPlace : ℕ → List ℕ → ℕ
-freshPlace zero ws = countIn (numbered ws)
-freshPlace (suc zero) ws = atomRowOf (numbered ws) ofTruth (nextIn ws) (nextIn ws)
-freshPlace (suc (suc t)) ws = referenceAt other (nextIn ws)
+-- the place of a fresh symbol of a type, from there: a row, or of a reference its place
+unfoldable pub freshPlace : Origin → ℕ → List ℕ → ℕ
+freshPlace o zero ws = countIn (numbered ws)
+freshPlace o (suc zero) ws = atomRowOf (numbered ws) ofTruth (nextIn ws) (nextIn ws)
+freshPlace o (suc (suc t)) ws = referenceAt o (nextIn ws)
 
 unfoldable pub freshLeft : ℕ → List ℕ → List ℕ
 freshLeft zero ws = pushed (numbered ws) ofSymbol (nextIn ws) 0
@@ -68,7 +68,7 @@ leafGives (binaryForm o) n m depth ws = constant 0 ws
 -- what the log has, or a fresh symbol of the type that the cell has
 unfoldable pub gotGives : Found → ℕ → List ℕ → Outcome
 gotGives (Value u p) t ws = gives (Gave u p) ws
-gotGives Nothing t ws = gives (Gave (t - 2) (freshPlace (t - 2) ws)) (freshLeft (t - 2) ws)
+gotGives Nothing t ws = gives (Gave (t - 2) (freshPlace other (t - 2) ws)) (freshLeft (t - 2) ws)
 
 unfoldable pub unaryGives : UnaryOp → ℕ → ℕ → ℕ → List ℕ → Outcome
 unaryGives notOp n t q ws = pick (eqb t 1) (gives (Gave 1 (countIn ws)) (pushed ws ofNegation q 0)) (gives (Stopped (WrongType n)) ws)
@@ -126,4 +126,4 @@ twoGives (binaryForm o) n t q u s ws = binaryGives o n t q u s ws
 -- ---- after a typed block of type t
 
 abbrev pub afterGives : ℕ → ℕ → List ℕ → Outcome
-afterGives n t ws = pick (consistentIn ws) (gives (Gave t (freshPlace t (emptied ws))) (freshLeft t (emptied ws))) (gives (Stopped (InconsistentLog n)) ws)
+afterGives n t ws = pick (consistentIn ws) (gives (Gave t (freshPlace other t (emptied ws))) (freshLeft t (emptied ws))) (gives (Stopped (InconsistentLog n)) ws)

@@ -9,22 +9,22 @@ use mathlib.Core.Path.{_≡_}
 use Prim.Native.Nat.{ℕ, _+_, _≤_, _<_}
 use lib.ListN.{length, getD, set}
 use Rattle.rules.specs.Paths.{Path, taken, start}
-use Rattle.rules.specs.Symbolic.{symbol, symbols}
+use Rattle.rules.specs.Symbolic.{Origin, symbol, symbols}
 use Rattle.terms.specs.Terms.{countIn, pushed, Distinct}
 use Rattle.workspace.specs.Numbers.{freshPlace, freshLeft}
 use Rattle.workspace.specs.Places.{baseAt, conditionAt, knownAt, spaceSize}
 use Rattle.workspace.specs.Rules.{Ruled}
 use Rattle.workspace.specs.State.{nextIn, conditionIn, writesIn, typesOn, Means, Variables, PathIn}
 
--- a fresh symbol of type t
-pub record Fresh (t : ℕ) (ws : List ℕ) (q : ℕ) (left : List ℕ) : Type 0 where
+-- a fresh symbol of type t, from there
+pub record Fresh (o : Origin) (t : ℕ) (ws : List ℕ) (q : ℕ) (left : List ℕ) : Type 0 where
   pub ruled : Ruled ws left
-  pub means : Distinct ws → Means left t q (symbol t (nextIn ws))
+  pub means : Distinct ws → Means left t q (symbol o t (nextIn ws))
   pub path : (p : Path) → PathIn ws p → PathIn left (taken p)
   pub condition : conditionIn left ≡ conditionIn ws
   pub writes : writesIn left ≡ writesIn ws
   pub most : countIn left ≤ countIn ws + 1
-  pub place-is : q ≡ freshPlace t ws
+  pub place-is : q ≡ freshPlace o t ws
   pub left-is : left ≡ freshLeft t ws
 
 -- the condition joined by a guard, with this operator

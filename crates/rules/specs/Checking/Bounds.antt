@@ -26,7 +26,7 @@ use Rattle.rules.specs.Checking.{check, exec, known, checkTable}
 use Rattle.rules.specs.Evaluation.Every.{Every, noValue, oneValue, every-at, every-next, every-both}
 use Rattle.rules.specs.Paths.{Write, Path, Paths, Leaf, ends, stops, forks, ended, stopped, bind, assume, writeOf, write, taken, consistent, lookup, leaves}
 use Rattle.rules.specs.Satisfiable.{satisfiable, differentAtoms}
-use Rattle.rules.specs.Symbolic.{Formula, negation, conjunction, Origin, made, Sum, Symbolic, aWord, aTruth, aReference, typeOf, symbol, symbols, apart}
+use Rattle.rules.specs.Symbolic.{Formula, negation, conjunction, Origin, made, initial, other, Sum, Symbolic, aWord, aTruth, aReference, typeOf, symbol, symbols, apart}
 use Rattle.rules.specs.SymbolicRules.{got, unaryExec, binaryExec, branches, atomLimit, decide, typedResult, variable, firstType, judge}
 use Rattle.rules.specs.TypedRules.{andThen, isType, unaryType, binaryType, ifType}
 
@@ -124,16 +124,16 @@ module _ {m : ℕ} where
 
 -- ---- symbolic mode
 
-symbol-coded : (t s : ℕ) → t ≤ typeLimit → Coded (symbol t s)
+symbol-coded : (o : Origin) (t s : ℕ) → t ≤ typeLimit → Coded (symbol o t s)
 unfolding symbol
-symbol-coded zero s l = record { most = omega arith }
-symbol-coded (suc zero) s l = record { most = omega arith }
-symbol-coded (suc (suc t)) s l = record { most = l }
+symbol-coded o zero s l = record { most = omega arith }
+symbol-coded o (suc zero) s l = record { most = omega arith }
+symbol-coded o (suc (suc t)) s l = record { most = l }
 
 symbols-coded : {env : List ℕ} (s : ℕ) → Every Code env → Every Coded (symbols s env)
 unfolding symbols
 symbols-coded s noValue = noValue
-symbols-coded s (oneValue {x = t} h hs) = oneValue (symbol-coded t s (h .most)) (symbols-coded (suc s) hs)
+symbols-coded s (oneValue {x = t} h hs) = oneValue (symbol-coded initial t s (h .most)) (symbols-coded (suc s) hs)
 
 types-coded : {env : List Symbolic} → Every Coded env → Every Code (map typeOf env)
 types-coded noValue = noValue
@@ -170,7 +170,7 @@ module _ {m : ℕ} where
     ended-truth {f} = at-end {v = aTruth f} (record { most = omega arith }) l
 
     got-bounded : (t : ℕ) → t ≤ typeLimit → (r : Option Symbolic) → ((v : Symbolic) → r ≡ some v → Coded v) → BoundedPaths m (got r t p)
-    got-bounded t k none f = at-end (symbol-coded t (p .next) k) (record { log = l .log })
+    got-bounded t k none f = at-end (symbol-coded other t (p .next) k) (record { log = l .log })
     got-bounded t k (some v) f = at-end (f v refl) l
 
     module _ {n : ℕ} (h : n < m) where
@@ -226,7 +226,7 @@ module _ {m : ℕ} where
 
       typed-bounded : {c : Checked} → Bounded m c → BoundedPaths m (typedResult n p c)
       unfolding typedResult
-      typed-bounded (code {t = t} k) = either-path (consistent p) (at-end (symbol-coded t (p .next) k) (record { log = noValue })) (at-stop (place-below h))
+      typed-bounded (code {t = t} k) = either-path (consistent p) (at-end (symbol-coded other t (p .next) k) (record { log = noValue })) (at-stop (place-below h))
       typed-bounded (refusal k) = at-stop k
 
       decide-bounded : (v : Symbolic) (e f : Path → Paths) → ((q : Path) → Logged q → BoundedPaths m (e q)) → ((q : Path) → Logged q → BoundedPaths m (f q))

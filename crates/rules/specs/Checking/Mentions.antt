@@ -18,7 +18,7 @@ use Rattle.script.specs.declared.Refusal.the-variants.{TooManyAtoms}
 use Rattle.rules.specs.Checking.{check, exec, known}
 use Rattle.rules.specs.Paths.{Path, Paths, ends, stops, forks, start, bind, leaves}
 use Rattle.rules.specs.Satisfiable.{differentAtoms}
-use Rattle.rules.specs.Symbolic.{Symbolic, aWord, aTruth, aReference, conjunction, typeOf, symbol, symbols}
+use Rattle.rules.specs.Symbolic.{initial, Symbolic, aWord, aTruth, aReference, conjunction, typeOf, symbol, symbols}
 use Rattle.rules.specs.SymbolicRules.{unaryExec, binaryExec, branches, atomLimit, decide, typedResult, variable, verdict}
 use Rattle.rules.specs.TypedRules.{andThen, unaryType, binaryType, ifType}
 
@@ -85,7 +85,7 @@ module _ {m : ℕ → Bool} where
   pub alike-symbols : {i : ℕ} {xs ys : List ℕ} (s : ℕ) → Alike m i xs ys → Alike m i (symbols s xs) (symbols s ys)
   unfolding symbols
   alike-symbols s alike-end = alike-end
-  alike-symbols s (alike-next h a) = alike-next (λ t. ap (λ (u : ℕ). symbol u s) (h t)) (alike-symbols (suc s) a)
+  alike-symbols s (alike-next h a) = alike-next (λ t. ap (λ (u : ℕ). symbol initial u s) (h t)) (alike-symbols (suc s) a)
 
 -- ---- going on in the same way
 

@@ -28,7 +28,7 @@ use Rattle.rules.specs.Demand3.TypedOperators.{ends-here, unary-kept, bi
 use Rattle.rules.specs.Evaluation.{Outcome, gave, failed, after, found, branchOn, unaryOn, binaryOn, eval}
 use Rattle.rules.specs.Paths.{Path, Paths, Leaf, ends, ended, stopped, consistent, bind, leaves}
 use Rattle.rules.specs.Satisfiable.{holds}
-use Rattle.rules.specs.Symbolic.{constantly, other, Symbolic, typeOf}
+use Rattle.rules.specs.Symbolic.{constantly, initial, Symbolic, typeOf}
 use Rattle.rules.specs.SymbolicRules.{unaryExec, binaryExec, decide, variable, firstType, judge, verdict}
 use Rattle.rules.specs.TypedRules.{andThen, unaryType, binaryType, ifType}
 use Rattle.rules.specs.Typings.{HasType, is-word, is-truth, is-location, Each, Fits, HaveTypes}
@@ -131,7 +131,7 @@ if-kept n (Accepted u) (Accepted w) i j f (is-location a h) p q = free
 -- ---- the start of a path
 
 started : {typing types : List ℕ} {env : List Value} → HaveTypes typing env types → length types ≡ length (valuation env)
-started {env = env} h = sym (each-length h) ∙ sym (length-map env (entry other))
+started {env = env} h = sym (each-length h) ∙ sym (length-map env (entry initial))
 
 constant-holds : (later : List Entry) → holds (atomAt later) (constantly true) ≡ true
 unfolding holds

@@ -15,9 +15,9 @@ use Rattle.script.specs.Tests.Laws.{both-true, some-not-none}
 use Rattle.script.specs.declared.Value.{Value}
 use Rattle.script.specs.declared.Value.the-variants.{Location}
 use Rattle.rules.specs.Demand3.Meaning.{Entry, entry}
-use Rattle.rules.specs.Demand3.Stands.{StandsFor, Distinct, stands-extends, stands-type, apart-differ, apart-symbols, same-cell, location-inside, valuation}
+use Rattle.rules.specs.Demand3.Stands.{StandsFor, Distinct, stands-extends, stands-type, apart-differ, not-apart, same-cell, location-inside, valuation}
 use Rattle.rules.specs.Paths.{Write, writeOf, isRight, has, consistentAfter, lookup}
-use Rattle.rules.specs.Symbolic.{Origin, made, other, Symbolic, typeOf, apart}
+use Rattle.rules.specs.Symbolic.{Origin, made, initial, other, Symbolic, typeOf, apart}
 use Rattle.rules.specs.Typings.{At, here, there, HasType, is-location, Fits, HaveTypes, Extends}
 use Rattle.rules.specs.Typings.Laws.{split-last, at-below, below-at, at-same, at-last, at-set-same, at-set-other, at-unset, extends-self, extends-append, each-length, each-at, each-from, each-by, type-extends}
 
@@ -109,25 +109,33 @@ pub value-live : {typing : List ℕ} {cells : List Value} {x : Value} {t : ℕ} 
     → (l : ℕ) → x ≡ Location l → l < length cells
 value-live {typing} {t = t} f h l e = type-live f (subst (λ (y : Value). HasType typing y t) e h)
 
-different-origins : {A : Type 0} → made ≡ other → A
-different-origins e = let z : _≡_ {A = ℕ} 0 1 = cc in absurd (omega arith)
+-- two variables may be one cell
+two-variables : (s u : ℕ) {o p : Origin} → o ≡ initial → p ≡ initial → apart o s p u ≡ false
+unfolding apart
+two-variables s u e f = rw (e, f) refl
 
-valuation-at : (xs : List Value) {s : ℕ} {e : Entry} → At (valuation xs) s e → (e .origin ≡ other) × At xs s (e .value)
+valuation-at : (xs : List Value) {s : ℕ} {e : Entry} → At (valuation xs) s e → (e .origin ≡ initial) × At xs s (e .value)
 valuation-at (x ∷ xs) here = (refl, here)
 valuation-at (x ∷ xs) (there a) = let q = valuation-at xs a in (q .0, there (q .1))
 
 pub memory-start : {typing : List ℕ} {cells env : List Value} {types : List ℕ} → Fits typing cells → HaveTypes typing env types
     → Memory typing (valuation env) cells []
 memory-start {typing} {cells} {env} f h =
-    fitting f (record { distinct = λ s u l a b. different-origins (valuation-at env a .0) })
+    fitting f (record { distinct = λ o p s u l a b. two-variables s u (valuation-at env a .0) (valuation-at env b .0) })
     (λ o s l a. let q = each-from h (valuation-at env a .1) in type-live f (q .2))
 
 -- ---- a fresh symbol
 
+-- a symbol from elsewhere is apart from none
 apart-other : (o : Origin) (s u : ℕ) → apart o s other u ≡ false
 unfolding apart
 apart-other made s u = refl
+apart-other initial s u = refl
 apart-other other s u = refl
+
+other-apart : (s : ℕ) (o : Origin) (u : ℕ) → apart other s o u ≡ false
+unfolding apart
+other-apart s o u = refl
 
 -- the log knows nothing of a symbol that is not made yet
 unwritten : {n : ℕ} (log : List Write) → WrittenBelow n log → lookup other n log ≡ none
@@ -172,7 +180,7 @@ memory-fresh {typing} {ρ} {cells} {log} {x} m known =
       contents = λ l t y a b. still (m .contents l t y a b);
       recent = λ o s l v a e. recently o s l v e (split-last ρ a);
       written = written-more (omega (arith, snoc-length ρ (entry other x))) (m .written);
-      apart-cells = record { distinct = λ s u l a b. distinctly s u l (split-last ρ a) (split-last ρ b) };
+      apart-cells = record { distinct = λ o p s u l a b. distinctly o p s u l (split-last ρ a) (split-last ρ b) };
       live = λ o s l a. lively o s l (split-last ρ a);
     }
   where
@@ -188,12 +196,11 @@ memory-fresh {typing} {ρ} {cells} {log} {x} m known =
         let n = unwritten log (m .written) in
         let z : _≡_ {A = ℕ} 0 1 = cc (e, q .0, origin-of (q .1), n) in absurd (omega arith)
 
-    distinctly : (s u l : ℕ) → At ρ s (entry made (Location l)) ⊎ ((s ≡ length ρ) × (entry made (Location l) ≡ entry other x))
-        → At ρ u (entry made (Location l)) ⊎ ((u ≡ length ρ) × (entry made (Location l) ≡ entry other x)) → s ≡ u
-    distinctly s u l (inl a) (inl b) = m .apart-cells .distinct s u l a b
-    distinctly s u l (inl a) (inr q) = different-origins (origin-of (q .1))
-    distinctly s u l (inr q) (inl b) = different-origins (origin-of (q .1))
-    distinctly s u l (inr q) (inr r) = different-origins (origin-of (q .1))
+    distinctly : (o p : Origin) (s u l : ℕ) → At ρ s (entry o (Location l)) ⊎ ((s ≡ length ρ) × (entry o (Location l) ≡ entry other x))
+        → At ρ u (entry p (Location l)) ⊎ ((u ≡ length ρ) × (entry p (Location l) ≡ entry other x)) → apart o s p u ≡ false
+    distinctly o p s u l (inl a) (inl b) = m .apart-cells .distinct o p s u l a b
+    distinctly o p s u l (inl a) (inr q) = rw (origin-of (q .1)) (apart-other o s u)
+    distinctly o p s u l (inr q) b = rw (origin-of (q .1)) (other-apart s p u)
 
     lively : (o : Origin) (s l : ℕ) → At ρ s (entry o (Location l)) ⊎ ((s ≡ length ρ) × (entry o (Location l) ≡ entry other x)) → l < length cells
     lively o s l (inl a) = m .live o s l a
@@ -243,7 +250,7 @@ memory-ref {typing} {ρ} {cells} {log} {v} {x} m h =
       contents = λ l t y a b. content l t y (split-last cells a) (split-last typing b);
       recent = λ o s l u a e. recently o s l u e (split-last ρ a);
       written = and-write {w = refWrite ρ v} (omega (arith, longer)) (written-more (omega (arith, longer)) (m .written));
-      apart-cells = record { distinct = λ s u l a b. distinctly s u l (split-last ρ a) (split-last ρ b) };
+      apart-cells = record { distinct = λ o p s u l a b. distinctly o p s u l (split-last ρ a) (split-last ρ b) };
       live = λ o s l a. lively o s l (split-last ρ a);
     }
   where
@@ -275,19 +282,20 @@ memory-ref {typing} {ρ} {cells} {log} {v} {x} m h =
         (λ p q. let k = at-below a in absurd (omega arith))
     recently o s l u e (inr q) =
         lookup-after (refWrite ρ v) log o s e
-        (λ p r. absurd (apart-symbols made (length ρ) o s p (sym (q .0))))
+        (λ p r. absurd (true≢false (sym p ∙ not-apart made (length ρ) o s (sym (q .0)))))
         (λ p r. record {
           content = x;
           placed = subst (λ (k : ℕ). At (cells ++ (x ∷ [])) k x) (sym (location-inside (value-of (q .1)))) (at-last cells x);
           stands = stands-extends (extends-append (typeOf v ∷ [])) (extends-append (newest ∷ [])) (subst (λ (k : Symbolic). StandsFor typing ρ k x) r h);
         })
 
-    distinctly : (s u l : ℕ) → At ρ s (entry made (Location l)) ⊎ ((s ≡ length ρ) × (entry made (Location l) ≡ newest))
-        → At ρ u (entry made (Location l)) ⊎ ((u ≡ length ρ) × (entry made (Location l) ≡ newest)) → s ≡ u
-    distinctly s u l (inl a) (inl b) = m .apart-cells .distinct s u l a b
-    distinctly s u l (inl a) (inr q) = let k = m .live made s l a in let e = location-inside (value-of (q .1)) in absurd (omega arith)
-    distinctly s u l (inr q) (inl b) = let k = m .live made u l b in let e = location-inside (value-of (q .1)) in absurd (omega arith)
-    distinctly s u l (inr q) (inr r) = q .0 ∙ sym (r .0)
+    -- the new cell is none of those that a symbol denotes
+    distinctly : (o p : Origin) (s u l : ℕ) → At ρ s (entry o (Location l)) ⊎ ((s ≡ length ρ) × (entry o (Location l) ≡ newest))
+        → At ρ u (entry p (Location l)) ⊎ ((u ≡ length ρ) × (entry p (Location l) ≡ newest)) → apart o s p u ≡ false
+    distinctly o p s u l (inl a) (inl b) = m .apart-cells .distinct o p s u l a b
+    distinctly o p s u l (inl a) (inr q) = let k = m .live o s l a in let e = location-inside (value-of (q .1)) in absurd (omega arith)
+    distinctly o p s u l (inr q) (inl b) = let k = m .live p u l b in let e = location-inside (value-of (q .1)) in absurd (omega arith)
+    distinctly o p s u l (inr q) (inr r) = not-apart o s p u (q .0 ∙ sym (r .0))
 
     lively : (o : Origin) (s l : ℕ) → At ρ s (entry o (Location l)) ⊎ ((s ≡ length ρ) × (entry o (Location l) ≡ newest)) → l < length (cells ++ (x ∷ []))
     lively o s l (inl a) = omega (arith, m .live o s l a, snoc-length cells x)

@@ -1,20 +1,20 @@
 -- When a symbolic value stands for a value, under a typing of the cells and a valuation of the symbols. Words and truths do so under every extension
 -- of the valuation, so that symbols made later change nothing. Assumes nothing.
 use mathlib.Core.Path.{_≡_, refl, sym, ap, _∙_, subst}
-use mathlib.Core.Bool.{Bool, true, false, not, _&&_, Bool·beq, false≢true}
+use mathlib.Core.Bool.{Bool, true, false, not, _&&_, Bool·beq, true≢false}
 use mathlib.Core.List.{List, [], _∷_, map}
 use mathlib.Core.Option.{Option}
 use Prim.Native.Nat.{ℕ, zero, suc, _+_, _%_, _^_, _≤_, _<_}
 use lib.Dec.{eqb}
 use lib.ListN.{getElem?}
-use borrow.Author.Tests.{eqb-true, eqb-false, not-true, eq-eqb, ne-eqb}
+use borrow.Author.Tests.{eqb-true, eq-eqb, ne-eqb}
 use Rattle.script.specs.Limits.{typeLimit}
 use Rattle.script.specs.Tests.{pick}
 use Rattle.script.specs.declared.Value.{Value}
 use Rattle.script.specs.declared.Value.the-variants.{Word, Truth, Location}
 use Rattle.rules.specs.Demand3.Meaning.{Entry, entry, sumAt, atomAt, truthIn, locationIn, sum-plus, sum-below, sum-number, sum-symbol, equal-sums}
 use Rattle.rules.specs.Satisfiable.{holds}
-use Rattle.rules.specs.Symbolic.{Sum, number, plus, pair, Formula, constantly, atom, negation, conjunction, equality, Origin, made, other, Symbolic, aWord, aTruth, aReference, typeOf, symbol, symbols, apart, equalSums, equalReferences}
+use Rattle.rules.specs.Symbolic.{Sum, number, plus, pair, Formula, constantly, atom, negation, conjunction, equality, Origin, made, initial, other, Symbolic, aWord, aTruth, aReference, typeOf, symbol, symbols, apart, equalSums, equalReferences}
 use Rattle.rules.specs.Typings.{At, here, there, HasType, is-word, is-truth, is-location, Each, empty, also, HaveTypes, Extends}
 use Rattle.rules.specs.Typings.Laws.{at-found, at-same, extends-self, extends-trans, each-map}
 
@@ -39,16 +39,16 @@ stands-type (truth-for f) = is-truth
 stands-type (reference-for a b h) = is-location b h
 
 -- a symbol stands for its value
-pub symbol-stands : {typing : List ℕ} {ρ : List Entry} {x : Value} {t s : ℕ} → HasType typing x t → At ρ s (entry other x) → StandsFor typing ρ (symbol t s) x
+pub symbol-stands : {typing : List ℕ} {ρ : List Entry} {x : Value} {o : Origin} {t s : ℕ} → HasType typing x t → At ρ s (entry o x) → StandsFor typing ρ (symbol o t s) x
 unfolding symbol holds atomAt
-symbol-stands {s = s} (is-word {w = w} h) a = word-for (λ later e. sum-symbol (e .keeps s (entry other (Word w)) a) h)
-symbol-stands {s = s} (is-truth {b = b}) a = truth-for (λ later e. ap truthIn (at-found (e .keeps s (entry other (Truth b)) a)))
+symbol-stands {o = o} {s = s} (is-word {w = w} h) a = word-for (λ later e. sum-symbol (e .keeps s (entry o (Word w)) a) h)
+symbol-stands {o = o} {s = s} (is-truth {b = b}) a = truth-for (λ later e. ap truthIn (at-found (e .keeps s (entry o (Truth b)) a)))
 symbol-stands (is-location b h) a = reference-for a b h
 
 -- the values stand in the valuation from place s on
 data Placed (ρ : List Entry) : ℕ → List Value → Type 0 where
   none-placed : {s : ℕ} → Placed ρ s []
-  also-placed : {s : ℕ} {x : Value} {xs : List Value} → At ρ s (entry other x) → Placed ρ (suc s) xs → Placed ρ s (x ∷ xs)
+  also-placed : {s : ℕ} {x : Value} {xs : List Value} → At ρ s (entry initial x) → Placed ρ (suc s) xs → Placed ρ s (x ∷ xs)
 
 shifted : {ρ : List Entry} {s : ℕ} {xs : List Value} (e : Entry) → Placed ρ s xs → Placed (e ∷ ρ) (suc s) xs
 shifted e none-placed = none-placed
@@ -56,11 +56,11 @@ shifted e (also-placed a q) = also-placed (there a) (shifted e q)
 
 -- the variables at the start of a path, as a valuation
 abbrev pub valuation : List Value → List Entry
-valuation xs = map (entry other) xs
+valuation xs = map (entry initial) xs
 
 all-placed : (xs : List Value) → Placed (valuation xs) zero xs
 all-placed [] = none-placed
-all-placed (x ∷ xs) = also-placed here (shifted (entry other x) (all-placed xs))
+all-placed (x ∷ xs) = also-placed here (shifted (entry initial x) (all-placed xs))
 
 symbols-placed : {typing : List ℕ} {ρ : List Entry} {s : ℕ} {xs : List Value} {ts : List ℕ}
     → HaveTypes typing xs ts → Placed ρ s xs → Each (StandsFor typing ρ) (symbols s ts) xs
@@ -118,31 +118,25 @@ module _ {typing : List ℕ} {ρ : List Entry} where
 
 -- ---- references
 
--- no two `ref` symbols of the path are one cell
+-- symbols that are apart are different cells
 pub record Distinct (ρ : List Entry) : Type 0 where
-  pub distinct : (s u l : ℕ) → At ρ s (entry made (Location l)) → At ρ u (entry made (Location l)) → s ≡ u
+  pub distinct : (o p : Origin) (s u l : ℕ) → At ρ s (entry o (Location l)) → At ρ u (entry p (Location l)) → apart o s p u ≡ false
 
--- what being apart tells: both are `ref` symbols, and they are not the same
-record Apart (o : Origin) (s : ℕ) (p : Origin) (u : ℕ) : Type 0 where
-  first-made : o ≡ made
-  second-made : p ≡ made
-  not-same : s ≡ u → ⊥
-
-apart-tells : (o : Origin) (s : ℕ) (p : Origin) (u : ℕ) → apart o s p u ≡ true → Apart o s p u
+-- a symbol is not apart from itself
+pub not-apart : (o : Origin) (s : ℕ) (p : Origin) (u : ℕ) → s ≡ u → apart o s p u ≡ false
 unfolding apart
-apart-tells made s made u e = record { first-made = refl; second-made = refl; not-same = eqb-false s u (not-true (eqb s u) e) }
-apart-tells made s other u e = absurd (false≢true e)
-apart-tells other s made u e = absurd (false≢true e)
-apart-tells other s other u e = absurd (false≢true e)
-
-pub apart-symbols : (o : Origin) (s : ℕ) (p : Origin) (u : ℕ) → apart o s p u ≡ true → s ≡ u → ⊥
-apart-symbols o s p u e = apart-tells o s p u e .not-same
+not-apart made s made u e = ap not (eq-eqb s u e)
+not-apart made s initial u e = ap not (eq-eqb s u e)
+not-apart initial s made u e = ap not (eq-eqb s u e)
+not-apart initial s initial u e = refl
+not-apart made s other u e = refl
+not-apart initial s other u e = refl
+not-apart other s p u e = refl
 
 pub apart-differ : {ρ : List Entry} {o p : Origin} {s u l m : ℕ} → Distinct ρ → At ρ s (entry o (Location l)) → At ρ u (entry p (Location m))
     → apart o s p u ≡ true → l ≡ m → ⊥
 apart-differ {ρ} {o} {p} {s} {u} {l} {m} d a b e q =
-    let t = apart-tells o s p u e in
-    t .not-same (d .distinct s u l (rw (t .first-made) at a) (rw (t .second-made, ← q) at b))
+    true≢false (sym e ∙ d .distinct o p s u l a (rw (← q) at b))
 
 pub location-inside : {l m : ℕ} → Location l ≡ Location m → l ≡ m
 location-inside q = cc

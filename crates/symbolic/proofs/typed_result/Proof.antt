@@ -20,7 +20,7 @@ fresh-requires c κs =
     let at-forget = c .before .before .before in
     let at-consistent = at-forget .before .before .before in
     let at-start = at-consistent .before .before .before in
-    rw (at-forget .forget .ensures) (emptied-room (at-start .args .n) (at-start .args .t) (at-consistent .consistent .ensures) (at-start .pre))
+    (rw (at-forget .forget .ensures) (emptied-room (at-start .args .n) (at-start .args .t) (at-consistent .consistent .ensures) (at-start .pre)), omega arith)
 
 same-length-2 : tie.Need-same-length-2
 same-length-2 c = omega (arith, c .before .space2 .given, c .before .before .before .before .before .space .given)

@@ -1,26 +1,35 @@
 -- The place of a reference has its symbol and its origin; and what the code answers of two places, case by case. Assumes nothing.
 use mathlib.Core.Bool.{false, not}
 use mathlib.Core.Path.{_≡_, refl, sym}
-use Prim.Native.Nat.{ℕ, _%_}
+use Prim.Native.Nat.{ℕ, zero, suc, _+_, _*_, _%_, _≤_, _<_}
 use native.Mathlib.Omega.{arith}
 use lib.Dec.{eqb}
-use Rattle.rules.specs.Symbolic.{Origin, made, other, apart}
+use Rattle.rules.specs.Symbolic.{Origin, made, initial, other, apart}
 use Rattle.terms.specs.References.{origins, originNumber, originBy, referenceAt, symbolAt, originAt, apartAt}
 
 pub symbol-of : (o : Origin) (s : ℕ) → symbolAt (referenceAt o s) ≡ s
 symbol-of made s = omega arith
+symbol-of initial s = omega arith
 symbol-of other s = omega arith
 
 number-of : (o : Origin) (s : ℕ) → referenceAt o s % origins ≡ originNumber o
 number-of made s = omega arith
+number-of initial s = omega arith
 number-of other s = omega arith
 
 by-number : (o : Origin) → originBy (originNumber o) ≡ o
 by-number made = refl
+by-number initial = refl
 by-number other = refl
 
 pub origin-of : (o : Origin) (s : ℕ) → originAt (referenceAt o s) ≡ o
 origin-of o s = rw (number-of o s) (by-number o)
+
+pub reference-is : (s n : ℕ) → n < origins → origins * s + n ≡ referenceAt (originBy n) s
+reference-is s zero l = refl
+reference-is s (suc zero) l = refl
+reference-is s (suc (suc zero)) l = refl
+reference-is s (suc (suc (suc n))) l = absurd (omega arith)
 
 pub apart-of : (o : Origin) (s : ℕ) (p : Origin) (u : ℕ) → apartAt (referenceAt o s) (referenceAt p u) ≡ apart o s p u
 unfolding apartAt
@@ -28,31 +37,34 @@ apart-of o s p u = rw (origin-of o s, origin-of p u, symbol-of o s, symbol-of p 
 
 -- ---- the tests of the code
 
-other-first : (s : ℕ) (p : Origin) (u : ℕ) → apart other s p u ≡ false
+-- two origins by their numbers: their symbols are apart where the sum is more than that of `ref` alone, and the symbols differ
+together : (m n : ℕ) (s u : ℕ) → m + n ≤ originNumber made → apart (originBy m) s (originBy n) u ≡ false
 unfolding apart
-other-first s made u = refl
-other-first s other u = refl
+together zero n s u l = refl
+together (suc zero) zero s u l = refl
+together (suc zero) (suc zero) s u l = refl
+together (suc zero) (suc (suc n)) s u l = absurd (omega arith)
+together (suc (suc m)) zero s u l = refl
+together (suc (suc m)) (suc n) s u l = absurd (omega arith)
 
-other-second : (o : Origin) (s u : ℕ) → apart o s other u ≡ false
+parted : (m n : ℕ) (s u : ℕ) → m < origins → n < origins → originNumber made < m + n → apart (originBy m) s (originBy n) u ≡ not (eqb s u)
 unfolding apart
-other-second made s u = refl
-other-second other s u = refl
-
-not-made : (q : ℕ) → (q % origins ≡ originNumber made → ⊥) → originAt q ≡ other
-not-made q n = let e : q % origins ≡ 0 = omega arith in rw e refl
-
-is-made : (q : ℕ) → q % origins ≡ originNumber made → originAt q ≡ made
-is-made q e = rw e refl
+parted zero n s u k l h = absurd (omega arith)
+parted (suc zero) zero s u k l h = absurd (omega arith)
+parted (suc zero) (suc zero) s u k l h = absurd (omega arith)
+parted (suc zero) (suc (suc n)) s u k l h = refl
+parted (suc (suc m)) zero s u k l h = absurd (omega arith)
+parted (suc (suc m)) (suc zero) s u k l h = refl
+parted (suc (suc m)) (suc (suc n)) s u k l h = refl
 
 module _ (p q : ℕ) where
-  pub apart-first : (p % origins ≡ originNumber made → ⊥) → false ≡ apartAt p q
-  unfolding apartAt
-  apart-first n = rw (not-made p n) (sym (other-first (symbolAt p) (originAt q) (symbolAt q)))
+  pub origins-few : p % origins + q % origins ≤ 2 * originNumber made
+  origins-few = omega arith
 
-  pub apart-second : (q % origins ≡ originNumber made → ⊥) → false ≡ apartAt p q
+  pub apart-few : p % origins + q % origins ≤ originNumber made → false ≡ apartAt p q
   unfolding apartAt
-  apart-second n = rw (not-made q n) (sym (other-second (originAt p) (symbolAt p) (symbolAt q)))
+  apart-few l = sym (together (p % origins) (q % origins) (symbolAt p) (symbolAt q) l)
 
-  pub apart-both : p % origins ≡ originNumber made → q % origins ≡ originNumber made → not (eqb (symbolAt p) (symbolAt q)) ≡ apartAt p q
-  unfolding apartAt apart
-  apart-both e f = rw (is-made p e, is-made q f) refl
+  pub apart-many : originNumber made < p % origins + q % origins → not (eqb (symbolAt p) (symbolAt q)) ≡ apartAt p q
+  unfolding apartAt
+  apart-many h = sym (parted (p % origins) (q % origins) (symbolAt p) (symbolAt q) (omega arith) (omega arith) h)

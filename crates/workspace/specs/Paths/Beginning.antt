@@ -9,7 +9,7 @@ use lib.ListN.{length, getD, set, length-set}
 use lib.Seq.{getD-set-same, getD-set-other}
 use Rattle.rules.specs.Paths.{start}
 use Rattle.rules.specs.Satisfiable.Laws.{true-satisfiable}
-use Rattle.rules.specs.Symbolic.{Symbolic, symbol, symbols}
+use Rattle.rules.specs.Symbolic.{initial, Symbolic, symbol, symbols}
 use Rattle.terms.specs.Places.{symbolLimit, countAt, variablesEnd, rowAt}
 use Rattle.terms.specs.Terms.{Space, pushed, Distinct, Grown, ofConstant}
 use Rattle.terms.specs.Terms.Laws.{pushed-length, pushed-count, pushed-above, made-constant}
@@ -21,19 +21,19 @@ use Rattle.workspace.specs.State.{typesOn, Means, Variables, noVariable,
 use Rattle.workspace.specs.State.Laws.{nothing-known, still-known, types-length, variables-kept, means-at, path-kept, path-rewound, distinct-same, same-grown}
 
 -- one variable more is one symbol more
-symbols-last : (s : ℕ) (ts : List ℕ) (t : ℕ) → symbols s (ts ++ (t ∷ [])) ≡ symbols s ts ++ (symbol t (s + length ts) ∷ [])
+symbols-last : (s : ℕ) (ts : List ℕ) (t : ℕ) → symbols s (ts ++ (t ∷ [])) ≡ symbols s ts ++ (symbol initial t (s + length ts) ∷ [])
 unfolding symbols
 symbols-last s [] t = let e : s + 0 ≡ s = omega arith in rw e refl
 symbols-last s (u ∷ ts) t =
     let e : suc s + length ts ≡ s + suc (length ts) = omega arith in
-    ap (λ (vs : List Symbolic). symbol u s ∷ vs) (symbols-last (suc s) ts t ∙ rw e refl)
+    ap (λ (vs : List Symbolic). symbol initial u s ∷ vs) (symbols-last (suc s) ts t ∙ rw e refl)
 
-types-last : (types : List ℕ) (i : ℕ) → symbols 0 (typesOn types (suc i)) ≡ symbols 0 (typesOn types i) ++ (symbol (getD types (2 * i) 0) i ∷ [])
+types-last : (types : List ℕ) (i : ℕ) → symbols 0 (typesOn types (suc i)) ≡ symbols 0 (typesOn types i) ++ (symbol initial (getD types (2 * i) 0) i ∷ [])
 unfolding typesOn
 types-last types i =
     let e : 0 + length (typesOn types i) ≡ i = let l = types-length types i in omega arith in
     symbols-last 0 (typesOn types i) (getD types (2 * i) 0)
-    ∙ ap (λ (k : ℕ). symbols 0 (typesOn types i) ++ (symbol (getD types (2 * i) 0) k ∷ [])) e
+    ∙ ap (λ (k : ℕ). symbols 0 (typesOn types i) ++ (symbol initial (getD types (2 * i) 0) k ∷ [])) e
 
 -- ---- row 0
 
@@ -94,7 +94,7 @@ module _ {types ws : List ℕ} {i : ℕ} (l : i < symbolLimit) (s : Starting typ
         writes = omega (arith, s .writes);
       }
 
-  module _ {q : ℕ} {xs : List ℕ} (f : Fresh (getD types (2 * i) 0) ws q xs) where
+  module _ {q : ℕ} {xs : List ℕ} (f : Fresh initial (getD types (2 * i) 0) ws q xs) where
     fresh-lent : spaceSize ≤ length xs
     fresh-lent = omega (arith, f .ruled .went .same, s .lent)
 
@@ -134,7 +134,7 @@ module _ {types ws : List ℕ} {i : ℕ} (l : i < symbolLimit) (s : Starting typ
 
     placed-variables : Variables placed (suc i) (symbols 0 (typesOn types (suc i)))
     placed-variables =
-        let m : Means xs (getD types (2 * i) 0) q (symbol (getD types (2 * i) 0) i) = rw (s .next) at (f .means (s .path .distinct)) in
+        let m : Means xs (getD types (2 * i) 0) q (symbol initial (getD types (2 * i) 0) i) = rw (s .next) at (f .means (s .path .distinct)) in
         rw (types-last types i)
         (oneMore
         (variables-kept i (omega arith) placed-before placed-grown

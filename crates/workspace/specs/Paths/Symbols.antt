@@ -10,7 +10,7 @@ use lib.ListN.{length, getD, set, length-set}
 use lib.Seq.{getD-set-same, getD-set-other}
 use Rattle.script.specs.Tests.{pick}
 use Rattle.rules.specs.Paths.{Path, taken}
-use Rattle.rules.specs.Symbolic.{symbol, other}
+use Rattle.rules.specs.Symbolic.{Origin, symbol}
 use Rattle.terms.specs.Atoms.{foundOr, atomRowOf, atomLeft}
 use Rattle.terms.specs.Atoms.Made.{made-truth}
 use Rattle.terms.specs.Places.{symbolLimit, countAt}
@@ -109,9 +109,9 @@ module _ (ws : List ℕ) (room : Room ws 1) where
           notes = record { each = λ k l m. behind k (omega arith) };
         }
 
-    fresh-by : (t q : ℕ) → (Distinct numbered → Distinct left) → (Distinct numbered → Means left t q (symbol t (nextIn ws))) → q ≡ freshPlace t ws
-        → left ≡ freshLeft t ws → Fresh t ws q left
-    fresh-by t q d m eq el =
+    fresh-by : (o : Origin) (t q : ℕ) → (Distinct numbered → Distinct left) → (Distinct numbered → Means left t q (symbol o t (nextIn ws))) → q ≡ freshPlace o t ws
+        → left ≡ freshLeft t ws → Fresh o t ws q left
+    fresh-by o t q d m eq el =
         record {
           ruled = numbered-ruled;
           means = λ x. m (numbered-distinct x);
@@ -126,29 +126,29 @@ module _ (ws : List ℕ) (room : Room ws 1) where
   fresh-symbol : nextIn ws < symbolLimit
   fresh-symbol = omega (arith, room .symbols)
 
-  pub fresh-word : (t q : ℕ) (left : List ℕ) → t ≡ 0 → q ≡ countIn numbered → left ≡ pushed numbered ofSymbol (nextIn ws) 0 → Fresh t ws q left
+  pub fresh-word : (o : Origin) (t q : ℕ) (left : List ℕ) → t ≡ 0 → q ≡ countIn numbered → left ≡ pushed numbered ofSymbol (nextIn ws) 0 → Fresh o t ws q left
   unfolding symbol freshPlace freshLeft
-  fresh-word t q left e f g =
+  fresh-word o t q left e f g =
       rw (e, f, g)
-      (fresh-by (pushed-length numbered-space 1 (nextIn ws) 0) (pushed-added numbered-space 1 (nextIn ws) 0) 0 (countIn numbered)
+      (fresh-by (pushed-length numbered-space 1 (nextIn ws) 0) (pushed-added numbered-space 1 (nextIn ws) 0) o 0 (countIn numbered)
       (λ d. made-symbol numbered-space d (nextIn ws) 0 fresh-symbol .distinct)
       (λ d. let m = made-symbol numbered-space d (nextIn ws) 0 fresh-symbol in wordRow (m .inside) (m .is)) refl refl)
 
-  pub fresh-truth : (t q : ℕ) (left : List ℕ) → t ≡ 1 → q ≡ atomRowOf numbered ofTruth (nextIn ws) (nextIn ws) → left ≡ atomLeft numbered ofTruth (nextIn ws) (nextIn ws)
-      → Fresh t ws q left
+  pub fresh-truth : (o : Origin) (t q : ℕ) (left : List ℕ) → t ≡ 1 → q ≡ atomRowOf numbered ofTruth (nextIn ws) (nextIn ws) → left ≡ atomLeft numbered ofTruth (nextIn ws) (nextIn ws)
+      → Fresh o t ws q left
   unfolding symbol freshPlace freshLeft
-  fresh-truth t q left e f g =
+  fresh-truth o t q left e f g =
       let s = nextIn ws in
       rw (e, f, g)
-      (fresh-by (atom-length numbered-space ofTruth s s) (atom-added numbered-space ofTruth s s) 1 (atomRowOf numbered ofTruth s s)
+      (fresh-by (atom-length numbered-space ofTruth s s) (atom-added numbered-space ofTruth s s) o 1 (atomRowOf numbered ofTruth s s)
       (λ d. made-truth numbered-space d s (atomRowOf numbered ofTruth s s) (atomLeft numbered ofTruth s s) refl refl .distinct)
       (λ d. let m = made-truth numbered-space d s (atomRowOf numbered ofTruth s s) (atomLeft numbered ofTruth s s) refl refl in truthRow (m .inside) (m .is)) refl refl)
 
-  fresh-at : (t : ℕ) → Fresh (suc (suc t)) ws (referenceAt other (nextIn ws)) numbered
+  fresh-at : (o : Origin) (t : ℕ) → Fresh o (suc (suc t)) ws (referenceAt o (nextIn ws)) numbered
   unfolding symbol freshPlace freshLeft
-  fresh-at t = fresh-by refl (added-refl numbered 1) (suc (suc t)) (referenceAt other (nextIn ws)) (λ d. d) (λ d. referencePlace refl) refl refl
+  fresh-at o t = fresh-by refl (added-refl numbered 1) o (suc (suc t)) (referenceAt o (nextIn ws)) (λ d. d) (λ d. referencePlace refl) refl refl
 
-  pub fresh-reference : (t : ℕ) → (t ≡ 0 → ⊥) → (t ≡ 1 → ⊥) → Fresh t ws (referenceAt other (nextIn ws)) numbered
-  fresh-reference zero m n = absurd (m refl)
-  fresh-reference (suc zero) m n = absurd (n refl)
-  fresh-reference (suc (suc t)) m n = fresh-at t
+  pub fresh-reference : (o : Origin) (t : ℕ) → (t ≡ 0 → ⊥) → (t ≡ 1 → ⊥) → Fresh o t ws (referenceAt o (nextIn ws)) numbered
+  fresh-reference o zero m n = absurd (m refl)
+  fresh-reference o (suc zero) m n = absurd (n refl)
+  fresh-reference o (suc (suc t)) m n = fresh-at o t

@@ -103,8 +103,8 @@ module _ (n t q : ℕ) {ws : List ℕ} where
     abbrev numbered : List ℕ
     numbered = Numbers.numbered ws
 
-    fresh : Fresh (t + 2) ws (referenceAt other (nextIn ws)) numbered
-    fresh = fresh-reference ws x (t + 2) (λ e. omega arith) (λ e. omega arith)
+    fresh : Fresh made (t + 2) ws (referenceAt made (nextIn ws)) numbered
+    fresh = fresh-reference ws x made (t + 2) (λ e. omega arith) (λ e. omega arith)
 
     pub ref-lent : spaceSize ≤ length numbered
     ref-lent = omega (arith, length-set ws nextAt (nextIn ws + 1), x .lent)
@@ -169,8 +169,8 @@ found-type e = cc
 found-place : {u i w j : ℕ} → Value w j ≡ Value u i → j ≡ i
 found-place e = cc
 
-fresh-yields : {ws left : List ℕ} {i : ℕ} (t c : ℕ) → t ≡ c → Fresh t ws i left → {p : Path} → PathIn ws p
-    → Yields left (Gave t i) (ends (symbol c (p .next)) (taken p))
+fresh-yields : {ws left : List ℕ} {i : ℕ} (t c : ℕ) → t ≡ c → Fresh other t ws i left → {p : Path} → PathIn ws p
+    → Yields left (Gave t i) (ends (symbol other c (p .next)) (taken p))
 fresh-yields t c e x {p} h = rw (sym e) (ending (rw (h .next) at (x .means (h .distinct))) (x .path p h))
 
 -- ---- `get`
@@ -198,7 +198,7 @@ get-found n q {ws} {u = u} {i = i} p e h (refers {o = o} {c = c} {s = s}) m d z 
 
 -- nothing is found: a fresh symbol
 get-nothing : (n q : ℕ) {ws left : List ℕ} {t i : ℕ} {v : Symbolic} {f : Found} (p : Path) → consistent p ≡ true → PathIn ws p → Refers t v → Means ws t q v
-    → lookupIn ws q ≡ f → f ≡ Nothing → Fresh (t - 2) ws i left → Yields left (Gave (t - 2) i) (unaryExec n getOp v p)
+    → lookupIn ws q ≡ f → f ≡ Nothing → Fresh other (t - 2) ws i left → Yields left (Gave (t - 2) i) (unaryExec n getOp v p)
 unfolding unaryExec
 get-nothing n q {ws} {left} {i = i} p e h (refers {o = o} {c = c} {s = s}) m d z x =
     rw e (go (lookupIn ws q) (lookup o s (p .log)) (lookup-is (h .log) m) (d ∙ z))
@@ -233,7 +233,7 @@ module _ (n t q : ℕ) {ws : List ℕ} where
             exactly = rw (le-ltb t 2 l, sym e ∙ z, sym d ∙ y) refl;
           }
 
-      pub get-fresh : f ≡ Nothing → {i : ℕ} {left : List ℕ} → Fresh (t - 2) ws i left → One (unaryForm getOp) n t q ws (Gave (t - 2) i) left
+      pub get-fresh : f ≡ Nothing → {i : ℕ} {left : List ℕ} → Fresh other (t - 2) ws i left → One (unaryForm getOp) n t q ws (Gave (t - 2) i) left
       unfolding oneExec oneGives unaryGives gotGives
       get-fresh y x =
           record {
@@ -293,7 +293,7 @@ module _ (n t : ℕ) {ws : List ℕ} {b : Bool} (e : b ≡ consistentIn ws) wher
     pub emptied-room : Room (emptied ws) 1
     emptied-room = room-on x emptied-went
 
-    pub block-made : b ≡ true → {i : ℕ} {left : List ℕ} → Fresh t (emptied ws) i left → After n t ws (Gave t i) left
+    pub block-made : b ≡ true → {i : ℕ} {left : List ℕ} → Fresh other t (emptied ws) i left → After n t ws (Gave t i) left
     unfolding typedResult
     block-made z y =
         record {

@@ -7,7 +7,7 @@ use Rattle.checker.proofs.path.start_variable.Statement.{statement}
 use Rattle.checker.proofs.path.start_variable.Tie as tie
 
 fresh-requires : tie.Need-fresh-requires
-fresh-requires c κs = let e = c .before .before .before .before .pre in starting-room (e .1 .0) (e .1 .1)
+fresh-requires c κs = let e = c .before .before .before .before .pre in (starting-room (e .1 .0) (e .1 .1), omega arith)
 
 slice-write-space-2 : tie.Need-slice-write-space-2
 slice-write-space-2 c =
