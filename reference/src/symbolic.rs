@@ -13,20 +13,35 @@ use std::rc::Rc;
 /// "a `sym` needs a 65th path" is refused.
 const MAX_PATHS: u32 = 64;
 
+/// How a reference's symbol came to the path.
+#[derive(Clone, Copy)]
+enum Origin {
+    /// A `ref` of this path made it.
+    Ref,
+    /// It "stood for a variable when the path began".
+    Variable,
+    /// A `get` or a typed block made it.
+    Other,
+}
+
 /// A reference is always a symbol.
 #[derive(Clone, Copy)]
 struct Reference {
     symbol: Symbol,
     /// The code of the reference's own type.
     code: u32,
-    /// Whether a `ref` of this path made the symbol.
-    made_by_ref: bool,
+    origin: Origin,
 }
 
 impl Reference {
-    /// "two different `ref` symbols of this path".
+    /// "two different `ref` symbols of this path", and by request U1 a `ref` symbol and "each
+    /// symbol that stood for a variable when the path began".
     fn is_certainly_different(&self, other: &Reference) -> bool {
-        self.symbol != other.symbol && self.made_by_ref && other.made_by_ref
+        match (self.origin, other.origin) {
+            (Origin::Ref, Origin::Ref) => self.symbol != other.symbol,
+            (Origin::Ref, Origin::Variable) | (Origin::Variable, Origin::Ref) => true,
+            _ => false,
+        }
     }
 }
 
@@ -140,7 +155,7 @@ impl Path {
             values: Vec::new(),
         };
         for code in types {
-            let variable = path.fresh(*code);
+            let variable = path.fresh(*code, Origin::Variable);
             path.environment.push(variable);
         }
         path
@@ -151,8 +166,8 @@ impl Path {
         self.next_symbol - 1
     }
 
-    /// A fresh symbol of a type, not made by `ref`.
-    fn fresh(&mut self, code: u32) -> Value {
+    /// A fresh symbol of a type; the origin is that of a reference.
+    fn fresh(&mut self, code: u32, origin: Origin) -> Value {
         let symbol = self.fresh_symbol();
         match code {
             WORD => Value::Word(Rc::new(Sum::symbol(symbol))),
@@ -160,7 +175,7 @@ impl Path {
             _ => Value::Reference(Reference {
                 symbol,
                 code,
-                made_by_ref: false,
+                origin,
             }),
         }
     }
@@ -272,8 +287,8 @@ impl Path {
         Some(Value::Truth(truth))
     }
 
-    /// "the same symbol is true, two different `ref` symbols of this path are false, else the
-    /// unordered pair is an atom".
+    /// "the same symbol is true", two that are certainly different are "false, else the unordered
+    /// pair is an atom".
     fn equal_references(&mut self, a: Reference, b: Reference) -> TruthId {
         if a.symbol == b.symbol {
             self.truths.constant(true)
@@ -290,7 +305,7 @@ impl Path {
         let through = Reference {
             symbol: self.fresh_symbol(),
             code,
-            made_by_ref: true,
+            origin: Origin::Ref,
         };
         self.log.push(Write { through, value });
         Ok(Value::Reference(through))
@@ -307,14 +322,14 @@ impl Path {
         Ok(self.look_up(&reference))
     }
 
-    /// "Seen from the newest, writes through certainly different `ref` symbols are passed over; if
-    /// the next one is through the same symbol its value is the answer, else a fresh symbol is."
+    /// "Seen from the newest, writes through certainly different" symbols "are passed over; if the
+    /// next one is through the same symbol its value is the answer, else a fresh symbol is."
     fn look_up(&mut self, reference: &Reference) -> Value {
         let mut newest_first = self.log.iter().rev();
         let next = newest_first.find(|write| !write.through.is_certainly_different(reference));
         match next {
             Some(write) if write.through.symbol == reference.symbol => write.value.clone(),
-            _ => self.fresh(reference.code - 2),
+            _ => self.fresh(reference.code - 2, Origin::Other),
         }
     }
 
@@ -355,7 +370,7 @@ impl Path {
             return Err(Refusal::at(9, number));
         }
         self.log.clear();
-        Ok(self.fresh(code))
+        Ok(self.fresh(code, Origin::Other))
     }
 
     /// "An `if` is tested right after its condition, 6 first", then 12. The true branch goes on, the

@@ -1,4 +1,5 @@
-//! The paper's own cases, and at least one case for each refusal of a script in text.
+//! The paper's own cases, at least one case for each refusal of a script in text, and the cases of
+//! request U1.
 
 use reference::{
     check, check_line, check_text, read, run, run_text, type_name, write, Node, Outcome, Refusal,
@@ -375,23 +376,29 @@ fn refusal_9_and_10() {
     }
 }
 
-/// Whether `condition`'s nodes, put before an `if` with branches of two types, leave one path only.
-fn one_path(entries: &str, condition: &[&str]) -> bool {
-    let last = condition.len() - 1;
+/// Which branch alone is taken if `condition`'s nodes are put before an `if` with branches of two
+/// types; none if both are.
+fn decided(entries: &str, condition: &str) -> Option<bool> {
+    let last = condition.split("; ").count() - 1;
     let short = format!(
-        "{entries}{}; int 1; true; if {last} {} {}; sym {}",
-        condition.join("; "),
+        "{entries}{condition}; int 1; true; if {last} {} {}; sym {}",
         last + 1,
         last + 2,
         last + 3
     );
     match says(&short).as_str() {
-        "i" | "b" => true,
+        "i" => Some(true),
+        "b" => Some(false),
         answer => {
             assert_eq!(answer, format!("10 at {}", last + 4), "{short}");
-            false
+            None
         }
     }
+}
+
+/// Whether `condition`'s nodes, put before an `if` with branches of two types, leave one path only.
+fn one_path(entries: &str, condition: &[&str]) -> bool {
+    decided(entries, &condition.join("; ")).is_some()
 }
 
 #[test]
@@ -430,16 +437,16 @@ fn equalities_and_the_log() {
         "entry b; ",
         &["var 0", "var 0", "not 1", "eq 0 2"]
     ));
-    // Two `ref` symbols differ; an entry's and a `ref`'s may be the same.
+    // Two `ref` symbols differ, and by U1 an entry's and a `ref`'s do.
     assert!(one_path(
         "",
         &["int 1", "ref 0", "int 1", "ref 2", "eq 1 3"]
     ));
-    assert!(!one_path(
+    assert!(one_path(
         "entry ri; ",
         &["var 0", "int 1", "ref 1", "eq 0 2"]
     ));
-    // A read passes over a write through another `ref` symbol, not over one through an entry.
+    // A read passes over a write through another `ref` symbol, and by U1 over one through an entry.
     let read = [
         "int 1", "ref 0", "int 2", "ref 2", "var 0", "get 4", "int 1", "eq 5 6", "let 3 7",
         "let 1 8",
@@ -449,7 +456,7 @@ fn equalities_and_the_log() {
         "int 1", "ref 0", "var 0", "int 2", "set 2 3", "var 1", "get 5", "int 1", "eq 6 7",
         "let 4 8", "let 1 9",
     ];
-    assert!(!one_path("entry ri; ", &entry_write));
+    assert!(one_path("entry ri; ", &entry_write));
     // Two reads without a write give two fresh symbols.
     assert!(!one_path(
         "entry ri; ",
@@ -461,6 +468,184 @@ fn equalities_and_the_log() {
         "let 5 8", "let 3 9", "let 1 10",
     ];
     assert!(one_path("", &after));
+}
+
+/// A new cell, `var` 2, in a block with one entry, beside the reference that two nodes give and a
+/// `let` binds, `var` 1: whether the cell's value is known after a write through the reference, the
+/// reference's after the write of the cell, and whether the two are the same.
+fn beside_a_new_cell(entry: &str, reference: &str) -> [Option<bool>; 3] {
+    [
+        "int 1; ref 2; var 1; int 2; set 4 5; var 2; get 7; int 1; eq 8 9; let 6 10; let 3 11; \
+         let 1 12",
+        "var 1; int 1; set 2 3; int 2; ref 5; var 1; get 7; int 1; eq 8 9; let 6 10; let 4 11; \
+         let 1 12",
+        "int 1; ref 2; var 2; var 1; eq 4 5; let 3 6; let 1 7",
+    ]
+    .map(|rest| decided(entry, &format!("{reference}; {rest}")))
+}
+
+#[test]
+fn a_new_cell_is_never_an_old_one() {
+    // A `ref`, a store through it, a store through an entry: what is read back is known.
+    assert_eq!(
+        says(
+            "entry rb; false; ref 0; var 1; true; set 2 3; var 0; false; set 5 6; var 1; get 8; \
+             int 1; var 99; if 9 10 11; let 7 12; let 4 13; let 1 14; sym 15"
+        ),
+        "i"
+    );
+    // A `let` that binds a variable's symbol or a `ref` symbol leaves it what it is.
+    let different = [Some(true), Some(true), Some(false)];
+    assert_eq!(beside_a_new_cell("entry ri; ", "var 0; sym 0"), different);
+    assert_eq!(beside_a_new_cell("entry ri; ", "int 5; ref 0"), different);
+    // What a `get` or a typed block makes may be the new cell.
+    assert_eq!(beside_a_new_cell("entry rri; ", "var 0; get 0"), [None; 3]);
+    assert_eq!(beside_a_new_cell("entry ri; ", "var 0; typed 0"), [None; 3]);
+    let cases = [
+        // The same of a variable itself, in both orders of `eq`.
+        ("entry ri; ", "var 0; int 1; ref 1; eq 0 2", Some(false)),
+        ("entry ri; ", "int 1; ref 0; var 0; eq 1 2", Some(false)),
+        (
+            "entry ri; ",
+            "var 0; int 1; set 0 1; int 2; ref 3; var 0; get 5; int 1; eq 6 7; let 4 8; let 2 9",
+            Some(true),
+        ),
+        // Writes through two entries are passed over, one of them of another type.
+        (
+            "entry ri; entry rb; ",
+            "int 1; ref 0; var 0; int 2; set 2 3; var 1; true; set 5 6; var 2; get 8; int 1; \
+             eq 9 10; let 7 11; let 4 12; let 1 13",
+            Some(true),
+        ),
+        // Two entries may still be one cell, also behind a new cell's write.
+        (
+            "entry ri; entry ri; ",
+            "var 0; int 1; set 0 1; var 1; int 2; set 3 4; int 3; ref 6; var 0; get 8; int 1; \
+             eq 9 10; let 7 11; let 5 12; let 2 13",
+            None,
+        ),
+        // A `get` that finds an entry's symbol in the log gives that symbol.
+        (
+            "entry ri; ",
+            "var 0; ref 0; int 1; ref 2; var 1; get 4; int 2; set 5 6; var 2; get 8; int 1; \
+             eq 9 10; let 7 11; let 3 12; let 1 13",
+            Some(true),
+        ),
+        // After a typed block it finds none.
+        (
+            "entry ri; ",
+            "var 0; ref 0; int 0; typed 2; int 1; ref 4; var 1; get 6; int 2; set 7 8; var 3; \
+             get 10; int 1; eq 11 12; let 9 13; let 5 14; let 3 15; let 1 16",
+            None,
+        ),
+        // On each of two paths the new cell is not the entry's.
+        (
+            "entry ri; entry b; ",
+            "var 1; int 1; ref 1; int 2; ref 3; if 0 2 4; var 0; eq 5 6",
+            Some(false),
+        ),
+    ];
+    for (entries, condition, answer) in cases {
+        assert_eq!(decided(entries, condition), answer, "{condition}");
+    }
+}
+
+#[test]
+fn a_new_cell_changes_no_other_rule() {
+    let cases = [
+        // Types come first in `eq`.
+        ("entry rb; int 1; ref 0; var 0; eq 1 2; sym 3", "6 at 3"),
+        // A wrong write through a certainly different symbol is a wrong write.
+        (
+            "entry ri; int 1; ref 0; var 1; true; set 2 3; var 0; get 5; let 4 6; let 1 7; sym 8",
+            "9 at 6",
+        ),
+        (
+            "entry ri; var 0; true; set 0 1; int 7; ref 3; let 2 4; sym 5",
+            "9 at 6",
+        ),
+    ];
+    for (short, answer) in cases {
+        assert_eq!(says(short), answer, "{short}");
+    }
+}
+
+#[test]
+fn variables_are_those_when_the_path_began() {
+    // A new cell is read back after a write through what the `let` outside of it binds; the `sym`
+    // stands over the `let`, or in it, or both, or both with a typed block between.
+    let answers = |entry: &str, reference: &str| {
+        [
+            "let 1 15; sym 16",
+            "sym 15; let 1 16",
+            "sym 15; let 1 16; sym 17",
+            "sym 15; typed 16; let 1 17; sym 18",
+        ]
+        .map(|blocks| {
+            says(&format!(
+                "{entry}; {reference}; int 1; ref 2; var 1; int 2; set 4 5; var 2; get 7; int 1; \
+                 eq 8 9; let 6 10; let 3 11; int 1; true; if 12 13 14; {blocks}"
+            ))
+        })
+    };
+    let open_inside = ["10 at 17", "i", "10 at 18", "i"];
+    assert_eq!(answers("entry rri", "var 0; get 0"), open_inside);
+    assert_eq!(answers("entry ri", "var 0; typed 0"), open_inside);
+    assert_eq!(answers("entry ri", "var 0; sym 0"), ["i"; 4]);
+    assert_eq!(answers("entry ri", "int 5; ref 0"), ["i"; 4]);
+    // Two `ref` cells of an outer path are variables, and may be one cell, on an inner path.
+    let cells = [
+        ("let 3 9; let 1 10; sym 11", "b"),
+        ("sym 9; let 3 10; let 1 11", "10 at 10"),
+        ("sym 9; let 3 10; let 1 11; sym 12", "b"),
+        ("sym 9; typed 10; let 3 11; let 1 12; sym 13", "10 at 10"),
+    ];
+    for (blocks, answer) in cells {
+        let short = format!(
+            "int 1; ref 0; int 1; ref 2; var 0; var 1; eq 4 5; int 1; true; if 6 7 8; {blocks}"
+        );
+        assert_eq!(says(&short), answer, "{short}");
+    }
+    // After a typed block the outer path's symbols are what they were.
+    let after = [
+        (
+            "int 1; ref 0; var 1; sym 2; typed 3; var 0; var 1; eq 5 6; let 4 7; let 1 8",
+            Some(false),
+        ),
+        (
+            "int 0; ref 0; int 0; typed 2; var 1; int 1; set 4 5; var 0; int 2; set 7 8; var 1; \
+             get 10; int 1; eq 11 12; let 9 13; let 6 14; let 3 15; let 1 16",
+            Some(true),
+        ),
+        (
+            "int 0; typed 0; var 0; int 1; set 2 3; int 2; ref 5; var 0; get 7; int 1; eq 8 9; \
+             let 6 10; let 4 11; let 1 12",
+            Some(true),
+        ),
+    ];
+    for (condition, answer) in after {
+        assert_eq!(decided("entry ri; ", condition), answer, "{condition}");
+    }
+}
+
+#[test]
+fn a_new_cell_and_an_old_one_bring_no_atom() {
+    // One `if` on ten truth entries and on two references not being the same.
+    let with_ten_atoms = |references: &str| {
+        let mut lines = vec!["entry b".to_string(); 10];
+        lines.extend(["entry ri", "entry ri", "entry rri", "var 0"].map(String::from));
+        for k in 1..10 {
+            lines.push(format!("var {k}"));
+            lines.push(format!("and {} {}", 2 * k - 2, 2 * k - 1));
+        }
+        lines.push(references.to_string());
+        lines.push("eq 20 21; not 22; and 18 23; int 1; int 2; if 24 25 26; sym 27".to_string());
+        says(&lines.join("; "))
+    };
+    assert_eq!(with_ten_atoms("int 1; ref 19; var 10"), "i");
+    assert_eq!(with_ten_atoms("var 11; sym 19; var 10"), "12 at 27");
+    assert_eq!(with_ten_atoms("var 12; get 19; var 10"), "12 at 27");
+    assert_eq!(with_ten_atoms("var 10; typed 19; var 10"), "12 at 27");
 }
 
 #[test]

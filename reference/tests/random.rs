@@ -201,6 +201,64 @@ fn accepted_scripts_run_well() {
     }
 }
 
+/// Five steps that make references or put them in cells, four that store words, then an `if` with
+/// branches of two types on a word that is read back.
+fn reading_back(random: &mut Random) -> Script {
+    let entries = vec![2, 2, 4, 4];
+    let mut types = entries.clone();
+    let mut maker = Maker {
+        random,
+        nodes: Vec::new(),
+    };
+    let mut bound = Vec::new();
+    for step in 0..9 {
+        let (kind, code) = match step {
+            0..5 => [(10, 0), (10, 2), (11, 2), (12, 2), (13, 2)][maker.random.below(5) as usize],
+            _ => (12, 0),
+        };
+        let first = match kind {
+            11 | 12 => maker.leaf(code + 2, &types),
+            _ => maker.leaf(code, &types),
+        };
+        let second = match kind {
+            12 => maker.leaf(code, &types),
+            _ => 0,
+        };
+        bound.push(maker.push(kind, [first, second, 0]));
+        types.push(if kind == 10 { code + 2 } else { code });
+    }
+    let cell = maker.leaf(2, &types);
+    let word = maker.push(11, [cell, 0, 0]);
+    let other = maker.leaf(0, &types);
+    let condition = maker.push(5, [word, other, 0]);
+    let one = maker.push(0, [1, 0, 0]);
+    let truth = maker.push(1, [0; 3]);
+    let mut body = maker.push(8, [condition, one, truth]);
+    for first in bound.into_iter().rev() {
+        body = maker.push(9, [first, body, 0]);
+    }
+    maker.push(14, [body, 0, 0]);
+    let nodes = maker.nodes;
+    Script { entries, nodes }
+}
+
+#[test]
+fn words_read_back_are_known_rightly() {
+    let mut random = Random(0x0F1E_2D3C_4B5A_6978);
+    let mut known = 0;
+    for _ in 0..40_000 {
+        let script = reading_back(&mut random);
+        match check(&script) {
+            Ok(code) => {
+                known += 1;
+                run_accepted(&mut random, &script, code);
+            }
+            Err(refusal) => assert_eq!(refusal.number, 10),
+        }
+    }
+    assert!((15_000..30_000).contains(&known), "{known}");
+}
+
 /// The script itself, unless it has too many `sym` around one.
 fn check_shape(script: &Script) -> Option<Script> {
     match check(script) {
