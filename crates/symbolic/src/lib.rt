@@ -1,10 +1,10 @@
 // The symbolic rules: what node n gives on a path once its operands have given theirs. A value is its type's code and its place: a row of the terms, or what
 // `terms::references` says of a reference.
-ghost use Prim.Native.Nat.{_*_, _≤_, _<_};
+ghost use Prim.Native.Nat.{_*_, _≤_};
 ghost use lib.ListN.{length};
 ghost use Rattle.script.specs.Code.Forms.{formOf};
 ghost use Rattle.script.specs.Rows.{varForm, unaryForm, binaryForm, notOp, refOp, getOp, addOp, eqOp, andOp, setOp};
-ghost use Rattle.terms.specs.References.{origins, originBy};
+ghost use Rattle.terms.specs.References.{originBy, IsOrigin};
 ghost use Rattle.workspace.specs.Paths.{Fresh};
 ghost use Rattle.workspace.specs.Rules.{Leaf, One, Two, After, Operable};
 ghost use Rattle.workspace.specs.State.{Room};
@@ -47,7 +47,7 @@ use workspace::Step;
 // A fresh symbol of type t, and where it comes from: its place.
 pub fn fresh(space: &mut [u32], t: u32, origin: u32) -> u32
     requires { ⌜ Room (now space) 1 ⌝ }
-    requires { ⌜ origin < origins ⌝ }
+    requires { ⌜ IsOrigin origin ⌝ }
     ensures { λ r. ⌜ Fresh (originBy origin) t (now (space .entry)) r (now (space .exit)) ⌝ }
 {
     let symbol = space[NEXT];

@@ -1,22 +1,28 @@
 -- References by their places: a place is a symbol and its origin in one number. And when two of them are certainly different cells. Assumes nothing.
 pub mod Laws
 use mathlib.Core.Bool.{Bool}
+use mathlib.Core.Path.{_≡_}
 use Prim.Native.Nat.{ℕ, zero, suc, _+_, _*_, _/_, _%_}
 use Rattle.rules.specs.Symbolic.{Origin, made, initial, other, apart}
 
--- how many origins there are, and the number of each
+-- how many numbers a place has room for as its origin's, and that of each origin: 0 is none's, and counts as any other
 abbrev pub origins : ℕ
-origins = 3
+origins = 4
 
 abbrev pub originNumber : Origin → ℕ
-originNumber other = 0
-originNumber initial = 1
-originNumber made = 2
+originNumber other = 1
+originNumber initial = 2
+originNumber made = 3
 
 abbrev pub originBy : ℕ → Origin
 originBy zero = other
-originBy (suc zero) = initial
-originBy (suc (suc n)) = made
+originBy (suc zero) = other
+originBy (suc (suc zero)) = initial
+originBy (suc (suc (suc n))) = made
+
+-- the number of an origin
+abbrev pub IsOrigin : ℕ → Type 0
+IsOrigin n = n ≡ originNumber (originBy n)
 
 -- the place of a reference, and its symbol and origin by its place
 abbrev pub referenceAt : Origin → ℕ → ℕ

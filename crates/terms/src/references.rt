@@ -2,21 +2,24 @@
 ghost use mathlib.Core.Path.{_≡_};
 ghost use Prim.Native.Nat.{_<_};
 ghost use Rattle.terms.specs.Places.{symbolLimit};
-ghost use Rattle.terms.specs.References.{origins, originBy, referenceAt, symbolAt, apartAt};
+ghost use Rattle.terms.specs.References.{originBy, IsOrigin, referenceAt, symbolAt, apartAt};
 
-// How many origins there are: made by `ref` on this path, a variable's when the path began, or any other.
-const ORIGINS: u32 = 3;
+// How many numbers a place has room for as its origin's: a power of two, so that a shift takes it off.
+const ORIGINS: u32 = 4;
 
-pub const OTHER: u32 = 0;
+// Where a symbol comes from: made by `ref` on this path, a variable's when the path began, or any other.
+pub const OTHER: u32 = 1;
 
-pub const INITIAL: u32 = 1;
+pub const INITIAL: u32 = 2;
 
-pub const MADE: u32 = 2;
+pub const MADE: u32 = 3;
+
+const TWO_VARIABLES: u32 = INITIAL + INITIAL;
 
 // The place of a reference.
 pub fn reference(symbol: u32, origin: u32) -> u32
     requires { ⌜ symbol < symbolLimit ⌝ }
-    requires { ⌜ origin < origins ⌝ }
+    requires { ⌜ IsOrigin origin ⌝ }
     ensures { λ r. ⌜ r ≡ referenceAt (originBy origin) symbol ⌝ }
 {
     ORIGINS * symbol + origin
@@ -30,11 +33,11 @@ pub fn symbol_of(place: u32) -> u32
 }
 
 // The references at two places are certainly different cells: different symbols, of which `ref` made one on this path, and the other too or it was a
-// variable's when the path began. No other two origins add up to more than MADE.
+// variable's when the path began. No other two origins add up to more than those of two variables.
 pub fn apart(q: u32, s: u32) -> bool
     ensures { λ r. ⌜ r ≡ apartAt q s ⌝ }
 {
-    if q % ORIGINS + s % ORIGINS <= MADE {
+    if q % ORIGINS + s % ORIGINS <= TWO_VARIABLES {
         return false;
     }
     q / ORIGINS != s / ORIGINS

@@ -1,5 +1,6 @@
 -- `symbolic::typed_result` meets its contract: a consistent log, of which no write counts then, and a fresh symbol. Assumes nothing.
 use borrow.Author.Needs.{needs}
+use mathlib.Core.Path.{refl}
 use native.Mathlib.Omega.{arith}
 use borrow.Author.Tests.{not-true, not-false}
 use Rattle.workspace.specs.Rules.Memory.{block-stopped, emptied-room, block-made}
@@ -20,7 +21,7 @@ fresh-requires c κs =
     let at-forget = c .before .before .before in
     let at-consistent = at-forget .before .before .before in
     let at-start = at-consistent .before .before .before in
-    (rw (at-forget .forget .ensures) (emptied-room (at-start .args .n) (at-start .args .t) (at-consistent .consistent .ensures) (at-start .pre)), omega arith)
+    (rw (at-forget .forget .ensures) (emptied-room (at-start .args .n) (at-start .args .t) (at-consistent .consistent .ensures) (at-start .pre)), refl)
 
 same-length-2 : tie.Need-same-length-2
 same-length-2 c = omega (arith, c .before .space2 .given, c .before .before .before .before .before .space .given)

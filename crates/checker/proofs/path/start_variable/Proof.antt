@@ -1,5 +1,6 @@
 -- `checker::path::start_variable` meets its contract. Assumes nothing.
 use borrow.Author.Needs.{needs}
+use mathlib.Core.Path.{refl}
 use native.Mathlib.Omega.{arith}
 use lib.ListN.{length-set}
 use Rattle.workspace.specs.Paths.Beginning.{starting-room, variable-started}
@@ -7,7 +8,7 @@ use Rattle.checker.proofs.path.start_variable.Statement.{statement}
 use Rattle.checker.proofs.path.start_variable.Tie as tie
 
 fresh-requires : tie.Need-fresh-requires
-fresh-requires c κs = let e = c .before .before .before .before .pre in (starting-room (e .1 .0) (e .1 .1), omega arith)
+fresh-requires c κs = let e = c .before .before .before .before .pre in (starting-room (e .1 .0) (e .1 .1), refl)
 
 slice-write-space-2 : tie.Need-slice-write-space-2
 slice-write-space-2 c =
