@@ -41,7 +41,8 @@ impl Maker<'_> {
         Decided { condition, value }
     }
 
-    /// A condition that is open, but that a wrong rule would decide.
+    /// A condition that is open, or false by where its references come from; a wrong rule would have
+    /// it otherwise.
     pub fn doubtful(&mut self, scope: &Scope) -> Option<Decided> {
         let references = scope.references();
         if references.is_empty() {

@@ -1,6 +1,7 @@
 //! Counts what random requests came to, prints it, and says what was missing.
 
 use crate::compare::Answered;
+use crate::fresh_cells::counts::CellCounts;
 use crate::request::{tree_of_script, Request, SOURCES};
 use crate::tree::{self, Tree, EQ, GET, IF, LET, REF, SET, SYM, TYPED};
 use reference::{Outcome, Refusal};
@@ -51,6 +52,7 @@ pub struct Counts {
     errors: u64,
     check_refusals: BTreeMap<u8, u64>,
     run_refusals: BTreeMap<u8, u64>,
+    cells: CellCounts,
 }
 
 impl Counts {
@@ -66,6 +68,9 @@ impl Counts {
         match &answered.check {
             Ok(_) => self.count_accepted(&request.text),
             Err(refusal) => *self.check_refusals.entry(refusal.number).or_default() += 1,
+        }
+        if let Some(asked) = &request.asked {
+            self.cells.count(asked, request, answered);
         }
     }
 
@@ -113,6 +118,7 @@ impl Counts {
         if self.errors == 0 {
             missing.push("the error state never came up".into());
         }
+        missing.extend(self.cells.missing(self.requests));
         missing
     }
 
@@ -130,6 +136,7 @@ impl Counts {
         let [words, truths, locations] = self.values;
         println!("  runs to a word {words}, a truth {truths}, a location {locations}");
         println!("  runs to the error state {}", self.errors);
+        self.cells.print();
     }
 
     fn print_accepted(&self) {
@@ -152,11 +159,12 @@ impl Counts {
 }
 
 /// A line with a count.
-fn show(count: u64, what: &str) {
+pub fn show(count: u64, what: &str) {
     println!("    {count:8}  {what}");
 }
 
-fn refusals(counts: &BTreeMap<u8, u64>) -> String {
+/// Refusals with their counts.
+pub fn refusals(counts: &BTreeMap<u8, u64>) -> String {
     let shown = counts
         .iter()
         .map(|(number, count)| format!("{number}: {count}"));

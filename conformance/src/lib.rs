@@ -19,6 +19,7 @@ pub mod conditions;
 pub mod counts;
 pub mod damage;
 pub mod fixed;
+pub mod fresh_cells;
 pub mod library;
 pub mod maker;
 pub mod random;

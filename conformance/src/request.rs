@@ -1,9 +1,10 @@
 //! A request: a check of a text, or a run of it on values and cells. A seed and a number make it.
 
 use crate::damage;
+use crate::fresh_cells::{self, Asked};
 use crate::maker::{self, Made};
 use crate::random::Random;
-use crate::stations::{station, Station};
+use crate::stations::{sharing, station, Station};
 use crate::tree::{self, Tree};
 use crate::wide::wide_script;
 
@@ -11,6 +12,7 @@ use crate::wide::wide_script;
 #[derive(Clone, Copy, PartialEq, Eq, Debug)]
 pub enum Source {
     Made,
+    Cells,
     Wide,
     Changed,
     Loose,
@@ -20,8 +22,9 @@ pub enum Source {
     Garbage,
 }
 
-pub const SOURCES: [(Source, &str); 8] = [
+pub const SOURCES: [(Source, &str); 9] = [
     (Source::Made, "made by types"),
+    (Source::Cells, "new cells beside old ones"),
     (Source::Wide, "many forks and atoms"),
     (Source::Changed, "made by types, then changed"),
     (Source::Loose, "random trees"),
@@ -36,6 +39,8 @@ pub struct Request {
     pub text: Vec<u8>,
     /// What a run is given; none for a check.
     pub run: Option<Station>,
+    /// What a script about new cells asks; none for other texts.
+    pub asked: Option<Asked>,
 }
 
 /// The node steps that a check may take at most, by the bound that counts every `if` as a fork.
@@ -48,25 +53,45 @@ const LONG_WORK: u64 = 1_000_000;
 pub fn request(seed: u64, number: u64) -> Request {
     let mut random = Random::new(seed, number);
     let source = random.weighted(&[
-        (48, Source::Made),
-        (10, Source::Wide),
-        (18, Source::Changed),
+        (41, Source::Made),
+        (13, Source::Cells),
+        (9, Source::Wide),
+        (14, Source::Changed),
         (5, Source::Loose),
         (3, Source::Limits),
         (4, Source::Table),
-        (9, Source::Damaged),
+        (8, Source::Damaged),
         (3, Source::Garbage),
     ]);
-    let text = text(&mut random, source);
+    let mut asked = None;
+    let text = text(&mut random, source, &mut asked);
     let run = random.chance(50).then(|| {
         let entries = entries_of(&text);
-        station(&mut random, &entries)
+        if source == Source::Cells && random.chance(50) {
+            sharing(&mut random, &entries)
+        } else {
+            station(&mut random, &entries)
+        }
     });
-    Request { source, text, run }
+    Request {
+        source,
+        text,
+        run,
+        asked,
+    }
 }
 
-fn text(random: &mut Random, source: Source) -> Vec<u8> {
+/// A text from this source, and what it asks if it is about new cells.
+fn text(random: &mut Random, source: Source, asked: &mut Option<Asked>) -> Vec<u8> {
     match source {
+        Source::Cells => {
+            let made = within_work(random, |random| {
+                let (made, questions) = fresh_cells::script(random);
+                *asked = Some(questions);
+                made
+            });
+            spelled(random, &made)
+        }
         Source::Table => damage::table_text(random),
         Source::Garbage => damage::garbage(random),
         Source::Damaged => {

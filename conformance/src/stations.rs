@@ -45,15 +45,21 @@ pub fn pattern(place: usize) -> u8 {
 
 /// A random typing of at most 64 cells, with a cell for every reference that is needed.
 pub fn typing(random: &mut Random, entries: &[u32]) -> Vec<u32> {
-    let mut types = Vec::new();
     let shared = random.chance(50);
+    let most = random.weighted(&[(30, 4), (40, 12), (20, 32), (10, 64)]);
+    let wanted = random.between(0, most);
+    typing_of(random, entries, shared, wanted)
+}
+
+/// A random typing with so many cells, or those that are needed. If they are shared, the entries need
+/// one of each type.
+fn typing_of(random: &mut Random, entries: &[u32], shared: bool, wanted: usize) -> Vec<u32> {
+    let mut types = Vec::new();
     for &code in entries {
         if code >= 2 && !(shared && types.contains(&(code - 2))) {
             types.push(code - 2);
         }
     }
-    let most = random.weighted(&[(30, 4), (40, 12), (20, 32), (10, 64)]);
-    let wanted = random.between(0, most);
     while types.len() < wanted.min(32) {
         types.push(random.weighted(&[(30, 0), (25, 1), (20, 2), (15, 3), (10, 4)]));
     }
@@ -72,7 +78,7 @@ pub fn typing(random: &mut Random, entries: &[u32]) -> Vec<u32> {
     types
 }
 
-fn shuffle(random: &mut Random, types: &mut [u32]) {
+pub fn shuffle(random: &mut Random, types: &mut [u32]) {
     for last in (1..types.len()).rev() {
         types.swap(last, random.below(last + 1));
     }
@@ -104,6 +110,12 @@ pub fn fitting(random: &mut Random, entries: &[u32], types: &[u32]) -> Station {
         cells: lend(&used, LENT),
         used: types.len() as u32,
     }
+}
+
+/// Cells and entry values that a typing fits, with so few cells that entries of one type share one.
+pub fn sharing(random: &mut Random, entries: &[u32]) -> Station {
+    let types = typing_of(random, entries, true, 0);
+    fitting(random, entries, &types)
 }
 
 /// Cells and entry values that are taken, but of any kinds.

@@ -61,7 +61,9 @@ fn put_all(seed: u64, requests: u64) -> (Counts, usize) {
 fn one_request(seed: u64, number: u64) {
     let request = request(seed, number);
     println!("seed {seed}, request {number}");
-    let Request { source, text, run } = &request;
+    let Request {
+        source, text, run, ..
+    } = &request;
     println!("made as: {source:?}\n{}", show_text(text));
     if let Some(station) = run {
         println!("{}", show_station(station));
