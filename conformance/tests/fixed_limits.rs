@@ -71,6 +71,8 @@ fn paths() {
         ("in a block in symbolic mode, 11 at the outer one", &b(7), &format!("(!sym (sym {}))", forks(0, 7, "3")), "11"),
         ("64 times 64 paths", &b(6), &format!("(sym {})", forks(0, 6, &format!("(typed (sym {six}))"))), "i"),
         ("11 in an inner block", &b(7), &format!("(sym {})", forks(0, 2, &format!("(typed (!sym {}))", forks(0, 7, "3")))), "11"),
+        ("64 beside a new cell and an entry", &format!("{} ri", b(6)), &format!("(sym (if (eq (ref 1) v6) 4 {six}))"), "i"),
+        ("65 with a new cell and what get made", &format!("{} rri", b(6)), &format!("(!sym (if (eq (ref 1) (get v6)) 4 {six}))"), "11"),
         ("64 paths, the last of another type", &b(6), &format!("(!sym {})", forks(0, 6, &after(0, &[false; 6], "true"))), "10"),
     ]);
     trial.end("paths");
@@ -140,6 +142,14 @@ fn atoms() {
         ("typed gives one more atom", b(10), format!("(sym (let (if {ten} 1 2) (!if (typed true) 1 2)))"), "12"),
         ("an inner block starts anew", b(10), format!("(sym (let (if {ten} 1 2) (typed (sym (if {ten} 1 2)))))"), "i"),
         ("a sym in symbolic mode does not", b(11), format!("(sym (let (if {ten} 1 2) (sym (!if v10 1 2))))"), "12"),
+        ("a new cell and an entry are none", format!("{} ri", b(10)), format!("(sym (if (and (eq (ref 1) v10) {ten}) true 1))"), "i"),
+        ("an entry and a new cell are none", format!("{} ri", b(10)), format!("(sym (if (and {ten} (eq v10 (ref 1))) true 1))"), "i"),
+        ("nor are they later", format!("{} ri", b(10)), format!("(sym (let (if (eq (ref 1) v10) true 1) (if {ten} 1 2)))"), "i"),
+        ("11 beside a new cell and an entry", format!("{} ri", b(11)), test(&format!("(and (eq (ref 1) v11) {})", all(&truths(0, 11)))), "12"),
+        ("a new cell and what get made are one", format!("{} rri", b(10)), test(&format!("(and (eq (ref 1) (get v10)) {ten})")), "12"),
+        ("a new cell and a typed block's value are one", format!("{} ri", b(10)), test(&format!("(and (eq (ref 1) (typed v10)) {ten})")), "12"),
+        ("two entries are one", format!("{} ri ri", b(10)), test(&format!("(and (eq v10 v11) {ten})")), "12"),
+        ("two entries are one of 10", format!("{} ri ri", b(9)), format!("(!sym (if (and (eq v9 v10) {}) true 1))", all(&truths(0, 9))), "10"),
         ("6 before 12", b(11), format!("(sym (let {} (!if 3 1 2)))", all(&truths(0, 11))), "6"),
         ("typed mode counts none", b(11), format!("(if {} 1 2)", all(&truths(0, 11))), "i"),
     ];
