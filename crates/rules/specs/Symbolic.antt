@@ -95,7 +95,7 @@ typeOf (aWord p) = 0
 typeOf (aTruth f) = 1
 typeOf (aReference o t s) = suc (suc t)
 
--- the symbol s as a value of type t, from there
+-- the symbol s as a value of type t, and its origin
 unfoldable pub symbol : Origin → ℕ → ℕ → Symbolic
 symbol o zero s = aWord (wordSymbol s)
 symbol o (suc zero) s = aTruth (atom (truthSymbol s))
@@ -106,7 +106,7 @@ unfoldable pub symbols : ℕ → List ℕ → List Symbolic
 symbols s [] = []
 symbols s (t ∷ ts) = symbol initial t s ∷ symbols (suc s) ts
 
--- two symbols that are certainly different cells: two different ones, a `ref` symbol of this path and one of its own kind or of a variable's
+-- two symbols that are certainly different cells: different ones, of which `ref` made one on this path, and the other too or it was a variable's
 unfoldable pub apart : Origin → ℕ → Origin → ℕ → Bool
 apart made s made u = not (eqb s u)
 apart made s initial u = not (eqb s u)

@@ -44,7 +44,7 @@ use workspace::Found;
 use workspace::NEXT;
 use workspace::Step;
 
-// A fresh symbol of type t, and where it comes from: its place.
+// A fresh symbol of type t, with this origin: its place.
 pub fn fresh(space: &mut [u32], t: u32, origin: u32) -> u32
     requires { ⌜ Room (now space) 1 ⌝ }
     requires { ⌜ IsOrigin origin ⌝ }

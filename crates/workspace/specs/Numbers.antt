@@ -34,7 +34,7 @@ gives r ws = record { step = r; space = ws }
 abbrev pub numbered : List ℕ → List ℕ
 numbered ws = set ws nextAt (nextIn ws + 1)
 
--- the place of a fresh symbol of a type, from there: a row, or of a reference its place
+-- the place of a fresh symbol of a type, with this origin: a row, or of a reference its place
 unfoldable pub freshPlace : Origin → ℕ → List ℕ → ℕ
 freshPlace o zero ws = countIn (numbered ws)
 freshPlace o (suc zero) ws = atomRowOf (numbered ws) ofTruth (nextIn ws) (nextIn ws)

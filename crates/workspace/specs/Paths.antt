@@ -16,7 +16,7 @@ use Rattle.workspace.specs.Places.{baseAt, conditionAt, knownAt, spaceSi
 use Rattle.workspace.specs.Rules.{Ruled}
 use Rattle.workspace.specs.State.{nextIn, conditionIn, writesIn, typesOn, Means, Variables, PathIn}
 
--- a fresh symbol of type t, from there
+-- a fresh symbol of type t, with this origin
 pub record Fresh (o : Origin) (t : ℕ) (ws : List ℕ) (q : ℕ) (left : List ℕ) : Type 0 where
   pub ruled : Ruled ws left
   pub means : Distinct ws → Means left t q (symbol o t (nextIn ws))
