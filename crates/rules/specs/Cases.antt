@@ -1,6 +1,6 @@
 -- The proved cases P1 to P9 (docs/CHECKS.md, 'Worked cases') as one table. Each row is a script, a question and its answer, and the table is proved whole, by
--- computation. The tables below are of the same form: `Traps` tells the rules from the traps, `Refusals` has the tests of tables, values and
--- cells. Assumes nothing.
+-- computation. The tables below are of the same form: `Traps` tells the rules from the traps, `NewCells` new cells from old ones, `Refusals` has the
+-- tests of tables, values and cells. Assumes nothing.
 use mathlib.Core.Path.{_≡_, refl}
 use mathlib.Core.List.{List, [], _∷_, map}
 use Prim.Native.Nat.{ℕ}
@@ -42,6 +42,10 @@ pub record Case : Type 0 where
   pub table : Table
   pub question : Question
   pub answer : Answer
+
+-- one cell or value: kind, then 32 bits below 256
+abbrev pub five : ℕ → ℕ → List ℕ
+five k b = k ∷ b ∷ 0 ∷ 0 ∷ 0 ∷ []
 
 abbrev ranTo : Run → Answer
 ranTo r = runs (reportOfRun (r .answer)) (take 10 (r .cells))

@@ -7,7 +7,7 @@ use lib.ListN.{replicate}
 use Rattle.script.specs.Answers.{Report, valueIs, errorAt, refusedWith}
 use Rattle.script.specs.Table.Cases.{lend, int′, true′, var′, add′, and′, if′, let′, ref′, get′, set′, sym′}
 use Rattle.script.specs.declared.Place.the-variants.{Nowhere, At}
-use Rattle.rules.specs.Cases.{Case, run?, runs, asking, right, accepts, refuses, ends, computed}
+use Rattle.rules.specs.Cases.{Case, run?, runs, five, asking, right, accepts, refuses, ends, computed}
 
 -- a run of `var 0` with one entry of type `i`
 abbrev runWith : List ℕ → List ℕ → ℕ → Report → List ℕ → Case
@@ -15,10 +15,6 @@ runWith values cells used r cs = record { table = lend (0 ∷ []) (var′ 0 ∷ 
 
 abbrev zeros : ℕ → List ℕ
 zeros n = replicate n 0
-
--- one cell or value: kind, then 32 bits below 256
-abbrev five : ℕ → ℕ → List ℕ
-five k b = k ∷ b ∷ 0 ∷ 0 ∷ 0 ∷ []
 
 unfoldable pub refusals : List Case
 refusals =
