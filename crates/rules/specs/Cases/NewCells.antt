@@ -34,9 +34,9 @@ new-cells =
     (int′ 7 ∷ ref′ 0 ∷ var′ 0 ∷ var′ 11 ∷ eq′ 2 3 ∷ var′ 1 ∷ var′ 2 ∷ var′ 3 ∷ var′ 4 ∷ var′ 5 ∷ var′ 6 ∷ var′ 7 ∷ var′ 8 ∷ var′ 9 ∷ var′ 10 ∷ and′ 13 14 ∷ and′ 12 15 ∷ and′ 11 16 ∷ and′ 10 17 ∷ and′ 9 18 ∷ and′ 8 19 ∷ and′ 7 20
     ∷ and′ 6 21 ∷ and′ 5 22 ∷ and′ 4 23 ∷ true′ ∷ int′ 1 ∷ add′ 25 26 ∷ int′ 2 ∷ if′ 24 27 28 ∷ let′ 1 29 ∷ sym′ 30 ∷ [])
     0
-    -- after a typed block the symbols are what they were
+    -- after a typed block the symbols are what they were; a `sym` there begins no path
     ∷ accepts (2 ∷ [])
-    (int′ 6 ∷ ref′ 0 ∷ int′ 0 ∷ typed′ 2 ∷ var′ 1 ∷ int′ 7 ∷ set′ 4 5 ∷ var′ 0 ∷ int′ 8 ∷ set′ 7 8 ∷ var′ 1 ∷ get′ 10 ∷ int′ 7 ∷ eq′ 11 12 ∷ int′ 1 ∷ true′ ∷ if′ 13 14 15 ∷ let′ 9 16 ∷ let′ 6 17 ∷ let′ 3 18 ∷ let′ 1 19 ∷ sym′ 20 ∷ [])
+    (int′ 6 ∷ ref′ 0 ∷ int′ 0 ∷ typed′ 2 ∷ var′ 1 ∷ int′ 7 ∷ set′ 4 5 ∷ var′ 0 ∷ int′ 8 ∷ set′ 7 8 ∷ var′ 1 ∷ get′ 10 ∷ int′ 7 ∷ eq′ 11 12 ∷ int′ 1 ∷ true′ ∷ if′ 13 14 15 ∷ let′ 9 16 ∷ let′ 6 17 ∷ sym′ 18 ∷ let′ 3 19 ∷ let′ 1 20 ∷ sym′ 21 ∷ [])
     0
     -- in a typed block an inner `sym` begins paths of its own: the cell made outside is a variable's there, which may be the entry's
     ∷ refuses (2 ∷ [])
@@ -49,10 +49,10 @@ new-cells =
     -- what `get` makes may be any cell, a new one too: here the new one's location was stored where it reads, and the run stores 8 there
     ∷ refuses (4 ∷ []) stored-away 10 (At 26)
     ∷ record { table = lend (4 ∷ []) stored-away; question = run? (five 2 0) (five 2 1 ++ five 0 5 ++ replicate 950 0) 2; answer = runs (valueIs 1 1 3) (five 2 2 ++ five 0 5) }
-    -- so may a typed block's value, here in a variable that a `let` of the block binds
+    -- so may a typed block's value, here in a variable that a `let` of the path binds, also for a `sym` behind it
     ∷ refuses (2 ∷ [])
-    (var′ 0 ∷ typed′ 0 ∷ int′ 7 ∷ ref′ 2 ∷ var′ 1 ∷ int′ 8 ∷ set′ 4 5 ∷ var′ 2 ∷ get′ 7 ∷ int′ 7 ∷ eq′ 8 9 ∷ int′ 1 ∷ true′ ∷ if′ 10 11 12 ∷ let′ 6 13 ∷ let′ 3 14 ∷ let′ 1 15 ∷ sym′ 16 ∷ [])
-    10 (At 17)
+    (var′ 0 ∷ typed′ 0 ∷ int′ 7 ∷ ref′ 2 ∷ var′ 1 ∷ int′ 8 ∷ set′ 4 5 ∷ var′ 2 ∷ get′ 7 ∷ int′ 7 ∷ eq′ 8 9 ∷ int′ 1 ∷ true′ ∷ if′ 10 11 12 ∷ let′ 6 13 ∷ let′ 3 14 ∷ sym′ 15 ∷ let′ 1 16 ∷ sym′ 17 ∷ [])
+    10 (At 18)
     -- two entries may be one cell, before a `ref` and after it (and in `Traps`)
     ∷ refuses (2 ∷ 2 ∷ [])
     (int′ 6 ∷ ref′ 0 ∷ var′ 0 ∷ int′ 7 ∷ set′ 2 3 ∷ var′ 1 ∷ int′ 8 ∷ set′ 5 6 ∷ var′ 0 ∷ get′ 8 ∷ int′ 7 ∷ eq′ 9 10 ∷ int′ 1 ∷ true′ ∷ if′ 11 12 13 ∷ let′ 7 14 ∷ let′ 4 15 ∷ let′ 1 16 ∷ sym′ 17 ∷ [])
