@@ -53,7 +53,7 @@ new-cells =
     ∷ refuses (2 ∷ [])
     (var′ 0 ∷ typed′ 0 ∷ int′ 7 ∷ ref′ 2 ∷ var′ 1 ∷ int′ 8 ∷ set′ 4 5 ∷ var′ 2 ∷ get′ 7 ∷ int′ 7 ∷ eq′ 8 9 ∷ int′ 1 ∷ true′ ∷ if′ 10 11 12 ∷ let′ 6 13 ∷ let′ 3 14 ∷ sym′ 15 ∷ let′ 1 16 ∷ sym′ 17 ∷ [])
     10 (At 18)
-    -- two entries may be one cell, before a `ref` and after it (and in `Traps`)
+    -- two entries may be one cell, also where a `ref` went before (and in `Traps`)
     ∷ refuses (2 ∷ 2 ∷ [])
     (int′ 6 ∷ ref′ 0 ∷ var′ 0 ∷ int′ 7 ∷ set′ 2 3 ∷ var′ 1 ∷ int′ 8 ∷ set′ 5 6 ∷ var′ 0 ∷ get′ 8 ∷ int′ 7 ∷ eq′ 9 10 ∷ int′ 1 ∷ true′ ∷ if′ 11 12 13 ∷ let′ 7 14 ∷ let′ 4 15 ∷ let′ 1 16 ∷ sym′ 17 ∷ [])
     10 (At 18)
