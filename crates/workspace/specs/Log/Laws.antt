@@ -29,15 +29,11 @@ use Rattle.workspace.specs.declared.Found.the-variants.{Value, Nothing}
 
 -- ---- a reference by its place
 
-record Refers (o : Origin) (c s t q : ℕ) : Type 0 where
-  type : t ≡ suc (suc c)
-  place : q ≡ referenceAt o s
-
-refer : {ws : List ℕ} {t q c s : ℕ} {o : Origin} → Means ws t q (aReference o c s) → Refers o c s t q
-refer (referencePlace e) = record { type = refl; place = e }
+place-is : {ws : List ℕ} {t q c s : ℕ} {o : Origin} → Means ws t q (aReference o c s) → q ≡ referenceAt o s
+place-is (referencePlace e) = e
 
 symbol-is : {ws : List ℕ} {t q c s : ℕ} {o : Origin} → Means ws t q (aReference o c s) → symbolAt q ≡ s
-symbol-is {s = s} {o = o} m = ap symbolAt (refer m .place) ∙ symbol-of o s
+symbol-is {s = s} {o = o} m = ap symbolAt (place-is m) ∙ symbol-of o s
 
 -- ---- consistency
 
@@ -54,7 +50,7 @@ typed-right t c u e = let f : t - 2 ≡ c = omega arith in rw (le-leb 2 t (omega
 right-is : {ws : List ℕ} (k : ℕ) {c s : ℕ} {o : Origin} {v : Symbolic} → Means ws (getD ws (writeAt k) 0) (getD ws (writeAt k + 1) 0) (aReference o c s)
     → {q : ℕ} → Means ws (getD ws (writeAt k + 2) 0) q v → rightOn ws k ≡ eqb (typeOf v) c
 right-is {ws} k {c = c} m n =
-    typed-right (getD ws (writeAt k) 0) c (getD ws (writeAt k + 2) 0) (refer m .type) ∙ ap (λ (u : ℕ). eqb u c) (sym (means-type n))
+    typed-right (getD ws (writeAt k) 0) c (getD ws (writeAt k + 2) 0) (sym (means-type m)) ∙ ap (λ (u : ℕ). eqb u c) (sym (means-type n))
 
 -- the writes end where they begin or behind it
 log-begins : {ws : List ℕ} {begin k : ℕ} {l : List Write} → Log ws begin k l → begin ≤ k
@@ -93,7 +89,7 @@ pub lookup-is : {ws : List ℕ} {begin k t q c s : ℕ} {o : Origin} {l : List W
 unfolding lookup
 lookup-is {ws} {begin} {q = q} noWrite m = rw (lookup-none ws begin q begin (omega arith)) found-none
 lookup-is {ws} {begin} {q = q} {s = s} {o = o} (aWrite {k = k} {o = p} {s = u} {v = v} {l = l} r a b) m =
-    let e : apartAt (getD ws (writeAt k + 1) 0) q ≡ apart p u o s = rw (refer a .place, refer m .place) (apart-of p u o s) in
+    let e : apartAt (getD ws (writeAt k + 1) 0) q ≡ apart p u o s = rw (place-is a, place-is m) (apart-of p u o s) in
     rw (lookup-some ws begin q k (log-begins r), e, symbol-is a, symbol-is m) (go (apart p u o s) (eqb u s) (lookup-is r m))
   where
     go : (d same : Bool) → FoundAs ws (lookupOn ws begin q (k - begin)) (lookup o s l)

@@ -12,7 +12,7 @@ use Rattle.script.specs.Limits.{typeLimit, nodeLimit}
 use Rattle.script.specs.Rows.{unaryForm, binaryForm, refOp, getOp, setOp}
 use Rattle.script.specs.declared.Refusal.the-variants.{WrongType, TooManyReferences, InconsistentLog}
 use Rattle.rules.specs.Paths.{Path, ends, taken, forget, consistent, lookup}
-use Rattle.rules.specs.Symbolic.{Sum, Formula, Origin, made, Symbolic, aWord, aTruth, aReference, symbol, other}
+use Rattle.rules.specs.Symbolic.{Sum, Formula, made, Symbolic, aWord, aTruth, aReference, symbol, other}
 use Rattle.rules.specs.SymbolicRules.{got, unaryExec, binaryExec, typedResult}
 use Rattle.terms.specs.Places.{countAt, symbolLimit, rowLimit}
 use Rattle.terms.specs.References.{referenceAt}
@@ -28,21 +28,12 @@ use Rattle.workspace.specs.Paths.Symbols.{fresh-reference}
 use Rattle.workspace.specs.Places.{conditionAt, depthAt, nextAt, spaceSize, startAt, writesAt}
 use Rattle.workspace.specs.Rules.{oneExec, twoExec, Ruled, One, Two, After}
 use Rattle.workspace.specs.State.{nextIn, writesIn, startIn, depthIn, Means, wordRow, truthRow, referencePlace, noWrite, PathIn, Room, Went, Unnoted, Yields, ending, stopping, deepest}
-use Rattle.workspace.specs.State.Laws.{still-known, path-moved, means-type, means-kept, went-trans, room-on, unnoted-trans}
+use Rattle.workspace.specs.State.Laws.{still-known, path-moved, means-type, means-kept, went-trans, room-on, unnoted-trans, Refers, refer, refers}
 use Rattle.workspace.specs.declared.Found.{Found}
 use Rattle.workspace.specs.declared.Found.the-variants.{Value, Nothing}
 use Rattle.workspace.specs.declared.Step.the-variants.{Gave, Stopped}
 
 -- ---- references
-
--- a value of a type from 2 on is a reference
-pub data Refers : ℕ → Symbolic → Type 0 where
-  refers : {o : Origin} {c s : ℕ} → Refers (suc (suc c)) (aReference o c s)
-
-pub refer : {ws : List ℕ} {t q : ℕ} {v : Symbolic} → 2 ≤ t → Means ws t q v → Refers t v
-refer l (wordRow i r) = absurd (omega arith)
-refer l (truthRow i r) = absurd (omega arith)
-refer l (referencePlace e) = refers
 
 -- one of a type below 2 is none
 pub data NoReference : Symbolic → Type 0 where
@@ -64,10 +55,10 @@ unfolding binaryExec
 set-refused n w p a-word = stopping
 set-refused n w p a-truth = stopping
 
-set-yields : (n q u s : ℕ) {ws : List ℕ} → Room ws 1 → {t : ℕ} {v w : Symbolic} {p : Path} → Refers t v → Means ws t q v → Means ws u s w → PathIn ws p
+set-yields : (n q u s : ℕ) {ws : List ℕ} → Room ws 1 → {t : ℕ} {v w : Symbolic} {p : Path} → Refers t q v → Means ws t q v → Means ws u s w → PathIn ws p
     → Yields (written ws t q u s) (Gave u s) (binaryExec n setOp v w p)
 unfolding binaryExec
-set-yields n q u s {ws} x {p = p} (refers {c = c}) m k h =
+set-yields n q u s {ws} x {p = p} (refers {c = c} r) m k h =
     let t = suc (suc c) in
     ending (means-kept (written-grown ws t q u s (x .lent) (omega (arith, x .writes)) (omega (arith, x .rows))) k)
     (written-path ws t q u s (x .lent) (omega (arith, x .writes)) (omega (arith, x .rows)) p h m k)
@@ -180,16 +171,16 @@ unfolding unaryExec
 get-refused n p a-word = stopping
 get-refused n p a-truth = stopping
 
-get-inconsistent : (n : ℕ) {ws : List ℕ} {t : ℕ} {v : Symbolic} (p : Path) → consistent p ≡ false → Refers t v
+get-inconsistent : (n : ℕ) {ws : List ℕ} {t q : ℕ} {v : Symbolic} (p : Path) → consistent p ≡ false → Refers t q v
     → Yields ws (Stopped (InconsistentLog n)) (unaryExec n getOp v p)
 unfolding unaryExec
-get-inconsistent n p e refers = rw e stopping
+get-inconsistent n p e (refers r) = rw e stopping
 
 -- what is found is the value
-get-found : (n q : ℕ) {ws : List ℕ} {t u i : ℕ} {v : Symbolic} {f : Found} (p : Path) → consistent p ≡ true → PathIn ws p → Refers t v → Means ws t q v
+get-found : (n q : ℕ) {ws : List ℕ} {t u i : ℕ} {v : Symbolic} {f : Found} (p : Path) → consistent p ≡ true → PathIn ws p → Refers t q v → Means ws t q v
     → lookupIn ws q ≡ f → f ≡ Value u i → Yields ws (Gave u i) (unaryExec n getOp v p)
 unfolding unaryExec
-get-found n q {ws} {u = u} {i = i} p e h (refers {o = o} {c = c} {s = s}) m d z =
+get-found n q {ws} {u = u} {i = i} p e h (refers {o = o} {c = c} {s = s} r) m d z =
     rw e (go (lookupIn ws q) (lookup o s (p .log)) (lookup-is (h .log) m) (d ∙ z))
   where
     go : (f : Found) (r : Option Symbolic) → FoundAs ws f r → f ≡ Value u i → Yields ws (Gave u i) (got r c p)
@@ -197,10 +188,10 @@ get-found n q {ws} {u = u} {i = i} p e h (refers {o = o} {c = c} {s = s}) m d z 
     go (Value w j) (some x) (found-some k) y = rw (sym (found-type y), sym (found-place y)) (ending k h)
 
 -- nothing is found: a fresh symbol
-get-nothing : (n q : ℕ) {ws left : List ℕ} {t i : ℕ} {v : Symbolic} {f : Found} (p : Path) → consistent p ≡ true → PathIn ws p → Refers t v → Means ws t q v
+get-nothing : (n q : ℕ) {ws left : List ℕ} {t i : ℕ} {v : Symbolic} {f : Found} (p : Path) → consistent p ≡ true → PathIn ws p → Refers t q v → Means ws t q v
     → lookupIn ws q ≡ f → f ≡ Nothing → Fresh other (t - 2) ws i left → Yields left (Gave (t - 2) i) (unaryExec n getOp v p)
 unfolding unaryExec
-get-nothing n q {ws} {left} {i = i} p e h (refers {o = o} {c = c} {s = s}) m d z x =
+get-nothing n q {ws} {left} {i = i} p e h (refers {o = o} {c = c} {s = s} r) m d z x =
     rw e (go (lookupIn ws q) (lookup o s (p .log)) (lookup-is (h .log) m) (d ∙ z))
   where
     go : (f : Found) (r : Option Symbolic) → FoundAs ws f r → f ≡ Nothing → Yields left (Gave (suc (suc c) - 2) i) (got r c p)

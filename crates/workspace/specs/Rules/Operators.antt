@@ -14,7 +14,7 @@ use Rattle.script.specs.Rows.Laws.{NoneOf, unaryForms, binaryForms}
 use Rattle.script.specs.declared.Node.{Node}
 use Rattle.script.specs.declared.Refusal.the-variants.{WrongType, UnknownVariable}
 use Rattle.rules.specs.Paths.{Path, ends}
-use Rattle.rules.specs.Symbolic.{Sum, Formula, Origin, Symbolic, aWord, aTruth, aReference}
+use Rattle.rules.specs.Symbolic.{Sum, Formula, Symbolic, aWord, aTruth}
 use Rattle.rules.specs.SymbolicRules.{unaryExec, binaryExec, variable}
 use Rattle.terms.specs.Atoms.{referencesRow, referencesLeft}
 use Rattle.terms.specs.Atoms.Laws.{references-length}
@@ -30,7 +30,7 @@ use Rattle.workspace.specs.Paths.Conditions.{ruled-refl}
 use Rattle.workspace.specs.Places.{depthAt, nextAt, writesAt}
 use Rattle.workspace.specs.Rules.{leafExec, oneExec, twoExec, Ruled, Leaf, One, Two, Operable}
 use Rattle.workspace.specs.State.{Means, wordRow, truthRow, referencePlace, PathIn, Room, Yields, ending, stopping}
-use Rattle.workspace.specs.State.Laws.{path-added, variables-at, variables-length, none-at, room-space}
+use Rattle.workspace.specs.State.Laws.{path-added, variables-at, variables-length, none-at, room-space, Refers, refer, refers}
 use Rattle.workspace.specs.declared.Step.{Step}
 use Rattle.workspace.specs.declared.Step.the-variants.{Gave, Stopped}
 
@@ -187,19 +187,10 @@ same-words : (n : ℕ) {ws left : List ℕ} {r q s : ℕ} {v w : Symbolic} {p : 
 unfolding binaryExec
 same-words n x er e h (wordRow l f) (wordRow k g) = truth-yields (made-equal x (h .distinct) f g l k _ _ er e) h
 
--- where a reference's place is
-data PlaceOf : ℕ → ℕ → Symbolic → Type 0 where
-  is-place : {t s i : ℕ} {o : Origin} → i ≡ referenceAt o s → PlaceOf (suc (suc t)) i (aReference o t s)
-
-place-of : {ws : List ℕ} {t i : ℕ} {v : Symbolic} → 2 ≤ t → Means ws t i v → PlaceOf t i v
-place-of h (wordRow l r) = absurd (omega arith)
-place-of h (truthRow l r) = absurd (omega arith)
-place-of h (referencePlace e) = is-place e
-
 same-references : (n : ℕ) {ws left : List ℕ} {t r q s : ℕ} {v w : Symbolic} {p : Path} → Space ws 1 → r ≡ referencesRow ws q s → left ≡ referencesLeft ws q s
-    → PathIn ws p → PlaceOf t q v → PlaceOf t s w → Yields left (Gave 1 r) (binaryExec n eqOp v w p)
+    → PathIn ws p → Refers t q v → Refers t s w → Yields left (Gave 1 r) (binaryExec n eqOp v w p)
 unfolding binaryExec
-same-references n {t = t} x er e h (is-place {t = c} {s = a} {o = o} f) (is-place {s = b} {o = u} g) =
+same-references n {t = t} x er e h (refers {o = o} {c = c} {s = a} f) (refers {o = u} {s = b} g) =
     rw (eq-eqb c c refl) (truth-yields (made-references x (h .distinct) o a u b _ _ (rw (f, g) at er) (rw (f, g) at e)) h)
 
 other-types : (n : ℕ) {ws : List ℕ} {t q u s : ℕ} {v w : Symbolic} (p : Path) → (t ≡ u → ⊥) → Means ws t q v → Means ws u s w
@@ -219,9 +210,9 @@ other-types n p d (referencePlace {t = t} e) (referencePlace {t = u} f) = rw (ne
 words-added : {ws left : List ℕ} {q s : ℕ} {v w : Symbolic} → Space ws 1 → Distinct ws → left ≡ equalLeft ws q s → Means ws 0 q v → Means ws 0 s w → Added ws left 1
 words-added x d e (wordRow l f) (wordRow k g) = made-equal x d f g l k _ _ refl e .added
 
-references-added : {ws left : List ℕ} {t q s : ℕ} {v w : Symbolic} → Space ws 1 → Distinct ws → left ≡ referencesLeft ws q s → PlaceOf t q v → PlaceOf t s w
+references-added : {ws left : List ℕ} {t q s : ℕ} {v w : Symbolic} → Space ws 1 → Distinct ws → left ≡ referencesLeft ws q s → Refers t q v → Refers t s w
     → Added ws left 1
-references-added {ws} x d e (is-place {s = a} {o = o} f) (is-place {s = b} {o = u} g) =
+references-added {ws} x d e (refers {o = o} {s = a} f) (refers {o = u} {s = b} g) =
     made-references x d o a u b (referencesRow ws (referenceAt o a) (referenceAt u b)) _ refl (rw (f, g) at e) .added
 
 -- one of the two is of another type
@@ -306,8 +297,8 @@ module _ (n t q u s : ℕ) {ws : List ℕ} where
         record {
           ruled =
               added-ruled (ap length e ∙ references-length ws q s)
-              (references-added (room-space (x .room)) (x .distinct) e (place-of a (x .first .means)) (place-of a (rw (sym b) at (x .second .means))));
-          yields = λ v w p m k h. same-references n (room-space (x .room)) er e h (place-of a m) (place-of a (rw (sym b) at k));
+              (references-added (room-space (x .room)) (x .distinct) e (refer a (x .first .means)) (refer a (rw (sym b) at (x .second .means))));
+          yields = λ v w p m k h. same-references n (room-space (x .room)) er e h (refer a m) (refer a (rw (sym b) at k));
           exactly = let i = equal-place t q s ws a in rw (eq-eqb t u b, i .0, i .1, er, e) refl;
         }
 

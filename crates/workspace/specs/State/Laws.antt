@@ -10,8 +10,9 @@ use lib.Dec.{eqb}
 use lib.ListN.{length, getD, getElem?, length-append}
 use borrow.Author.Tests.{eqb-true, eqb-false}
 use Rattle.rules.specs.Paths.{Path, Write}
-use Rattle.rules.specs.Symbolic.{Formula, Symbolic, typeOf}
+use Rattle.rules.specs.Symbolic.{Formula, Origin, Symbolic, aReference, typeOf}
 use Rattle.terms.specs.Places.{countAt, rowAt, rowsAt, rowsEnd, variablesEnd}
+use Rattle.terms.specs.References.{referenceAt}
 use Rattle.terms.specs.Terms.{countIn, Space, Grown, Distinct, Added}
 use Rattle.terms.specs.Terms.Laws.{grown-refl, grown-trans, sum-kept, truth-kept, still-distinct}
 use Rattle.rows.specs.Known.{Remembers, remembers-kept}
@@ -24,6 +25,15 @@ pub means-type : {ws : List ℕ} {t q : ℕ} {v : Symbolic} → Means ws t q v �
 means-type (wordRow l r) = refl
 means-type (truthRow l r) = refl
 means-type (referencePlace e) = refl
+
+-- a value of a type from 2 on is a reference, and its place is that of its symbol and origin
+pub data Refers : ℕ → ℕ → Symbolic → Type 0 where
+  refers : {o : Origin} {c s q : ℕ} → q ≡ referenceAt o s → Refers (suc (suc c)) q (aReference o c s)
+
+pub refer : {ws : List ℕ} {t q : ℕ} {v : Symbolic} → 2 ≤ t → Means ws t q v → Refers t q v
+refer l (wordRow i r) = absurd (omega arith)
+refer l (truthRow i r) = absurd (omega arith)
+refer l (referencePlace e) = refers e
 
 pub means-kept : {ws left : List ℕ} {t q : ℕ} {v : Symbolic} → Grown ws left → Means ws t q v → Means left t q v
 means-kept g (wordRow {i = i} l r) = wordRow {i = i} (omega (arith, l, g .grows)) (sum-kept g r l)
