@@ -105,9 +105,7 @@ fn make_cell(t: u32, q: u32, space: &mut [u32], n: u32) -> Step
     if DEEPEST <= t {
         return Step::Stopped(Refusal::TooManyReferences(n));
     }
-    let symbol = space[NEXT];
-    space[NEXT] = symbol + 1;
-    let place = reference(symbol, MADE);
+    let place = fresh(space, t + 2, MADE);
     write(space, t + 2, place, t, q);
     Step::Gave(t + 2, place)
 }

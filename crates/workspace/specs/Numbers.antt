@@ -1,8 +1,7 @@
 -- What the symbolic rules give and leave, number by number: each rule's step, and the workspace after it. Assumes nothing.
-use mathlib.Core.Bool.{true, false}
 use mathlib.Core.List.{List}
 use Prim.Native.Nat.{ℕ, zero, suc, _+_, _*_, _-_}
-use lib.Dec.{leb, ltb, eqb}
+use lib.Dec.{ltb, eqb}
 use lib.ListN.{getD, set}
 use Rattle.script.specs.Rows.{Form, intForm, varForm, ifForm, letForm, typedForm, symForm, truthForm, unaryForm, binaryForm, UnaryOp, notOp, refOp, getOp, BinaryOp, addOp, eqOp, andOp, setOp}
 use Rattle.script.specs.Tests.{pick}
@@ -73,7 +72,8 @@ gotGives Nothing t ws = gives (Gave (t - 2) (freshPlace other (t - 2) ws)) (fres
 unfoldable pub unaryGives : UnaryOp → ℕ → ℕ → ℕ → List ℕ → Outcome
 unaryGives notOp n t q ws = pick (eqb t 1) (gives (Gave 1 (countIn ws)) (pushed ws ofNegation q 0)) (gives (Stopped (WrongType n)) ws)
 unaryGives refOp n t q ws =
-    pick (ltb t deepest) (gives (Gave (t + 2) (referenceAt made (nextIn ws))) (written (numbered ws) (t + 2) (referenceAt made (nextIn ws)) t q)) (gives (Stopped (TooManyReferences n)) ws)
+    let i = freshPlace made (t + 2) ws in
+    pick (ltb t deepest) (gives (Gave (t + 2) i) (written (freshLeft (t + 2) ws) (t + 2) i t q)) (gives (Stopped (TooManyReferences n)) ws)
 unaryGives getOp n t q ws =
     pick (ltb t 2) (gives (Stopped (WrongType n)) ws)
     (pick (consistentIn ws) (gotGives (lookupIn ws q) t ws) (gives (Stopped (InconsistentLog n)) ws))

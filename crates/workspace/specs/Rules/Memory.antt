@@ -5,7 +5,7 @@ use mathlib.Core.Option.{Option, none, some}
 use mathlib.Core.Path.{_≡_, refl, sym, _∙_}
 use Prim.Native.Nat.{ℕ, suc, _+_, _-_, _≤_, _<_}
 use native.Mathlib.Omega.{arith}
-use lib.ListN.{length, getD, set, length-set}
+use lib.ListN.{length, getD, length-set}
 use lib.Seq.{getD-set-same, getD-set-other}
 use borrow.Author.Tests.{le-leb, lt-leb, lt-ltb, le-ltb}
 use Rattle.script.specs.Limits.{typeLimit, nodeLimit}
@@ -15,16 +15,13 @@ use Rattle.rules.specs.Paths.{Path, ends, taken, forget, consistent, lookup}
 use Rattle.rules.specs.Symbolic.{Sum, Formula, made, Symbolic, aWord, aTruth, aReference, symbol, other}
 use Rattle.rules.specs.SymbolicRules.{got, unaryExec, binaryExec, typedResult}
 use Rattle.terms.specs.Places.{countAt, symbolLimit, rowLimit}
-use Rattle.terms.specs.References.{referenceAt}
 use Rattle.terms.specs.Terms.{countIn, Grown}
 use Rattle.terms.specs.Terms.Laws.{grown-trans, still-distinct}
 use Rattle.workspace.specs.Log.{written, FoundAs, found-none, found-some, emptied, consistentIn, lookupIn}
 use Rattle.workspace.specs.Log.Laws.{consistent-is, lookup-is, written-grown, written-before, written-ruled, written-path}
 use Rattle.workspace.specs.Numbers.{gotGives, unaryGives, oneGives, binaryGives, twoGives}
-use Rattle.workspace.specs.Numbers as Numbers
 use Rattle.workspace.specs.Paths.{Fresh}
 use Rattle.workspace.specs.Paths.Conditions.{ruled-refl}
-use Rattle.workspace.specs.Paths.Symbols.{fresh-reference}
 use Rattle.workspace.specs.Places.{conditionAt, depthAt, nextAt, spaceSize, startAt, writesAt}
 use Rattle.workspace.specs.Rules.{oneExec, twoExec, Ruled, One, Two, After}
 use Rattle.workspace.specs.State.{nextIn, writesIn, startIn, depthIn, Means, wordRow, truthRow, referencePlace, noWrite, PathIn, Room, Went, Unnoted, Yields, ending, stopping, deepest}
@@ -90,63 +87,59 @@ module _ (n t q : ℕ) {ws : List ℕ} where
         exactly = rw (le-ltb t deepest l) refl;
       }
 
-  module _ (x : Room ws 1) (l : t < deepest) where
-    abbrev numbered : List ℕ
-    numbered = Numbers.numbered ws
+  -- a fresh symbol, at place i, and then the write
+  module _ (x : Room ws 1) (l : t < deepest) {i : ℕ} {xs : List ℕ} (f : Fresh made (t + 2) ws i xs) where
+    pub ref-lent : spaceSize ≤ length xs
+    ref-lent = omega (arith, f .ruled .went .same, x .lent)
 
-    fresh : Fresh made (t + 2) ws (referenceAt made (nextIn ws)) numbered
-    fresh = fresh-reference ws x made (t + 2) (λ e. omega arith) (λ e. omega arith)
+    pub ref-few : writesIn xs < nodeLimit
+    ref-few = omega (arith, f .writes, x .writes)
 
-    pub ref-lent : spaceSize ≤ length numbered
-    ref-lent = omega (arith, length-set ws nextAt (nextIn ws + 1), x .lent)
-
-    pub ref-few : writesIn numbered < nodeLimit
-    ref-few = let e = getD-set-other ws nextAt writesAt (nextIn ws + 1) 0 (λ e. omega arith) in omega (arith, e, x .writes)
-
-    ref-rows : countIn numbered ≤ rowLimit
-    ref-rows = let e = getD-set-other ws nextAt countAt (nextIn ws + 1) 0 (λ e. omega arith) in omega (arith, e, x .rows)
+    ref-rows : countIn xs ≤ rowLimit
+    ref-rows = omega (arith, f .most, x .rows)
 
     abbrev left : List ℕ
-    left = written numbered (t + 2) (referenceAt made (nextIn ws)) t q
+    left = written xs (t + 2) i t q
 
     ref-went : Went ws left symbolLimit 1
     ref-went =
-        let a = fresh .ruled .went in
-        let b = written-ruled numbered (t + 2) (referenceAt made (nextIn ws)) t q ref-lent ref-few ref-rows .went in
-        let rows = getD-set-other ws nextAt countAt (nextIn ws + 1) 0 (λ e. omega arith) in
-        let writes = getD-set-other ws nextAt writesAt (nextIn ws + 1) 0 (λ e. omega arith) in
-        let next = written-before numbered (t + 2) (referenceAt made (nextIn ws)) t q ref-lent ref-few ref-rows nextAt (λ e. omega arith) (omega arith) in
+        let a = f .ruled .went in
+        let b = written-ruled xs (t + 2) i t q ref-lent ref-few ref-rows .went in
+        let rows = written-before xs (t + 2) i t q ref-lent ref-few ref-rows countAt (λ e. omega arith) (omega arith) in
+        let next = written-before xs (t + 2) i t q ref-lent ref-few ref-rows nextAt (λ e. omega arith) (omega arith) in
         record {
           same = b .same ∙ a .same;
-          before = λ k i. b .before k i ∙ a .before k i;
+          before = λ k h. b .before k h ∙ a .before k h;
           grown = grown-trans (a .grown) (b .grown);
-          rows = omega (arith, b .rows, rows);
+          rows = omega (arith, a .rows, rows);
           symbols = omega (arith, next, a .symbols);
-          writes = omega (arith, b .writes, writes);
+          writes = omega (arith, b .writes, f .writes);
           logged = omega (arith, a .logged, b .logged);
-          log = λ k i h. b .log k i (omega (arith, h, writes)) ∙ a .log k i h;
+          log = λ k g h. b .log k g (omega (arith, h, f .writes)) ∙ a .log k g h;
         }
 
-    made-here : (zs : List ℕ) (u : ℕ) → nextIn ws ≡ u → Means zs (t + 2) (referenceAt made (nextIn ws)) (aReference made t u)
-    made-here zs u e = let f : t + 2 ≡ suc (suc t) = omega arith in rw (f, e) (referencePlace refl)
+    ref-symbol : (s : ℕ) → symbol made (t + 2) s ≡ aReference made t s
+    unfolding symbol
+    ref-symbol s = let e : t + 2 ≡ suc (suc t) = omega arith in rw e refl
 
-    ref-yields : (v : Symbolic) (p : Path) → Means ws t q v → PathIn ws p → Yields left (Gave (t + 2) (referenceAt made (nextIn ws))) (unaryExec n refOp v p)
+    made-here : (p : Path) → PathIn ws p → Means xs (t + 2) i (aReference made t (p .next))
+    made-here p h = rw (ref-symbol (nextIn ws), h .next) at (f .means (h .distinct))
+
+    ref-yields : (v : Symbolic) (p : Path) → Means ws t q v → PathIn ws p → Yields left (Gave (t + 2) i) (unaryExec n refOp v p)
     unfolding unaryExec
     ref-yields v p m h =
         rw (means-type m, le-leb (suc (suc t)) typeLimit (omega arith))
-        (ending (made-here left (p .next) (h .next))
-        (written-path numbered (t + 2) (referenceAt made (nextIn ws)) t q ref-lent ref-few ref-rows (taken p) (fresh .path p h) (made-here numbered (p .next) (h .next))
-        (means-kept (fresh .ruled .went .grown) m)))
+        (ending (means-kept (written-grown xs (t + 2) i t q ref-lent ref-few ref-rows) (made-here p h))
+        (written-path xs (t + 2) i t q ref-lent ref-few ref-rows (taken p) (f .path p h) (made-here p h) (means-kept (f .ruled .went .grown) m)))
 
-    pub ref-made : {zs : List ℕ} → zs ≡ left → One (unaryForm refOp) n t q ws (Gave (t + 2) (referenceAt made (nextIn ws))) zs
+    pub ref-made : {zs : List ℕ} → zs ≡ left → One (unaryForm refOp) n t q ws (Gave (t + 2) i) zs
     unfolding oneExec oneGives unaryGives
     ref-made e =
         rw e
         (record {
-          ruled = ruled-then (fresh .ruled .depth) (fresh .ruled .notes)
-              (written-ruled numbered (t + 2) (referenceAt made (nextIn ws)) t q ref-lent ref-few ref-rows) ref-went;
+          ruled = ruled-then (f .ruled .depth) (f .ruled .notes) (written-ruled xs (t + 2) i t q ref-lent ref-few ref-rows) ref-went;
           yields = ref-yields;
-          exactly = rw (lt-ltb t deepest l) refl;
+          exactly = rw (lt-ltb t deepest l, f .place-is, f .left-is) refl;
         })
 
 -- ---- what is found, and fresh symbols
