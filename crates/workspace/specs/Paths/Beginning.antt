@@ -51,15 +51,15 @@ module _ {ws : List ℕ} (b : Blank ws) where
   first-row = pushed ws ofConstant 1 0
 
   first-beyond : (k : ℕ) → rowAt 1 ≤ k → getD first-row k 0 ≡ 0
-  first-beyond k l = pushed-above blank-space 3 1 0 k (omega (arith, l, b .zeros countAt)) ∙ b .zeros k
+  first-beyond k l = pushed-above blank-space ofConstant 1 0 k (omega (arith, l, b .zeros countAt)) ∙ b .zeros k
 
   pub first-started : (types left : List ℕ) → left ≡ first-row → Starting types left 0
   unfolding typesOn symbols
   first-started types left e =
       let m = made-constant blank-space blank-distinct true 0 in
-      let c = pushed-count blank-space 3 1 0 in
+      let c = pushed-count blank-space ofConstant 1 0 in
       let z = b .zeros countAt in
-      let l = pushed-length blank-space 3 1 0 in
+      let l = pushed-length blank-space ofConstant 1 0 in
       let d = first-beyond conditionAt (omega arith) in
       rw e
       (record {

@@ -130,7 +130,7 @@ module _ (ws : List ℕ) (room : Room ws 1) where
   unfolding symbol freshPlace freshLeft
   fresh-word o t q left e f g =
       rw (e, f, g)
-      (fresh-by (pushed-length numbered-space 1 (nextIn ws) 0) (pushed-added numbered-space 1 (nextIn ws) 0) o 0 (countIn numbered)
+      (fresh-by (pushed-length numbered-space ofSymbol (nextIn ws) 0) (pushed-added numbered-space ofSymbol (nextIn ws) 0) o 0 (countIn numbered)
       (λ d. made-symbol numbered-space d (nextIn ws) 0 fresh-symbol .distinct)
       (λ d. let m = made-symbol numbered-space d (nextIn ws) 0 fresh-symbol in wordRow (m .inside) (m .is)) refl refl)
 
