@@ -1,6 +1,6 @@
 -- The proved cases P1 to P9 (docs/CHECKS.md, 'Worked cases') as one table. Each row is a script, a question and its answer, and the table is proved whole, by
--- computation. The tables below are of the same form: `Traps` tells the rules from the traps, `NewCells` new cells from old ones, `Refusals` has the
--- tests of tables, values and cells. Assumes nothing.
+-- computation. The tables below are of the same form: `Traps` tells the rules from the traps, `NewCells` new cells from old ones, `ScratchCells` what `get`
+-- finds from what it doesn't, `Refusals` has the tests of tables, values and cells. Assumes nothing.
 use mathlib.Core.Path.{_≡_, refl}
 use mathlib.Core.List.{List, [], _∷_, map}
 use Prim.Native.Nat.{ℕ}
@@ -24,6 +24,7 @@ use Rattle.rules.specs.SymbolicRules.{unaryExec, binaryExec, branches, d
 use Rattle.rules.specs.TypedRules.{unaryType, binaryType, ifType}
 pub mod NewCells
 pub mod Refusals
+pub mod ScratchCells
 pub mod Traps
 
 -- ---- rows

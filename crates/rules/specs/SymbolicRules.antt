@@ -37,10 +37,10 @@ equalTo (aWord p) w other k = wordOf w other λ q. k (equalSums p q)
 equalTo (aTruth f) w other k = truthOf w other λ g. k (equality f g)
 equalTo (aReference o t s) w other k = referenceOf w other λ p t′ u. pick (eqb t t′) (k (equalReferences o s p u)) other
 
--- what `get` gives: the value found, or a fresh symbol
-abbrev pub got : Option Symbolic → ℕ → Path → Paths
-got none t p = fresh t p
-got (some v) t p = ends v p
+-- what `get` gives: the value found, of whatever type; where none is found the log must be consistent, and the value is a fresh symbol of the cell's type
+abbrev pub got : ℕ → Option Symbolic → ℕ → Path → Paths
+got n (some v) t p = ends v p
+got n none t p = pick (consistent p) (fresh t p) (stops (InconsistentLog n))
 
 unfoldable pub unaryExec : ℕ → UnaryOp → Symbolic → Path → Paths
 unaryExec n notOp v p = truthOf v (stops (WrongType n)) λ f. ends (aTruth (negation f)) p
@@ -49,8 +49,7 @@ unaryExec n refOp v p =
     pick (isType (suc (suc (typeOf v))))
     (ends (aReference made (typeOf v) s) (write (writeOf made (typeOf v) s v) (taken p)))
     (stops (TooManyReferences n))
-unaryExec n getOp v p =
-    referenceOf v (stops (WrongType n)) λ o t s. pick (consistent p) (got (lookup o s (p .log)) t p) (stops (InconsistentLog n))
+unaryExec n getOp v p = referenceOf v (stops (WrongType n)) λ o t s. got n (lookup o s (p .log)) t p
 
 unfoldable pub binaryExec : ℕ → BinaryOp → Symbolic → Symbolic → Path → Paths
 binaryExec n addOp v w p = wordOf v (stops (WrongType n)) λ a. wordOf w (stops (WrongType n)) λ b. ends (aWord (plus a b)) p

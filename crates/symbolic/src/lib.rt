@@ -110,7 +110,7 @@ fn make_cell(t: u32, q: u32, space: &mut [u32], n: u32) -> Step
     Step::Gave(t + 2, place)
 }
 
-// `get`: what the log has, or a fresh symbol.
+// `get`: what the log has, of whatever type; or else, if the log is consistent, a fresh symbol.
 fn read_cell(t: u32, q: u32, space: &mut [u32], n: u32) -> Step
     requires { ⌜ Room (now space) 1 ⌝ }
     ensures { λ r. ⌜ One (unaryForm getOp) n t q (now (space .entry)) r (now (space .exit)) ⌝ }
@@ -118,12 +118,14 @@ fn read_cell(t: u32, q: u32, space: &mut [u32], n: u32) -> Step
     if t < 2 {
         return Step::Stopped(Refusal::WrongType(n));
     }
-    if !consistent(space) {
-        return Step::Stopped(Refusal::InconsistentLog(n));
-    }
     match lookup(space, q) {
         Found::Value(u, s) => Step::Gave(u, s),
-        Found::Nothing => Step::Gave(t - 2, fresh(space, t - 2, OTHER)),
+        Found::Nothing => {
+            if !consistent(space) {
+                return Step::Stopped(Refusal::InconsistentLog(n));
+            }
+            Step::Gave(t - 2, fresh(space, t - 2, OTHER))
+        }
     }
 }
 

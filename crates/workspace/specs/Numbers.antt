@@ -64,19 +64,18 @@ leafGives (binaryForm o) n m depth ws = constant 0 ws
 
 -- ---- one operand, of type t at place q
 
--- what the log has, or a fresh symbol of the type that the cell has
-unfoldable pub gotGives : Found → ℕ → List ℕ → Outcome
-gotGives (Value u p) t ws = gives (Gave u p) ws
-gotGives Nothing t ws = gives (Gave (t - 2) (freshPlace other (t - 2) ws)) (freshLeft (t - 2) ws)
+-- what the log has; or, where it is consistent, a fresh symbol of the type that the cell has
+unfoldable pub gotGives : ℕ → Found → ℕ → List ℕ → Outcome
+gotGives n (Value u p) t ws = gives (Gave u p) ws
+gotGives n Nothing t ws =
+    pick (consistentIn ws) (gives (Gave (t - 2) (freshPlace other (t - 2) ws)) (freshLeft (t - 2) ws)) (gives (Stopped (InconsistentLog n)) ws)
 
 unfoldable pub unaryGives : UnaryOp → ℕ → ℕ → ℕ → List ℕ → Outcome
 unaryGives notOp n t q ws = pick (eqb t 1) (gives (Gave 1 (countIn ws)) (pushed ws ofNegation q 0)) (gives (Stopped (WrongType n)) ws)
 unaryGives refOp n t q ws =
     let i = freshPlace made (t + 2) ws in
     pick (ltb t deepest) (gives (Gave (t + 2) i) (written (freshLeft (t + 2) ws) (t + 2) i t q)) (gives (Stopped (TooManyReferences n)) ws)
-unaryGives getOp n t q ws =
-    pick (ltb t 2) (gives (Stopped (WrongType n)) ws)
-    (pick (consistentIn ws) (gotGives (lookupIn ws q) t ws) (gives (Stopped (InconsistentLog n)) ws))
+unaryGives getOp n t q ws = pick (ltb t 2) (gives (Stopped (WrongType n)) ws) (gotGives n (lookupIn ws q) t ws)
 
 unfoldable pub oneGives : Form → ℕ → ℕ → ℕ → List ℕ → Outcome
 oneGives intForm n t q ws = gives (Gave t q) ws

@@ -15,7 +15,7 @@ unfoldable pub traps : List Case
 traps =
     -- clearing all wrong writes when any right one comes: a right write through another symbol mends nothing, here at a `get` (at a path's end: P6)
     refuses (2 ∷ 2 ∷ [])
-    (var′ 0 ∷ true′ ∷ set′ 0 1 ∷ var′ 1 ∷ int′ 7 ∷ set′ 3 4 ∷ var′ 1 ∷ get′ 6 ∷ let′ 5 7 ∷ let′ 2 8 ∷ sym′ 9 ∷ [])
+    (var′ 0 ∷ true′ ∷ set′ 0 1 ∷ var′ 1 ∷ int′ 7 ∷ set′ 3 4 ∷ var′ 0 ∷ get′ 6 ∷ let′ 5 7 ∷ let′ 2 8 ∷ sym′ 9 ∷ [])
     9 (At 7)
     -- keeping the log across a typed block: the block stores 8 where 7 was, so the `get` after it may give either
     ∷ refuses (2 ∷ [])

@@ -169,11 +169,11 @@ module _ {m : ℕ} where
     ended-truth : {f : Formula} → BoundedPaths m (ends (aTruth f) p)
     ended-truth {f} = at-end {v = aTruth f} (record { most = omega arith }) l
 
-    got-bounded : (t : ℕ) → t ≤ typeLimit → (r : Option Symbolic) → ((v : Symbolic) → r ≡ some v → Coded v) → BoundedPaths m (got r t p)
-    got-bounded t k none f = at-end (symbol-coded other t (p .next) k) (record { log = l .log })
-    got-bounded t k (some v) f = at-end (f v refl) l
-
     module _ {n : ℕ} (h : n < m) where
+      got-bounded : (t : ℕ) → t ≤ typeLimit → (r : Option Symbolic) → ((v : Symbolic) → r ≡ some v → Coded v) → BoundedPaths m (got n r t p)
+      got-bounded t k none f = either-path (consistent p) (at-end (symbol-coded other t (p .next) k) (record { log = l .log })) (at-stop (place-below h))
+      got-bounded t k (some v) f = at-end (f v refl) l
+
       unary-bounded : (o : UnaryOp) (v : Symbolic) → Coded v → BoundedPaths m (unaryExec n o v p)
       unfolding unaryExec
       unary-bounded notOp (aWord a) c = at-stop (place-below h)
@@ -189,7 +189,7 @@ module _ {m : ℕ} where
       unary-bounded getOp (aTruth f) c = at-stop (place-below h)
       unary-bounded getOp (aReference o t s) c =
           let k = c .most in
-          either-path (consistent p) (got-bounded t (omega arith) (lookup o s (p .log)) (λ v e. found-coded o s (l .log) e)) (at-stop (place-below h))
+          got-bounded t (omega arith) (lookup o s (p .log)) (λ v e. found-coded o s (l .log) e)
 
       binary-bounded : (o : BinaryOp) (v w : Symbolic) → Coded w → BoundedPaths m (binaryExec n o v w p)
       unfolding binaryExec

@@ -45,9 +45,9 @@ either false h i = i
 -- ---- operators leave the condition as it is
 
 module _ {p : Path} (h : Possible p) where
-  got-possible : (r : Option Symbolic) (t : ℕ) → Everywhere Possible (got r t p)
-  got-possible none t = at-end (record { possible = h .possible })
-  got-possible (some v) t = at-end h
+  got-possible : (n : ℕ) (r : Option Symbolic) (t : ℕ) → Everywhere Possible (got n r t p)
+  got-possible n none t = either (consistent p) (at-end (record { possible = h .possible })) at-stop
+  got-possible n (some v) t = at-end h
 
   unary-possible : (n : ℕ) (o : UnaryOp) (v : Symbolic) → Everywhere Possible (unaryExec n o v p)
   unfolding unaryExec
@@ -57,7 +57,7 @@ module _ {p : Path} (h : Possible p) where
   unary-possible n refOp v = either (isType (suc (suc (typeOf v)))) (at-end (record { possible = h .possible })) at-stop
   unary-possible n getOp (aWord a) = at-stop
   unary-possible n getOp (aTruth f) = at-stop
-  unary-possible n getOp (aReference o t s) = either (consistent p) (got-possible (lookup o s (p .log)) t) at-stop
+  unary-possible n getOp (aReference o t s) = got-possible n (lookup o s (p .log)) t
 
   binary-possible : (n : ℕ) (o : BinaryOp) (v w : Symbolic) → Everywhere Possible (binaryExec n o v w p)
   unfolding binaryExec

@@ -96,28 +96,27 @@ module _ {typing : List ℕ} {ρ : List Entry} {p : Path} {cs : List Value} (s :
           })
       go false e = at-stop
 
-  -- what `get` gives, where the log is consistent
-  got-follows : {o : Origin} {t u l : ℕ} → At ρ u (entry o (Location l)) → Fits typing cs
-      → (r : Option Symbolic) → lookup o u (p .log) ≡ r → (x : Value) → At cs l x → HasType typing x t → Follows typing ρ (got r t p) (gave x cs)
-  got-follows a f none e x c h = fresh-follows s h (value-live f h)
-  got-follows {o} {t} {u} {l} a f (some v) e x c h =
-      let found = s .memory .recent o u l v a e in
-      ends-with s (subst (λ (y : Value). StandsFor typing ρ v y) (at-same (found .placed) c) (found .stands))
+  -- what is found is what the cell holds, whatever its type; where none is found the cells fit, if the log is consistent
+  got-follows : (n : ℕ) {o : Origin} {t u l : ℕ} → At ρ u (entry o (Location l)) → At typing l t → (r : Option Symbolic) → lookup o u (p .log) ≡ r
+      → Follows typing ρ (got n r t p) (found (getElem? cs l) (failed n cs) λ y. gave y cs)
+  got-follows n {o} {t} {u} {l} a b (some v) e =
+      let h = s .memory .recent o u l v a e in
+      rw (at-found (h .placed)) (ends-with s (h .stands))
+  got-follows n {o} {t} {u} {l} a b none e = go (consistent p) refl
+    where
+      go : (c : Bool) → consistent p ≡ c
+          → Follows typing ρ (pick c (fresh t p) (stops (InconsistentLog n))) (found (getElem? cs l) (failed n cs) λ y. gave y cs)
+      go true i =
+          let f = consistent-fits (s .memory) i in
+          let q = each-at f b in
+          rw (at-found (q .1)) (fresh-follows s (q .2) (value-live f (q .2)))
+      go false i = at-stop
 
   get-follows : (n : ℕ) {v : Symbolic} {x : Value} → StandsFor typing ρ v x → Follows typing ρ (unaryExec n getOp v p) (unaryOn n getOp x cs)
   unfolding unaryExec unaryOn
   get-follows n (word-for h) = at-stop
   get-follows n (truth-for h) = at-stop
-  get-follows n (reference-for {o = o} {t = t} {s = u} {l = l} a b h) = go (consistent p) refl
-    where
-      go : (c : Bool) → consistent p ≡ c
-          → Follows typing ρ (pick c (got (lookup o u (p .log)) t p) (stops (InconsistentLog n))) (found (getElem? cs l) (failed n cs) λ y. gave y cs)
-      go true e =
-          let f = consistent-fits (s .memory) e in
-          let q = each-at f b in
-          subst (λ (y : Option Value). Follows typing ρ (got (lookup o u (p .log)) t p) (found y (failed n cs) λ z. gave z cs)) (sym (at-found (q .1)))
-          (got-follows a f (lookup o u (p .log)) refl (q .0) (q .1) (q .2))
-      go false e = at-stop
+  get-follows n (reference-for {o = o} {s = u} a b h) = got-follows n a b (lookup o u (p .log)) refl
 
   pub unary-follows : (n : ℕ) (o : UnaryOp) {v : Symbolic} {x : Value} → StandsFor typing ρ v x → Follows typing ρ (unaryExec n o v p) (unaryOn n o x cs)
   unfolding unaryExec unaryOn

@@ -11,7 +11,8 @@ use borrow.Author.Tests.{le-leb, lt-leb, lt-ltb, le-ltb}
 use Rattle.script.specs.Limits.{typeLimit, nodeLimit}
 use Rattle.script.specs.Rows.{unaryForm, binaryForm, refOp, getOp, setOp}
 use Rattle.script.specs.declared.Refusal.the-variants.{WrongType, TooManyReferences, InconsistentLog}
-use Rattle.rules.specs.Paths.{Path, ends, taken, forget, consistent, lookup}
+use Rattle.script.specs.Tests.{pick}
+use Rattle.rules.specs.Paths.{Path, ends, stops, taken, forget, consistent, lookup, fresh}
 use Rattle.rules.specs.Symbolic.{Sum, Formula, made, Symbolic, aWord, aTruth, aReference, symbol, other}
 use Rattle.rules.specs.SymbolicRules.{got, unaryExec, binaryExec, typedResult}
 use Rattle.terms.specs.Places.{countAt, symbolLimit, rowLimit}
@@ -28,6 +29,7 @@ use Rattle.workspace.specs.State.{nextIn, writesIn, startIn, depthIn, Me
 use Rattle.workspace.specs.State.Laws.{still-known, path-moved, means-type, means-kept, went-trans, room-on, unnoted-trans, Refers, refer, refers}
 use Rattle.workspace.specs.declared.Found.{Found}
 use Rattle.workspace.specs.declared.Found.the-variants.{Value, Nothing}
+use Rattle.workspace.specs.declared.Step.{Step}
 use Rattle.workspace.specs.declared.Step.the-variants.{Gave, Stopped}
 
 -- ---- references
@@ -164,66 +166,62 @@ unfolding unaryExec
 get-refused n p a-word = stopping
 get-refused n p a-truth = stopping
 
-get-inconsistent : (n : ℕ) {ws : List ℕ} {t q : ℕ} {v : Symbolic} (p : Path) → consistent p ≡ false → Refers t q v
-    → Yields ws (Stopped (InconsistentLog n)) (unaryExec n getOp v p)
-unfolding unaryExec
-get-inconsistent n p e (refers r) = rw e stopping
-
 -- what is found is the value
-get-found : (n q : ℕ) {ws : List ℕ} {t u i : ℕ} {v : Symbolic} {f : Found} (p : Path) → consistent p ≡ true → PathIn ws p → Refers t q v → Means ws t q v
-    → lookupIn ws q ≡ f → f ≡ Value u i → Yields ws (Gave u i) (unaryExec n getOp v p)
+get-found : (n q : ℕ) {ws : List ℕ} {t u i : ℕ} {v : Symbolic} (p : Path) → PathIn ws p → Refers t q v → Means ws t q v
+    → lookupIn ws q ≡ Value u i → Yields ws (Gave u i) (unaryExec n getOp v p)
 unfolding unaryExec
-get-found n q {ws} {u = u} {i = i} p e h (refers {o = o} {c = c} {s = s} r) m d z =
-    rw e (go (lookupIn ws q) (lookup o s (p .log)) (lookup-is (h .log) m) (d ∙ z))
+get-found n q {ws} {u = u} {i = i} p h (refers {o = o} {c = c} {s = s} r) m e = go (lookupIn ws q) (lookup o s (p .log)) (lookup-is (h .log) m) e
   where
-    go : (f : Found) (r : Option Symbolic) → FoundAs ws f r → f ≡ Value u i → Yields ws (Gave u i) (got r c p)
+    go : (f : Found) (r : Option Symbolic) → FoundAs ws f r → f ≡ Value u i → Yields ws (Gave u i) (got n r c p)
     go Nothing none found-none y = absurd (nothing-found y)
     go (Value w j) (some x) (found-some k) y = rw (sym (found-type y), sym (found-place y)) (ending k h)
 
--- nothing is found: a fresh symbol
-get-nothing : (n q : ℕ) {ws left : List ℕ} {t i : ℕ} {v : Symbolic} {f : Found} (p : Path) → consistent p ≡ true → PathIn ws p → Refers t q v → Means ws t q v
-    → lookupIn ws q ≡ f → f ≡ Nothing → Fresh other (t - 2) ws i left → Yields left (Gave (t - 2) i) (unaryExec n getOp v p)
+-- where nothing is found, the log is looked at
+get-nothing : (n q : ℕ) {ws left : List ℕ} {t : ℕ} {r : Step} {v : Symbolic} (p : Path) → PathIn ws p → Refers t q v → Means ws t q v
+    → lookupIn ws q ≡ Nothing → ((c : ℕ) → t ≡ suc (suc c) → Yields left r (pick (consistent p) (fresh c p) (stops (InconsistentLog n))))
+    → Yields left r (unaryExec n getOp v p)
 unfolding unaryExec
-get-nothing n q {ws} {left} {i = i} p e h (refers {o = o} {c = c} {s = s} r) m d z x =
-    rw e (go (lookupIn ws q) (lookup o s (p .log)) (lookup-is (h .log) m) (d ∙ z))
+get-nothing n q {ws} {left} {r = r} p h (refers {o = o} {c = c} {s = s} z) m e k = go (lookupIn ws q) (lookup o s (p .log)) (lookup-is (h .log) m) e
   where
-    go : (f : Found) (r : Option Symbolic) → FoundAs ws f r → f ≡ Nothing → Yields left (Gave (suc (suc c) - 2) i) (got r c p)
-    go Nothing none found-none y =
-        let k : suc (suc c) - 2 ≡ c = omega arith in
-        fresh-yields (suc (suc c) - 2) c k x h
-    go (Value w j) (some y) (found-some k) b = absurd (nothing-found (sym b))
+    go : (f : Found) (x : Option Symbolic) → FoundAs ws f x → f ≡ Nothing → Yields left r (got n x c p)
+    go Nothing none found-none y = k c refl
+    go (Value w j) (some x) (found-some i) y = absurd (nothing-found (sym y))
 
 module _ (n t q : ℕ) {ws : List ℕ} where
   pub get-wrong : t < 2 → One (unaryForm getOp) n t q ws (Stopped (WrongType n)) ws
   unfolding oneExec oneGives unaryGives
   get-wrong l = record { ruled = ruled-refl ws; yields = λ v p m h. get-refused n p (no-reference l m); exactly = rw (lt-ltb t 2 l) refl }
 
-  module _ (l : 2 ≤ t) {b : Bool} (e : b ≡ consistentIn ws) where
-    log-is : {p : Path} {c : Bool} → PathIn ws p → b ≡ c → consistent p ≡ c
-    log-is h z = sym (consistent-is (h .log)) ∙ sym e ∙ z
+  module _ (l : 2 ≤ t) {f : Found} (d : f ≡ lookupIn ws q) where
+    pub get-value : {u i : ℕ} → f ≡ Value u i → One (unaryForm getOp) n t q ws (Gave u i) ws
+    unfolding oneExec oneGives unaryGives gotGives
+    get-value y =
+        record {
+          ruled = ruled-refl ws;
+          yields = λ v p m h. get-found n q p h (refer l m) m (sym d ∙ y);
+          exactly = rw (le-ltb t 2 l, sym d ∙ y) refl;
+        }
 
-    pub get-stopped : b ≡ false → One (unaryForm getOp) n t q ws (Stopped (InconsistentLog n)) ws
-    unfolding oneExec oneGives unaryGives
-    get-stopped z =
-        record { ruled = ruled-refl ws; yields = λ v p m h. get-inconsistent n p (log-is h z) (refer l m); exactly = rw (le-ltb t 2 l, sym e ∙ z) refl }
+    module _ (y : f ≡ Nothing) {b : Bool} (e : b ≡ consistentIn ws) where
+      log-is : {p : Path} {c : Bool} → PathIn ws p → b ≡ c → consistent p ≡ c
+      log-is h z = sym (consistent-is (h .log)) ∙ sym e ∙ z
 
-    module _ (z : b ≡ true) {f : Found} (d : f ≡ lookupIn ws q) where
-      pub get-value : {u i : ℕ} → f ≡ Value u i → One (unaryForm getOp) n t q ws (Gave u i) ws
+      pub get-stopped : b ≡ false → One (unaryForm getOp) n t q ws (Stopped (InconsistentLog n)) ws
       unfolding oneExec oneGives unaryGives gotGives
-      get-value y =
+      get-stopped z =
           record {
             ruled = ruled-refl ws;
-            yields = λ v p m h. get-found n q p (log-is h z) h (refer l m) m (sym d) y;
-            exactly = rw (le-ltb t 2 l, sym e ∙ z, sym d ∙ y) refl;
+            yields = λ v p m h. get-nothing n q p h (refer l m) m (sym d ∙ y) λ c k. rw (log-is h z) stopping;
+            exactly = rw (le-ltb t 2 l, sym d ∙ y, sym e ∙ z) refl;
           }
 
-      pub get-fresh : f ≡ Nothing → {i : ℕ} {left : List ℕ} → Fresh other (t - 2) ws i left → One (unaryForm getOp) n t q ws (Gave (t - 2) i) left
+      pub get-fresh : b ≡ true → {i : ℕ} {left : List ℕ} → Fresh other (t - 2) ws i left → One (unaryForm getOp) n t q ws (Gave (t - 2) i) left
       unfolding oneExec oneGives unaryGives gotGives
-      get-fresh y x =
+      get-fresh z x =
           record {
             ruled = x .ruled;
-            yields = λ v p m h. get-nothing n q p (log-is h z) h (refer l m) m (sym d) y x;
-            exactly = rw (le-ltb t 2 l, sym e ∙ z, sym d ∙ y, x .place-is, x .left-is) refl;
+            yields = λ v p m h. get-nothing n q p h (refer l m) m (sym d ∙ y) λ c k. rw (log-is h z) (fresh-yields (t - 2) c (omega arith) x h);
+            exactly = rw (le-ltb t 2 l, sym d ∙ y, sym e ∙ z, x .place-is, x .left-is) refl;
           }
 
 -- ---- after a typed block
