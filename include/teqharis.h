@@ -142,7 +142,8 @@ enum teqharis_refusals {
     /* The type of this `ref` would have 16 references. Use fewer. */
     TEQHARIS_TOO_MANY_REFERENCES = 8,
     /* At this `get`, at the end of this `typed`, or at a path's end of this `sym`, a cell may hold a
-       value of a wrong type. Store one of the right type before, through the same reference. */
+       value of a wrong type. Store one of the right type before, through the same reference; until
+       then, look through that reference alone. */
     TEQHARIS_INCONSISTENT = 9,
     /* A path of this `sym` ends with another type than its first one. Give every branch one type. */
     TEQHARIS_PATH_TYPE = 10,

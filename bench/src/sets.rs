@@ -29,6 +29,7 @@ pub fn sets() -> Vec<Set> {
     let mut sets = vec![
         set("checks: typical scripts", typical()),
         set("checks: 64 paths, 10 atoms each", many_paths()),
+        set("checks: one path, many reads", many_reads()),
         set(
             "checks: 4 `sym` deep, 4 paths each",
             vec![nested([2, 2, 2, 2])],
@@ -142,6 +143,23 @@ fn six_forks(atoms: &[String]) -> String {
         script += &format!("(let (if {atom} 1 2) ");
     }
     script + "3" + &")".repeat(7)
+}
+
+/// A cell counted up; one read again and again after many wrong writes and a right one; and one read
+/// past the writes of many new cells.
+fn many_reads() -> Vec<Input> {
+    let bound = |values: &str, count: usize, rest: &str| {
+        format!("(let {values} ").repeat(count) + rest + &")".repeat(count)
+    };
+    let reads = "(add (get v0) ".repeat(18) + "1" + &")".repeat(18);
+    let mended = format!("(let (set v0 1) {reads})");
+    [
+        counter(17),
+        bound("(set v0 true)", 15, &mended),
+        format!("(let (set v0 1) {})", bound("(ref 2)", 20, &reads)),
+    ]
+    .map(|script| check("ri", &format!("(sym {script})"), 1))
+    .into()
 }
 
 /// Binds so many forks on truth entries around `body`.

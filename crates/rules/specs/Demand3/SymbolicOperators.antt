@@ -27,7 +27,7 @@ use Rattle.rules.specs.Symbolic.{Formula, negation, conjunction, Origin,
 use Rattle.rules.specs.SymbolicRules.{got, unaryExec, binaryExec, branches, atomLimit, decide, typedResult}
 use Rattle.rules.specs.TypedRules.{isType}
 use Rattle.rules.specs.Typings.{At, HasType, Fits, Extends}
-use Rattle.rules.specs.Typings.Laws.{at-found, at-last, at-same, below-at, extends-self, extends-trans, extends-append, extends-length, each-at, each-length}
+use Rattle.rules.specs.Typings.Laws.{at-found, at-last, below-at, extends-self, extends-trans, extends-append, extends-length, each-at, each-length}
 
 -- the path ends here, with nothing new but the value
 pub ends-with : {typing : List ℕ} {ρ : List Entry} {v : Symbolic} {p : Path} {x : Value} {cs : List Value}
