@@ -1,5 +1,5 @@
 //! A checker and a runner for check-station scripts, written from the customer's papers ('document
-//! 01', see the README, and request U1 of 'document 02') alone.
+//! 01', see the README, and requests U1 and U2 of 'document 02') alone.
 //!
 //! One module a concern: `script` holds the records and the table's own rules, `text` reads and
 //! writes script text, `typed` and `symbolic` hold the two sets of rules of the checker, `sum` and

@@ -311,26 +311,27 @@ impl Path {
         Ok(Value::Reference(through))
     }
 
-    /// "`get` needs a reference, then a consistent log."
+    /// "`get` needs a reference"; what it finds in the log is the answer. By request U2 "where it
+    /// finds none, the log must be consistent", and the answer is a fresh symbol.
     fn get(&mut self, number: u32, operand: Value) -> Result<Value, Refusal> {
         let Value::Reference(reference) = operand else {
             return Err(Refusal::at(6, number));
         };
+        if let Some(value) = self.found(&reference) {
+            return Ok(value.clone());
+        }
         if !self.log_is_consistent() {
             return Err(Refusal::at(9, number));
         }
-        Ok(self.look_up(&reference))
+        Ok(self.fresh(reference.code - 2, Origin::Other))
     }
 
     /// "Seen from the newest, writes through certainly different" symbols "are passed over; if the
-    /// next one is through the same symbol its value is the answer, else a fresh symbol is."
-    fn look_up(&mut self, reference: &Reference) -> Value {
+    /// next one is through the same symbol its value is the answer", with "the value's own type".
+    fn found(&self, reference: &Reference) -> Option<&Value> {
         let mut newest_first = self.log.iter().rev();
-        let next = newest_first.find(|write| !write.through.is_certainly_different(reference));
-        match next {
-            Some(write) if write.through.symbol == reference.symbol => write.value.clone(),
-            _ => self.fresh(reference.code - 2, Origin::Other),
-        }
+        let next = newest_first.find(|write| !write.through.is_certainly_different(reference))?;
+        (next.through.symbol == reference.symbol).then_some(&next.value)
     }
 
     /// "`set` needs a reference and logs any value, of any type; its own value is the stored one".

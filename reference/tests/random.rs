@@ -259,6 +259,91 @@ fn words_read_back_are_known_rightly() {
     assert!((15_000..30_000).contains(&known), "{known}");
 }
 
+impl Maker<'_> {
+    /// A step that stores a leaf of a type through a variable.
+    fn store(&mut self, cell: usize, code: u32, types: &[u32]) -> (u32, u32) {
+        let through = self.push(3, [cell as u32, 0, 0]);
+        let value = self.leaf(code, types);
+        (self.push(12, [through, value, 0]), code)
+    }
+
+    /// One round with a scratch cell, as the steps' nodes and types: a value of another type goes
+    /// in, something may be stored elsewhere, the cell is read, what it gave may be used, and a
+    /// value of its own type goes back.
+    fn round(&mut self, types: &[u32]) -> Vec<(u32, u32)> {
+        let cells: Vec<usize> = (0..types.len()).filter(|k| types[*k] >= 2).collect();
+        let cell = cells[self.random.below(cells.len() as u32) as usize];
+        let own = types[cell] - 2;
+        let other = (own + 1 + self.random.below(3)) % 4;
+        let mut types = types.to_vec();
+        let mut steps = vec![self.store(cell, other, &types)];
+        types.push(other);
+        if self.random.below(2) == 0 {
+            let elsewhere = cells[self.random.below(cells.len() as u32) as usize];
+            steps.push(self.store(elsewhere, types[elsewhere] - 2, &types));
+            types.push(types[elsewhere] - 2);
+        }
+        let through = self.push(3, [cell as u32, 0, 0]);
+        steps.push((self.push(11, [through, 0, 0]), other));
+        types.push(other);
+        let used = self.random.below(4);
+        steps.push((self.tree(used, &mut types, 1), used));
+        types.push(used);
+        steps.push(self.store(cell, own, &types));
+        steps
+    }
+}
+
+/// Two new cells, then three rounds, then an `if` with branches of two types on a truth that may
+/// have come from a cell.
+fn scratch_cells(random: &mut Random) -> Script {
+    let entries = vec![2, 2, 3, 4];
+    let mut types = entries.clone();
+    let mut maker = Maker {
+        random,
+        nodes: Vec::new(),
+    };
+    let mut bound = Vec::new();
+    for code in [0, 2] {
+        let content = maker.leaf(code, &types);
+        bound.push(maker.push(10, [content, 0, 0]));
+        types.push(code + 2);
+    }
+    for _ in 0..3 {
+        for (node, code) in maker.round(&types) {
+            bound.push(node);
+            types.push(code);
+        }
+    }
+    let condition = maker.leaf(1, &types);
+    let one = maker.push(0, [1, 0, 0]);
+    let truth = maker.push(1, [0; 3]);
+    let mut body = maker.push(8, [condition, one, truth]);
+    for first in bound.into_iter().rev() {
+        body = maker.push(9, [first, body, 0]);
+    }
+    maker.push(14, [body, 0, 0]);
+    let nodes = maker.nodes;
+    Script { entries, nodes }
+}
+
+#[test]
+fn scratch_cells_end_with_their_types() {
+    let mut random = Random(0x1122_3344_5566_7788);
+    let mut accepted = 0;
+    for _ in 0..40_000 {
+        let script = scratch_cells(&mut random);
+        match check(&script) {
+            Ok(code) => {
+                accepted += 1;
+                run_accepted(&mut random, &script, code);
+            }
+            Err(refusal) => assert!([6, 9, 10].contains(&refusal.number), "{refusal:?}"),
+        }
+    }
+    assert!((10_000..20_000).contains(&accepted), "{accepted}");
+}
+
 /// The script itself, unless it has too many `sym` around one.
 fn check_shape(script: &Script) -> Option<Script> {
     match check(script) {
