@@ -1,7 +1,7 @@
 //! Counts what random requests came to, prints it, and says what was missing.
 
 use crate::compare::Answered;
-use crate::fresh_cells::counts::CellCounts;
+use crate::families::{FamilyCounts, FAMILIES};
 use crate::request::{tree_of_script, Request, SOURCES};
 use crate::tree::{self, Tree, EQ, GET, IF, LET, REF, SET, SYM, TYPED};
 use reference::{Outcome, Refusal};
@@ -52,7 +52,7 @@ pub struct Counts {
     errors: u64,
     check_refusals: BTreeMap<u8, u64>,
     run_refusals: BTreeMap<u8, u64>,
-    cells: CellCounts,
+    families: [FamilyCounts; FAMILIES.len()],
 }
 
 impl Counts {
@@ -69,8 +69,10 @@ impl Counts {
             Ok(_) => self.count_accepted(&request.text),
             Err(refusal) => *self.check_refusals.entry(refusal.number).or_default() += 1,
         }
-        if let Some(asked) = &request.asked {
-            self.cells.count(asked, request, answered);
+        for (counts, family) in self.families.iter_mut().zip(FAMILIES) {
+            if family.source == request.source {
+                counts.count(family, request, answered);
+            }
         }
     }
 
@@ -118,7 +120,9 @@ impl Counts {
         if self.errors == 0 {
             missing.push("the error state never came up".into());
         }
-        missing.extend(self.cells.missing(self.requests));
+        for (counts, family) in self.families.iter().zip(FAMILIES) {
+            missing.extend(counts.missing(family, self.requests));
+        }
         missing
     }
 
@@ -136,7 +140,9 @@ impl Counts {
         let [words, truths, locations] = self.values;
         println!("  runs to a word {words}, a truth {truths}, a location {locations}");
         println!("  runs to the error state {}", self.errors);
-        self.cells.print();
+        for (counts, family) in self.families.iter().zip(FAMILIES) {
+            counts.print(family);
+        }
     }
 
     fn print_accepted(&self) {

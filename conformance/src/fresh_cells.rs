@@ -6,9 +6,9 @@ mod known;
 mod questions;
 mod steps;
 
-pub use questions::Asked;
-
+use crate::families::Marks;
 use crate::maker::Made;
+use crate::parts::{Part, Parts};
 use crate::random::Random;
 use crate::stations::shuffle;
 use crate::tree::{choice, int, one, truth, two, var, Tree};
@@ -22,25 +22,13 @@ struct Variable {
     symbol: Option<usize>,
 }
 
-/// A part of a block, around all that follows it.
-enum Part {
-    /// A `let` of this value.
-    Bind(Tree),
-    /// An `if` that goes on where its condition has this value. The other branch is given.
-    Choose(Tree, bool, Tree),
-    /// A `sym`, which changes nothing here.
-    Sym,
-}
-
 /// A block that is being made, and what its path knows so far.
 struct Block<'a> {
     random: &'a mut Random,
-    asked: &'a mut Asked,
+    asked: &'a mut Marks,
     variables: Vec<Variable>,
     cells: Cells,
-    parts: Vec<Part>,
-    /// How many nodes the parts have.
-    size: usize,
+    parts: Parts,
     /// The type of the block's value.
     want: u32,
     /// How many atoms the path's condition has.
@@ -70,8 +58,8 @@ type Begun = (u32, Origin);
 const ENOUGH: usize = 60;
 
 /// A script, and what it asks.
-pub fn script(random: &mut Random) -> (Made, Asked) {
-    let mut asked = Asked::default();
+pub fn script(random: &mut Random) -> (Made, Marks) {
+    let mut asked = Marks::default();
     let entries = entries(random);
     let mut begun: Vec<Begun> = entries.iter().map(|&code| (code, Origin::Entry)).collect();
     let mut outer = Vec::new();
@@ -109,7 +97,7 @@ fn entries(random: &mut Random) -> Vec<u32> {
 
 /// What a `let` around the block binds: an entry again, what a cell holds, another block's value, or
 /// a new cell.
-fn outer_value(random: &mut Random, asked: &mut Asked, begun: &[Begun]) -> (Tree, u32) {
+fn outer_value(random: &mut Random, asked: &mut Marks, begun: &[Begun]) -> (Tree, u32) {
     let all = 0..begun.len();
     let references: Vec<usize> = all.filter(|&i| begun[i].0 >= 2).collect();
     let variable = random.pick(&references);
@@ -127,7 +115,7 @@ fn outer_value(random: &mut Random, asked: &mut Asked, begun: &[Begun]) -> (Tree
 /// A symbolic block of some rounds in typed mode, and the type of its value.
 fn block(
     random: &mut Random,
-    asked: &mut Asked,
+    asked: &mut Marks,
     begun: &[Begun],
     syms: usize,
     (rounds, manner): (usize, Manner),
@@ -145,8 +133,7 @@ fn block(
         asked,
         variables,
         cells,
-        parts: Vec::new(),
-        size: 0,
+        parts: Parts::default(),
         want,
         atoms: 0,
         truths,
@@ -155,7 +142,7 @@ fn block(
     };
     for _ in 0..rounds {
         block.round();
-        if block.size > ENOUGH || block.atoms > 10 {
+        if block.parts.size() > ENOUGH || block.atoms > 10 {
             break;
         }
     }
@@ -180,13 +167,7 @@ impl Block<'_> {
     /// The parts around a last value.
     fn end(mut self) -> Tree {
         let last = self.last();
-        let around = |rest, part| match part {
-            Part::Bind(value) => two(LET, value, rest),
-            Part::Choose(condition, true, other) => choice(condition, rest, other),
-            Part::Choose(condition, false, other) => choice(condition, other, rest),
-            Part::Sym => one(SYM, rest),
-        };
-        self.parts.into_iter().rev().fold(last, around)
+        self.parts.around(last)
     }
 
     /// The block's value; in a crowded block after six forks.
@@ -200,23 +181,14 @@ impl Block<'_> {
         if self.manner.crowded && self.atoms <= 4 {
             for _ in 0..6 {
                 let fork = choice(self.atom(), int(1), int(2));
-                self.part(Part::Bind(fork));
+                self.parts.add(Part::Bind(fork));
             }
         }
         last
     }
 
-    fn part(&mut self, part: Part) {
-        self.size += match &part {
-            Part::Bind(value) => 1 + value.size(),
-            Part::Choose(condition, _, other) => 1 + condition.size() + other.size(),
-            Part::Sym => 1,
-        };
-        self.parts.push(part);
-    }
-
     fn bind(&mut self, value: Tree, code: u32, symbol: Option<usize>) {
-        self.part(Part::Bind(value));
+        self.parts.add(Part::Bind(value));
         self.variables.push(Variable { code, symbol });
     }
 

@@ -1,7 +1,8 @@
 //! A request: a check of a text, or a run of it on values and cells. A seed and a number make it.
 
 use crate::damage;
-use crate::fresh_cells::{self, Asked};
+use crate::families::Marks;
+use crate::fresh_cells;
 use crate::maker::{self, Made};
 use crate::random::Random;
 use crate::stations::{sharing, station, Station};
@@ -39,8 +40,8 @@ pub struct Request {
     pub text: Vec<u8>,
     /// What a run is given; none for a check.
     pub run: Option<Station>,
-    /// What a script about new cells asks; none for other texts.
-    pub asked: Option<Asked>,
+    /// What a script asks for, if it is of a family; nothing for other texts.
+    pub marks: Marks,
 }
 
 /// The node steps that a check may take at most, by the bound that counts every `if` as a fork.
@@ -63,8 +64,8 @@ pub fn request(seed: u64, number: u64) -> Request {
         (8, Source::Damaged),
         (3, Source::Garbage),
     ]);
-    let mut asked = None;
-    let text = text(&mut random, source, &mut asked);
+    let mut marks = Marks::default();
+    let text = text(&mut random, source, &mut marks);
     let run = random.chance(50).then(|| {
         let entries = entries_of(&text);
         if source == Source::Cells && random.chance(50) {
@@ -77,17 +78,17 @@ pub fn request(seed: u64, number: u64) -> Request {
         source,
         text,
         run,
-        asked,
+        marks,
     }
 }
 
-/// A text from this source, and what it asks if it is about new cells.
-fn text(random: &mut Random, source: Source, asked: &mut Option<Asked>) -> Vec<u8> {
+/// A text from this source, and what it asks for if it is of a family.
+fn text(random: &mut Random, source: Source, marks: &mut Marks) -> Vec<u8> {
     match source {
         Source::Cells => {
             let made = within_work(random, |random| {
-                let (made, questions) = fresh_cells::script(random);
-                *asked = Some(questions);
+                let (made, asked) = fresh_cells::script(random);
+                *marks = asked;
                 made
             });
             spelled(random, &made)

@@ -3,7 +3,8 @@
 //! checker that takes it gives another answer.
 
 use super::known::{Content, Origin, Rule, RULES};
-use super::{Block, Part};
+use super::Block;
+use crate::parts::Part;
 use crate::tree::{choice, int, one, truth, two, var, Tree};
 use crate::tree::{ADD, AND, EQ, GET, NOT, SET, TYPED};
 
@@ -23,28 +24,19 @@ pub enum Ask {
     NearOuterCells,
 }
 
-pub const ASKS: [(Ask, &str); 10] = [
-    (Ask::NewCell, "a new cell, past a variable's write"),
-    (Ask::Variable, "a variable's cell, past a new cell's write"),
-    (Ask::Equal, "`eq` of a new cell and a variable"),
-    (Ask::AtLimit, "that `eq` beside ten atoms"),
-    (Ask::OuterLet, "one of these with an outer `let`'s variable"),
-    (Ask::InnerBlock, "one of these inside a typed block"),
-    (Ask::NearRead, "nearly: a reference that `get` made"),
-    (Ask::NearBlock, "nearly: a typed block's value"),
-    (Ask::NearVariables, "nearly: two variables"),
-    (Ask::NearOuterCells, "nearly: two new cells around a block"),
+/// What each kind asks for; its place is the kind's number.
+pub const ASKS: [&str; 10] = [
+    "a new cell, past a variable's write",
+    "a variable's cell, past a new cell's write",
+    "`eq` of a new cell and a variable",
+    "that `eq` beside ten atoms",
+    "one of these with an outer `let`'s variable",
+    "one of these inside a typed block",
+    "nearly: a reference that `get` made",
+    "nearly: a typed block's value",
+    "nearly: two variables",
+    "nearly: two new cells around a block",
 ];
-
-/// What a script asks.
-#[derive(Clone, Copy, Default)]
-pub struct Asked([bool; ASKS.len()]);
-
-impl Asked {
-    pub fn has(&self, ask: Ask) -> bool {
-        self.0[ask as usize]
-    }
-}
 
 /// Which rules have another answer to a question than the right one.
 type Differs = [bool; RULES.len()];
@@ -134,8 +126,8 @@ impl Block<'_> {
         let (a, b, equal, differs) = self.random.weighted(&pairs);
         let others = self.other_atoms();
         self.mark(Ask::Equal, &differs);
-        self.asked.0[Ask::AtLimit as usize] |=
-            differs[Rule::NewOnly as usize] && self.atoms + others == 10;
+        let at_limit = differs[Rule::NewOnly as usize] && self.atoms + others == 10;
+        self.asked.add(Ask::AtLimit as usize, at_limit);
         self.choose_equal(two(EQ, var(a), var(b)), equal, others);
     }
 
@@ -180,7 +172,7 @@ impl Block<'_> {
             _ if self.manner.crowded => 0,
             0..=3 => 0,
             4..=6 => self.random.between(1, 3),
-            _ if self.size < 60 => {
+            _ if self.parts.size() < 60 => {
                 self.random
                     .pick(&[room.saturating_sub(1), room, room, room + 1])
             }
@@ -211,7 +203,7 @@ impl Block<'_> {
         } else {
             self.leaf(self.want)
         };
-        self.part(Part::Choose(condition, value, other));
+        self.parts.add(Part::Choose(condition, value, other));
     }
 
     /// A branch that is refused if a path takes it.
@@ -225,7 +217,7 @@ impl Block<'_> {
                 let content = self.misfit(self.variables[reference].code - 2);
                 two(SET, var(reference), content.tree())
             }
-            5 if self.size < 40 => {
+            5 if self.parts.size() < 40 => {
                 let before = (self.atoms, self.truths.clone());
                 let first = self.atom();
                 let many = self.all(first, 10);
@@ -249,7 +241,7 @@ impl Block<'_> {
             (Ask::NearOuterCells, by(Rule::OuterCells)),
         ];
         for (ask, marked) in marks {
-            self.asked.0[ask as usize] |= marked;
+            self.asked.add(ask as usize, marked);
         }
     }
 }

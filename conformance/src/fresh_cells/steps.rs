@@ -1,7 +1,8 @@
 //! What a block about new cells does before it asks: references of every origin, and writes.
 
 use super::known::{Content, Origin, Rule};
-use super::{block, Begun, Block, Manner, Part, Variable};
+use super::{block, Begun, Block, Manner, Variable};
+use crate::parts::Part;
 use crate::tree::{choice, int, one, two, var, Tree};
 use crate::tree::{GET, LET, REF, SET, TYPED};
 
@@ -28,7 +29,7 @@ impl Block<'_> {
             7 => self.bind(var(reference), code, Some(symbol)),
             8 if self.syms < 4 => {
                 self.syms += 1;
-                self.part(Part::Sym);
+                self.parts.add(Part::Sym);
             }
             9 | 10 if self.syms < 4 => {
                 self.new_cell();
