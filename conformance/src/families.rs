@@ -5,8 +5,10 @@ use crate::compare::Answered;
 use crate::counts::{refusals, show};
 use crate::fresh_cells;
 use crate::request::{Request, Source};
+use crate::scratch_cells;
 use crate::stations::Station;
-use reference::{Outcome, Script};
+use crate::tree::WORDS;
+use reference::{Outcome, Refusal, Script};
 use std::collections::BTreeMap;
 
 /// A family, and what has to come up in it.
@@ -17,13 +19,14 @@ pub struct Family {
     /// The answer by another rule, which is said after 'answered otherwise'. None if it is not known.
     pub other: fn(&Script) -> Option<Answer>,
     pub otherwise: &'static str,
-    /// The refusals that its scripts have to meet.
+    /// The refusals that its scripts have to meet, and the kinds of nodes where they have to meet 9.
     pub numbers: &'static [u8],
+    pub nines: &'static [u32],
     /// What its scripts ask for; each one's place is its number.
     pub marks: &'static [&'static str],
 }
 
-pub const FAMILIES: [&Family; 1] = [&fresh_cells::counts::FAMILY];
+pub const FAMILIES: [&Family; 2] = [&fresh_cells::counts::FAMILY, &scratch_cells::counts::FAMILY];
 
 /// What a script asks for, of its family's marks.
 #[derive(Clone, Copy, Default)]
@@ -54,6 +57,8 @@ pub struct FamilyCounts {
     requests: u64,
     accepted: u64,
     refusals: BTreeMap<u8, u64>,
+    /// Refusals with 9, by the kind of the node.
+    nines: BTreeMap<u32, u64>,
     marks: [u64; 32],
     /// Scripts with another answer by the other rule.
     hanging: u64,
@@ -75,6 +80,11 @@ impl FamilyCounts {
             Err(number) => *self.refusals.entry(number).or_default() += 1,
         }
         if let Ok(script) = reference::read(&request.text) {
+            if let Err(Refusal { number: 9, place }) = answered.check {
+                let node = place.expect("9 has a place");
+                let kind = script.nodes[node as usize].kind;
+                *self.nines.entry(kind).or_default() += 1;
+            }
             let other = (family.other)(&script);
             self.hanging += u64::from(other.is_some_and(|other| other != answer));
             if let (Ok(_), Some(Ok(Outcome::Value { .. })), Some(station)) =
@@ -106,6 +116,14 @@ impl FamilyCounts {
                 missing.push(format!("refusal {number} never came up"));
             }
         }
+        for &kind in family.nines {
+            if !self.nines.contains_key(&kind) {
+                missing.push(format!(
+                    "refusal 9 never came up at `{}`",
+                    WORDS[kind as usize].0
+                ));
+            }
+        }
         for (count, name) in self.marks.iter().zip(family.marks) {
             if *count == 0 {
                 missing.push(format!("never asked for: {name}"));
@@ -129,6 +147,12 @@ impl FamilyCounts {
         show(self.ended, "accepted and run to a value");
         show(self.shared, "of these with one cell for two entries");
         println!("  about {about}, checks {}", refusals(&self.refusals));
+        for (&kind, count) in &self.nines {
+            show(
+                *count,
+                &format!("refused with 9 at `{}`", WORDS[kind as usize].0),
+            );
+        }
         println!("  about {about}, scripts that ask for");
         for (count, name) in self.marks.iter().zip(family.marks) {
             show(*count, name);

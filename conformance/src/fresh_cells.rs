@@ -2,7 +2,7 @@
 //! them and through other references in turn, and asks what is still known of them.
 
 pub mod counts;
-mod known;
+pub mod known;
 mod questions;
 mod steps;
 

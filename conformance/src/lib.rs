@@ -27,6 +27,7 @@ pub mod parts;
 pub mod random;
 pub mod request;
 pub mod rewriting;
+pub mod scratch_cells;
 pub mod settings;
 pub mod spelling;
 pub mod stations;

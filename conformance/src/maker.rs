@@ -16,7 +16,7 @@ pub struct Scope {
     /// Truth variables whose value the path condition decides.
     pub known: Vec<(usize, bool)>,
     pub symbolic: bool,
-    /// A write of a wrong type waits to be mended, so no `get` and no `typed` may come.
+    /// A write of a wrong type waits to be mended, so no `typed` may come, and no `get` does here.
     pub pending: bool,
     /// How many `sym` are around, and how many of them are entered from typed mode.
     pub syms: usize,

@@ -5,6 +5,7 @@ use crate::families::Marks;
 use crate::fresh_cells;
 use crate::maker::{self, Made};
 use crate::random::Random;
+use crate::scratch_cells;
 use crate::stations::{sharing, station, Station};
 use crate::tree::{self, Tree};
 use crate::wide::wide_script;
@@ -14,6 +15,7 @@ use crate::wide::wide_script;
 pub enum Source {
     Made,
     Cells,
+    Scratch,
     Wide,
     Changed,
     Loose,
@@ -23,9 +25,10 @@ pub enum Source {
     Garbage,
 }
 
-pub const SOURCES: [(Source, &str); 9] = [
+pub const SOURCES: [(Source, &str); 10] = [
     (Source::Made, "made by types"),
     (Source::Cells, "new cells beside old ones"),
+    (Source::Scratch, "scratch cells"),
     (Source::Wide, "many forks and atoms"),
     (Source::Changed, "made by types, then changed"),
     (Source::Loose, "random trees"),
@@ -54,8 +57,9 @@ const LONG_WORK: u64 = 1_000_000;
 pub fn request(seed: u64, number: u64) -> Request {
     let mut random = Random::new(seed, number);
     let source = random.weighted(&[
-        (41, Source::Made),
+        (28, Source::Made),
         (13, Source::Cells),
+        (13, Source::Scratch),
         (9, Source::Wide),
         (14, Source::Changed),
         (5, Source::Loose),
@@ -68,7 +72,8 @@ pub fn request(seed: u64, number: u64) -> Request {
     let text = text(&mut random, source, &mut marks);
     let run = random.chance(50).then(|| {
         let entries = entries_of(&text);
-        if source == Source::Cells && random.chance(50) {
+        let family = matches!(source, Source::Cells | Source::Scratch);
+        if family && random.chance(50) {
             sharing(&mut random, &entries)
         } else {
             station(&mut random, &entries)
@@ -85,9 +90,13 @@ pub fn request(seed: u64, number: u64) -> Request {
 /// A text from this source, and what it asks for if it is of a family.
 fn text(random: &mut Random, source: Source, marks: &mut Marks) -> Vec<u8> {
     match source {
-        Source::Cells => {
+        Source::Cells | Source::Scratch => {
+            let script = match source {
+                Source::Cells => fresh_cells::script,
+                _ => scratch_cells::script,
+            };
             let made = within_work(random, |random| {
-                let (made, asked) = fresh_cells::script(random);
+                let (made, asked) = script(random);
                 *marks = asked;
                 made
             });

@@ -112,9 +112,14 @@ pub fn fitting(random: &mut Random, entries: &[u32], types: &[u32]) -> Station {
     }
 }
 
-/// Cells and entry values that a typing fits, with so few cells that entries of one type share one.
+/// A random typing with so few cells that entries of one type share one.
+pub fn narrow_typing(random: &mut Random, entries: &[u32]) -> Vec<u32> {
+    typing_of(random, entries, true, 0)
+}
+
+/// Cells and entry values that such a typing fits.
 pub fn sharing(random: &mut Random, entries: &[u32]) -> Station {
-    let types = typing_of(random, entries, true, 0);
+    let types = narrow_typing(random, entries);
     fitting(random, entries, &types)
 }
 

@@ -4,15 +4,18 @@
 use conformance::compare::{show_station, show_text};
 use conformance::library;
 use conformance::random::Random;
-use conformance::request::{entries_of, request};
+use conformance::request::{entries_of, request, Request, Source};
 use conformance::settings;
-use conformance::stations::{fitting, typing, Station};
+use conformance::stations::{fitting, narrow_typing, typing, Station};
 use conformance::tree::type_name;
 use conformance::typings::{extension, fits, type_of};
 use reference::Outcome;
 
 /// Tells the stream of the cells from that of the script.
 const CELLS: u64 = 0x6365_6c6c_7300;
+
+/// From so many runs on, those about scratch cells have to be frequent.
+const ENOUGH: u64 = 10_000;
 
 /// Runs in which something happened to the cells.
 #[derive(Default)]
@@ -22,6 +25,8 @@ struct Seen {
     stored: u64,
     added: u64,
     locations: u64,
+    /// Scripts about scratch cells.
+    scratch: u64,
 }
 
 #[test]
@@ -44,23 +49,32 @@ fn accepted_scripts_end_with_a_value_of_their_type() {
         "  {} runs of {number} scripts: {} with used cells, {} changed one, {} added one, {} gave a location",
         seen.runs, seen.with_cells, seen.stored, seen.added, seen.locations
     );
+    println!("  {} of them about scratch cells", seen.scratch);
+    let enough = seen.runs < ENOUGH || seen.scratch * 20 >= seen.runs;
+    assert!(enough, "less than a twentieth about scratch cells");
 }
 
 /// Runs the script of a request once, if it is accepted.
 fn try_script(seed: u64, number: u64, seen: &mut Seen) -> Result<(), String> {
-    let text = request(seed, number).text;
+    let Request { text, source, .. } = request(seed, number);
     let Ok(code) = library::check(&text) else {
         return Ok(());
     };
     let mut random = Random::new(seed ^ CELLS, number);
     let entries = entries_of(&text);
-    let types = typing(&mut random, &entries);
+    let scratch = source == Source::Scratch;
+    let types = if scratch && random.chance(50) {
+        narrow_typing(&mut random, &entries)
+    } else {
+        typing(&mut random, &entries)
+    };
     let station = fitting(&mut random, &entries, &types);
     let used = 5 * types.len();
     assert!(types.len() <= 64 && fits(&types, &station.cells[..used]));
     let mut cells = station.cells.clone();
     let outcome = library::run(&text, &station.values, &mut cells, station.used);
     seen.runs += 1;
+    seen.scratch += u64::from(scratch);
     seen.with_cells += u64::from(!types.is_empty());
     seen.stored += u64::from(cells[..used] != station.cells[..used]);
     let report = |what: String| {

@@ -4,7 +4,7 @@ use super::questions::ASKS;
 use crate::families::{answer, Answer, Family};
 use crate::request::{tree_of_script, Source};
 use crate::rewriting::Rewriting;
-use crate::tree::{self, one, two, var, Tree, LET, SYM, TYPED, VAR};
+use crate::tree::{self, one, two, var, Tree, GET, LET, SYM, TYPED, VAR};
 use reference::Script;
 
 pub const FAMILY: Family = Family {
@@ -13,6 +13,7 @@ pub const FAMILY: Family = Family {
     other: answer_if_the_same,
     otherwise: "if they may be the same",
     numbers: &[6, 7, 9, 10, 11, 12],
+    nines: &[GET, SYM],
     marks: &ASKS,
 };
 

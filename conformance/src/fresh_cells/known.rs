@@ -53,7 +53,7 @@ pub const RULES: [Rule; 7] = [
 
 impl Rule {
     /// Whether two different symbols are certainly different cells.
-    fn apart(self, a: Origin, b: Origin) -> bool {
+    pub fn apart(self, a: Origin, b: Origin) -> bool {
         match (a, b) {
             (Origin::New, old) | (old, Origin::New) => self.never_new(old),
             (Origin::Read | Origin::Block, _) | (_, Origin::Read | Origin::Block) => false,

@@ -39,9 +39,14 @@ impl Block<'_> {
         }
     }
 
-    /// Binds what is read from some cell, rather from one with a reference in it.
+    /// Binds what is read from some cell.
     fn read(&mut self) {
-        let mut cells = self.references();
+        let cells = self.references();
+        self.read_one_of(cells);
+    }
+
+    /// Binds what is read from one of these cells, rather from one with a reference in it.
+    fn read_one_of(&mut self, mut cells: Vec<(usize, usize)>) {
         if cells.iter().any(|cell| self.variables[cell.0].code >= 4) {
             cells.retain(|cell| self.variables[cell.0].code >= 4);
         }
@@ -113,11 +118,15 @@ impl Block<'_> {
         }
     }
 
-    /// Reads while a write of a wrong type waits to be mended.
+    /// Reads a cell of which nothing is known while a write of a wrong type waits to be mended.
     pub fn look_too_early(&mut self) {
         if let Some((reference, content)) = self.some_write() {
             self.misfit_stored(reference);
-            self.read();
+            let mut cells = self.references();
+            cells.retain(|cell| self.cells.known(Rule::Right, cell.1).is_none());
+            if !cells.is_empty() {
+                self.read_one_of(cells);
+            }
             let write = two(SET, var(reference), content.tree());
             self.stored(write, reference, content);
         }
