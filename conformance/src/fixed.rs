@@ -35,6 +35,12 @@ pub fn refused_whole(number: u8) -> Checked {
     Err(Refusal { number, place })
 }
 
+/// A name, entry types, an expression, and the answer to a check of it.
+pub type Row<'a> = (&'a str, &'a str, &'a str, &'a str);
+
+/// Entry values or cells.
+pub type Cells<'a> = &'a [[u8; 5]];
+
 /// Collects what went wrong, so that a test shows all of it.
 #[derive(Default)]
 pub struct Trial {
@@ -56,7 +62,7 @@ impl Trial {
 
     /// A row of a table: a name, entry types, an expression, and the type that is reported or the
     /// number of the refusal at the marked node.
-    pub fn expressions(&mut self, rows: &[(&str, &str, &str, &str)]) {
+    pub fn expressions(&mut self, rows: &[Row]) {
         for (name, entries, expression, answer) in rows {
             let script = spelled(entries, expression);
             let expected = match answer.parse() {
@@ -64,6 +70,15 @@ impl Trial {
                 Err(_) => accepted(answer),
             };
             self.check(name, &script.text, expected);
+        }
+    }
+
+    /// Rows of this kind, each with entry values and used cells, and what a run of the script gives.
+    pub fn runs(&mut self, rows: &[(Row, Cells, Cells, Ran)]) {
+        for (row, values, cells, expected) in rows {
+            self.expressions(&[*row]);
+            let script = spelled(row.1, row.2);
+            self.run(row.0, &script.text, &station(values, cells), expected);
         }
     }
 

@@ -1,8 +1,7 @@
 //! Fixed scripts for new cells beside old ones: a cell that `ref` made on a path is none that a
 //! variable stood for when the path began. What `get` or a typed block gave may be any cell.
 
-use conformance::fixed::{gives, location, station, word, Trial};
-use conformance::spelling::spelled;
+use conformance::fixed::{gives, location, word, Trial};
 
 #[test]
 #[rustfmt::skip] // one case a line
@@ -148,16 +147,12 @@ fn runs() {
     let mut trial = Trial::new();
     let one = [location(0)];
     let same = [location(0), location(0)];
-    let rows = [
-        ("a new cell keeps its value", "ri", "(sym (let (ref 1) (let (set v1 5) (let (set v0 6) (get v1)))))", &one[..], gives(word(5), &[word(6), word(5)])),
-        ("an entry's cell keeps its value", "ri", "(sym (let (set v0 5) (let (ref 6) (get v0))))", &one[..], gives(word(5), &[word(5), word(6)])),
-        ("two entries are one cell", "ri ri", "(sym (let (set v0 5) (let (ref 6) (let (set v1 7) (get v0)))))", &same[..], gives(word(7), &[word(7), word(6)])),
-        ("a typed block's value is the new cell", "ri", "(sym (let (ref 1) (let (typed v1) (let (set v1 5) (let (set v2 6) (get v1))))))", &one[..], gives(word(6), &[word(9), word(6)])),
-    ];
-    for (name, entries, expression, values, expected) in &rows {
-        let script = spelled(entries, expression);
-        trial.expressions(&[(name, entries, expression, "i")]);
-        trial.run(name, &script.text, &station(values, &[word(9)]), expected);
-    }
+    let cells = [word(9)];
+    trial.runs(&[
+        (("a new cell keeps its value", "ri", "(sym (let (ref 1) (let (set v1 5) (let (set v0 6) (get v1)))))", "i"), &one, &cells, gives(word(5), &[word(6), word(5)])),
+        (("an entry's cell keeps its value", "ri", "(sym (let (set v0 5) (let (ref 6) (get v0))))", "i"), &one, &cells, gives(word(5), &[word(5), word(6)])),
+        (("two entries are one cell", "ri ri", "(sym (let (set v0 5) (let (ref 6) (let (set v1 7) (get v0)))))", "i"), &same, &cells, gives(word(7), &[word(7), word(6)])),
+        (("a typed block's value is the new cell", "ri", "(sym (let (ref 1) (let (typed v1) (let (set v1 5) (let (set v2 6) (get v1))))))", "i"), &one, &cells, gives(word(6), &[word(9), word(6)])),
+    ]);
     trial.end("runs with new cells");
 }

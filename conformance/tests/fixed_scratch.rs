@@ -1,8 +1,7 @@
 //! Fixed scripts for scratch cells: `get` gives what was written through the same symbol, with its own
 //! type, also while a cell holds something wrong. Where it finds nothing, that is 9 as before.
 
-use conformance::fixed::{fails, gives, location, station, truth, word, Trial};
-use conformance::spelling::spelled;
+use conformance::fixed::{fails, gives, location, truth, word, Trial};
 
 #[test]
 #[rustfmt::skip] // one case a line
@@ -201,22 +200,18 @@ fn runs() {
     let one = [location(0)];
     let same = [location(0), location(0)];
     let no = [location(0), truth(0)];
-    let rows = [
-        ("flag in, look, word back", "ri", "(sym (let (set v0 true) (let (get v0) (set v0 7))))", "i", &one[..], gives(word(7), &[word(7)])),
-        ("a flag as the block's value", "ri", "(sym (let (set v0 true) (let (get v0) (let (set v0 7) v2))))", "b", &one[..], gives(truth(1), &[word(7)])),
-        ("an entry as flag", "ri b", "(sym (let (set v0 v1) (let (if (get v0) 1 2) (let (set v0 7) v3))))", "i", &no[..], gives(word(2), &[word(7)])),
-        ("the word that was there", "ri", "(sym (let (get v0) (let (set v0 true) (let (get v0) (set v0 v1)))))", "i", &one[..], gives(word(9), &[word(9)])),
-        ("two entries are one cell", "ri ri", "(sym (let (set v0 true) (let (set v1 3) (let (set v0 false) (let (if (get v0) true 1) (set v0 4))))))", "i", &same[..], gives(word(4), &[word(4)])),
-        ("a store through a reference", "ri", "(sym (let (ref true) (let (set v0 v1) (let (set (get v0) false) (let (if (get v1) true 1) (let (set v0 7) v4))))))", "i", &one[..], gives(word(1), &[word(7), truth(0)])),
-        ("its own reference", "ri", "(sym (let (set v0 v0) (let (if (eq (get v0) v0) 1 true) (let (set (get v0) 7) (add v2 1)))))", "i", &one[..], gives(word(2), &[word(7)])),
-        ("a new cell of it", "ri", "(sym (let (set v0 true) (let (ref (get v0)) (let (set v0 7) (get v2)))))", "b", &one[..], gives(truth(1), &[word(7), truth(1)])),
-        ("why a look through another symbol is refused", "ri ri", "(sym (let (set v0 true) (let (add (!get v1) 1) (set v0 7))))", "9", &same[..], fails(6, &[truth(1)])),
-        ("why an alias between is refused", "ri ri", "(sym (let (set v0 true) (let (set v1 3) (let (not (!get v0)) (set v0 7)))))", "9", &same[..], fails(8, &[word(3)])),
-    ];
-    for (name, entries, expression, answer, values, expected) in &rows {
-        let script = spelled(entries, expression);
-        trial.expressions(&[(name, entries, expression, answer)]);
-        trial.run(name, &script.text, &station(values, &[word(9)]), expected);
-    }
+    let cells = [word(9)];
+    trial.runs(&[
+        (("flag in, look, word back", "ri", "(sym (let (set v0 true) (let (get v0) (set v0 7))))", "i"), &one, &cells, gives(word(7), &[word(7)])),
+        (("a flag as the block's value", "ri", "(sym (let (set v0 true) (let (get v0) (let (set v0 7) v2))))", "b"), &one, &cells, gives(truth(1), &[word(7)])),
+        (("an entry as flag", "ri b", "(sym (let (set v0 v1) (let (if (get v0) 1 2) (let (set v0 7) v3))))", "i"), &no, &cells, gives(word(2), &[word(7)])),
+        (("the word that was there", "ri", "(sym (let (get v0) (let (set v0 true) (let (get v0) (set v0 v1)))))", "i"), &one, &cells, gives(word(9), &[word(9)])),
+        (("two entries are one cell", "ri ri", "(sym (let (set v0 true) (let (set v1 3) (let (set v0 false) (let (if (get v0) true 1) (set v0 4))))))", "i"), &same, &cells, gives(word(4), &[word(4)])),
+        (("a store through a reference", "ri", "(sym (let (ref true) (let (set v0 v1) (let (set (get v0) false) (let (if (get v1) true 1) (let (set v0 7) v4))))))", "i"), &one, &cells, gives(word(1), &[word(7), truth(0)])),
+        (("its own reference", "ri", "(sym (let (set v0 v0) (let (if (eq (get v0) v0) 1 true) (let (set (get v0) 7) (add v2 1)))))", "i"), &one, &cells, gives(word(2), &[word(7)])),
+        (("a new cell of it", "ri", "(sym (let (set v0 true) (let (ref (get v0)) (let (set v0 7) (get v2)))))", "b"), &one, &cells, gives(truth(1), &[word(7), truth(1)])),
+        (("why a look through another symbol is refused", "ri ri", "(sym (let (set v0 true) (let (add (!get v1) 1) (set v0 7))))", "9"), &same, &cells, fails(6, &[truth(1)])),
+        (("why an alias between is refused", "ri ri", "(sym (let (set v0 true) (let (set v1 3) (let (not (!get v0)) (set v0 7)))))", "9"), &same, &cells, fails(8, &[word(3)])),
+    ]);
     trial.end("runs with scratch cells");
 }
