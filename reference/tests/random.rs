@@ -231,35 +231,48 @@ fn reading_back(random: &mut Random) -> Script {
     let word = maker.push(11, [cell, 0, 0]);
     let other = maker.leaf(0, &types);
     let condition = maker.push(5, [word, other, 0]);
-    let one = maker.push(0, [1, 0, 0]);
-    let truth = maker.push(1, [0; 3]);
-    let mut body = maker.push(8, [condition, one, truth]);
-    for first in bound.into_iter().rev() {
-        body = maker.push(9, [first, body, 0]);
+    maker.asking(entries, bound, condition)
+}
+
+/// Checks 40,000 scripts and runs those that are accepted; the others have one of these refusals.
+/// Gives how many are accepted.
+fn try_many(seed: u64, make: fn(&mut Random) -> Script, numbers: &[u8]) -> u32 {
+    let mut random = Random(seed);
+    let mut accepted = 0;
+    for _ in 0..40_000 {
+        let script = make(&mut random);
+        match check(&script) {
+            Ok(code) => {
+                accepted += 1;
+                run_accepted(&mut random, &script, code);
+            }
+            Err(refusal) => assert!(numbers.contains(&refusal.number), "{refusal:?}"),
+        }
     }
-    maker.push(14, [body, 0, 0]);
-    let nodes = maker.nodes;
-    Script { entries, nodes }
+    accepted
 }
 
 #[test]
 fn words_read_back_are_known_rightly() {
-    let mut random = Random(0x0F1E_2D3C_4B5A_6978);
-    let mut known = 0;
-    for _ in 0..40_000 {
-        let script = reading_back(&mut random);
-        match check(&script) {
-            Ok(code) => {
-                known += 1;
-                run_accepted(&mut random, &script, code);
-            }
-            Err(refusal) => assert_eq!(refusal.number, 10),
-        }
-    }
+    let known = try_many(0x0F1E_2D3C_4B5A_6978, reading_back, &[10]);
     assert!((15_000..30_000).contains(&known), "{known}");
 }
 
 impl Maker<'_> {
+    /// The script that binds these nodes in turn in a symbolic block, and ends with an `if` on a
+    /// condition, with branches of two types.
+    fn asking(mut self, entries: Vec<u32>, bound: Vec<u32>, condition: u32) -> Script {
+        let one = self.push(0, [1, 0, 0]);
+        let truth = self.push(1, [0; 3]);
+        let mut body = self.push(8, [condition, one, truth]);
+        for first in bound.into_iter().rev() {
+            body = self.push(9, [first, body, 0]);
+        }
+        self.push(14, [body, 0, 0]);
+        let nodes = self.nodes;
+        Script { entries, nodes }
+    }
+
     /// A step that stores a leaf of a type through a variable.
     fn store(&mut self, cell: usize, code: u32, types: &[u32]) -> (u32, u32) {
         let through = self.push(3, [cell as u32, 0, 0]);
@@ -316,31 +329,12 @@ fn scratch_cells(random: &mut Random) -> Script {
         }
     }
     let condition = maker.leaf(1, &types);
-    let one = maker.push(0, [1, 0, 0]);
-    let truth = maker.push(1, [0; 3]);
-    let mut body = maker.push(8, [condition, one, truth]);
-    for first in bound.into_iter().rev() {
-        body = maker.push(9, [first, body, 0]);
-    }
-    maker.push(14, [body, 0, 0]);
-    let nodes = maker.nodes;
-    Script { entries, nodes }
+    maker.asking(entries, bound, condition)
 }
 
 #[test]
 fn scratch_cells_end_with_their_types() {
-    let mut random = Random(0x1122_3344_5566_7788);
-    let mut accepted = 0;
-    for _ in 0..40_000 {
-        let script = scratch_cells(&mut random);
-        match check(&script) {
-            Ok(code) => {
-                accepted += 1;
-                run_accepted(&mut random, &script, code);
-            }
-            Err(refusal) => assert!([6, 9, 10].contains(&refusal.number), "{refusal:?}"),
-        }
-    }
+    let accepted = try_many(0x1122_3344_5566_7788, scratch_cells, &[6, 9, 10]);
     assert!((10_000..20_000).contains(&accepted), "{accepted}");
 }
 

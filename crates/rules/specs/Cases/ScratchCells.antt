@@ -1,5 +1,5 @@
--- Rows that tell what `get` finds from what it doesn't while a cell holds a value of a wrong type (docs/CHECKS.md, 'The log'): what is found has its own type and
--- needs no consistent log, all else does. Proved together by computation. Assumes nothing.
+-- Rows that tell what `get` finds from what it doesn't while a cell holds a value of a wrong type (docs/CHECKS.md, 'Nodes on a path'): what is found has its
+-- own type and needs no consistent log, all else does. Proved together by computation. Assumes nothing.
 use mathlib.Core.Path.{_≡_, refl}
 use mathlib.Core.List.{List, [], _∷_, _++_, map}
 use lib.ListN.{replicate}

@@ -10,8 +10,8 @@ use lib.Seq.{getD-set-same, getD-set-other}
 use borrow.Author.Tests.{le-leb, lt-leb, lt-ltb, le-ltb}
 use Rattle.script.specs.Limits.{typeLimit, nodeLimit}
 use Rattle.script.specs.Rows.{unaryForm, binaryForm, refOp, getOp, setOp}
-use Rattle.script.specs.declared.Refusal.the-variants.{WrongType, TooManyReferences, InconsistentLog}
 use Rattle.script.specs.Tests.{pick}
+use Rattle.script.specs.declared.Refusal.the-variants.{WrongType, TooManyReferences, InconsistentLog}
 use Rattle.rules.specs.Paths.{Path, ends, stops, taken, forget, consistent, lookup, fresh}
 use Rattle.rules.specs.Symbolic.{Sum, Formula, made, Symbolic, aWord, aTruth, aReference, symbol, other}
 use Rattle.rules.specs.SymbolicRules.{got, unaryExec, binaryExec, typedResult}
