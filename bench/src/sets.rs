@@ -148,8 +148,8 @@ fn six_forks(atoms: &[String]) -> String {
 /// A cell counted up; one read again and again after many wrong writes and a right one; and one read
 /// past the writes of many new cells.
 fn many_reads() -> Vec<Input> {
-    let bound = |values: &str, count: usize, rest: &str| {
-        format!("(let {values} ").repeat(count) + rest + &")".repeat(count)
+    let bound = |value: &str, count: usize, rest: &str| {
+        format!("(let {value} ").repeat(count) + rest + &")".repeat(count)
     };
     let reads = "(add (get v0) ".repeat(18) + "1" + &")".repeat(18);
     let mended = format!("(let (set v0 1) {reads})");

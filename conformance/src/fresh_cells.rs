@@ -2,18 +2,17 @@
 //! them and through other references in turn, and asks what is still known of them.
 
 pub mod counts;
-pub mod known;
 mod questions;
 mod steps;
 
 use crate::families::Marks;
+use crate::known::{Content, Log, Origin};
 use crate::maker::Made;
 use crate::parts::{Part, Parts};
 use crate::random::Random;
 use crate::stations::shuffle;
 use crate::tree::{choice, int, one, truth, two, var, Tree};
 use crate::tree::{GET, LET, REF, SYM};
-use known::{Cells, Content, Origin};
 
 /// A variable: its type, and its symbol if it is a reference.
 #[derive(Clone, Copy)]
@@ -27,7 +26,7 @@ struct Block<'a> {
     random: &'a mut Random,
     asked: &'a mut Marks,
     variables: Vec<Variable>,
-    cells: Cells,
+    cells: Log<Content>,
     parts: Parts,
     /// The type of the block's value.
     want: u32,
@@ -120,7 +119,7 @@ fn block(
     syms: usize,
     (rounds, manner): (usize, Manner),
 ) -> (Tree, u32) {
-    let mut cells = Cells::default();
+    let mut cells = Log::default();
     let variables = begun.iter().map(|&(code, origin)| Variable {
         code,
         symbol: (code >= 2).then(|| cells.add(origin)),

@@ -21,6 +21,7 @@ pub mod damage;
 pub mod families;
 pub mod fixed;
 pub mod fresh_cells;
+pub mod known;
 pub mod library;
 pub mod maker;
 pub mod parts;

@@ -8,7 +8,7 @@ mod looks;
 mod steps;
 
 use crate::families::Marks;
-use crate::fresh_cells::known::{Content, Origin};
+use crate::known::{Content, Origin};
 use crate::maker::{Made, OPEN};
 use crate::parts::{Part, Parts};
 use crate::random::Random;

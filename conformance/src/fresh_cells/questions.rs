@@ -2,8 +2,8 @@
 //! the same. A branch that no path takes by the right rule is mostly wrong in some way, so that a
 //! checker that takes it gives another answer.
 
-use super::known::{Content, Origin, Rule, RULES};
 use super::Block;
+use crate::known::{Content, Origin, Rule, RULES};
 use crate::parts::Part;
 use crate::tree::{choice, int, one, truth, two, var, Tree};
 use crate::tree::{ADD, AND, EQ, GET, NOT, SET, TYPED};
@@ -64,7 +64,7 @@ impl Block<'_> {
 
     /// Whether a cell holds what some rule knows of it.
     fn ask_content(&mut self) {
-        let known = |rule: Rule, symbol: usize| self.cells.known(rule, symbol);
+        let known = |rule: Rule, symbol: usize| self.cells.found(rule, symbol);
         let mut cells = Vec::new();
         for (reference, symbol) in self.references() {
             let right = known(Rule::Right, symbol);
@@ -77,7 +77,7 @@ impl Block<'_> {
             return;
         }
         let (reference, symbol, content, differs) = self.random.weighted(&cells);
-        let decided = self.cells.known(Rule::Right, symbol).is_some();
+        let decided = self.cells.found(Rule::Right, symbol).is_some();
         let ask = match self.cells.origin(symbol) {
             Origin::New => Ask::NewCell,
             _ => Ask::Variable,

@@ -1,7 +1,7 @@
 //! What a block about new cells does before it asks: references of every origin, and writes.
 
-use super::known::{Content, Origin, Rule};
 use super::{block, Begun, Block, Manner, Variable};
+use crate::known::{Content, Origin, Rule};
 use crate::parts::Part;
 use crate::tree::{choice, int, one, two, var, Tree};
 use crate::tree::{GET, LET, REF, SET, TYPED};
@@ -52,7 +52,7 @@ impl Block<'_> {
         }
         let (reference, symbol) = self.random.pick(&cells);
         let code = self.variables[reference].code - 2;
-        let symbol = match self.cells.known(Rule::Right, symbol) {
+        let symbol = match self.cells.found(Rule::Right, symbol) {
             Some(Content::Variable(index)) => self.variables[index].symbol,
             None if code >= 2 => Some(self.cells.add(Origin::Read)),
             _ => None,
@@ -123,7 +123,7 @@ impl Block<'_> {
         if let Some((reference, content)) = self.some_write() {
             self.misfit_stored(reference);
             let mut cells = self.references();
-            cells.retain(|cell| self.cells.known(Rule::Right, cell.1).is_none());
+            cells.retain(|cell| self.cells.found(Rule::Right, cell.1).is_none());
             if !cells.is_empty() {
                 self.read_one_of(cells);
             }

@@ -3,7 +3,7 @@
 use super::log::Value;
 use super::looks::Mark;
 use super::Block;
-use crate::fresh_cells::known::Origin;
+use crate::known::Origin;
 use crate::maker::OPEN;
 use crate::parts::Part;
 use crate::tree::{choice, int, one, two, var, Tree};
@@ -99,7 +99,7 @@ impl Block<'_> {
     /// Looks through a reference for which nothing is found.
     fn look_elsewhere(&mut self) -> Option<()> {
         let mut cells = self.references();
-        cells.retain(|cell| self.log.found(cell.1).is_none());
+        cells.retain(|cell| self.log.seen(cell.1).is_none());
         let (reference, _) = self.some(&cells)?;
         self.mark(Mark::NothingFound, true);
         self.refused_look(reference);
@@ -133,7 +133,7 @@ impl Block<'_> {
     fn look_past_alias(&mut self) -> Option<()> {
         let found = |block: &Self, reference: usize| {
             let symbol = block.variables[reference].symbol;
-            symbol.is_some_and(|symbol| block.log.found(symbol).is_some())
+            symbol.is_some_and(|symbol| block.log.seen(symbol).is_some())
         };
         let (reference, alias) = self.aliases(found)?;
         if self.random.chance(40) {

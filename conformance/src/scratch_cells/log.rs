@@ -1,7 +1,7 @@
-//! What the maker of a block knows of its path: each value's own type, where each symbol comes from,
-//! and the log of writes.
+//! What the maker of a block about scratch cells knows of its path: each value's own type, and which
+//! writes are of a wrong type.
 
-use crate::fresh_cells::known::{Content, Origin, Rule};
+use crate::known::{self, Content, Rule};
 
 /// A value on a path.
 #[derive(Clone, Copy)]
@@ -25,80 +25,48 @@ impl Value {
     }
 }
 
-/// A write: the symbol, the type of its cell, and what was stored.
-struct Write {
-    symbol: usize,
+/// A write: the type of the cell, and what was stored.
+#[derive(Clone, Copy)]
+pub struct Write {
     cell: u32,
     value: Value,
 }
 
-impl Write {
-    fn is_wrong(&self) -> bool {
-        self.value.code != self.cell
-    }
-}
-
 /// The symbols of a path, and its log.
-#[derive(Default)]
-pub struct Log {
-    origins: Vec<Origin>,
-    writes: Vec<Write>,
-}
+pub type Log = known::Log<Write>;
 
 impl Log {
-    /// A symbol that nothing was stored through.
-    pub fn add(&mut self, origin: Origin) -> usize {
-        self.origins.push(origin);
-        self.origins.len() - 1
-    }
-
-    pub fn origin(&self, symbol: usize) -> Origin {
-        self.origins[symbol]
-    }
-
-    pub fn store(&mut self, symbol: usize, cell: u32, value: Value) {
-        self.writes.push(Write {
-            symbol,
-            cell,
-            value,
-        });
-    }
-
-    /// A typed block empties the log.
-    pub fn forget(&mut self) {
-        self.writes.clear();
+    /// Stores a value in a cell of this type.
+    pub fn put(&mut self, symbol: usize, cell: u32, value: Value) {
+        self.store(symbol, Write { cell, value });
     }
 
     /// Whether two symbols are possibly, but not certainly, the same cell.
     pub fn may_be_one(&self, a: usize, b: usize) -> bool {
-        a != b && !Rule::Right.apart(self.origins[a], self.origins[b])
+        a != b && !self.apart(Rule::Right, a, b)
     }
 
-    /// What a look finds.
-    pub fn found(&self, symbol: usize) -> Option<Value> {
-        let mut newest = self.writes.iter().rev();
-        let next =
-            newest.find(|write| write.symbol == symbol || self.may_be_one(write.symbol, symbol));
-        next.filter(|write| write.symbol == symbol)
-            .map(|write| write.value)
+    /// What a look gives.
+    pub fn seen(&self, symbol: usize) -> Option<Value> {
+        self.found(Rule::Right, symbol).map(|write| write.value)
     }
 
     /// Whether the newest write is through another symbol.
     pub fn newest_is_other(&self, symbol: usize) -> bool {
-        let newest = self.writes.last();
-        newest.is_some_and(|write| write.symbol != symbol)
+        let newest = self.newest().next();
+        newest.is_some_and(|(through, _)| through != symbol)
     }
 
     /// Whether the newest two writes through the symbol are of wrong types.
     pub fn wrong_twice(&self, symbol: usize) -> bool {
-        let mut own = self.through(symbol);
-        own.next().is_some_and(Write::is_wrong) && own.next().is_some_and(Write::is_wrong)
+        let mut own = self.are_wrong(symbol);
+        own.next() == Some(true) && own.next() == Some(true)
     }
 
     /// The symbols whose newest write is of a wrong type. The log is consistent if there are none.
     pub fn wrong(&self) -> Vec<usize> {
-        let all = 0..self.origins.len();
-        all.filter(|&symbol| self.through(symbol).next().is_some_and(Write::is_wrong))
+        let all = self.symbols();
+        all.filter(|&symbol| self.are_wrong(symbol).next() == Some(true))
             .collect()
     }
 
@@ -106,9 +74,9 @@ impl Log {
         self.wrong().is_empty()
     }
 
-    /// The writes through a symbol, the newest first.
-    fn through(&self, symbol: usize) -> impl Iterator<Item = &Write> {
-        let newest = self.writes.iter().rev();
-        newest.filter(move |write| write.symbol == symbol)
+    /// Of each write through a symbol, the newest first, whether it is of a wrong type.
+    fn are_wrong(&self, symbol: usize) -> impl Iterator<Item = bool> + '_ {
+        let own = self.newest().filter(move |&(through, _)| through == symbol);
+        own.map(|(_, write)| write.value.code != write.cell)
     }
 }

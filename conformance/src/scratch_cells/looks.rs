@@ -2,7 +2,7 @@
 
 use super::log::Value;
 use super::Block;
-use crate::fresh_cells::known::{Content, Origin};
+use crate::known::{Content, Origin};
 use crate::parts::Part;
 use crate::tree::{int, one, two, var, Tree};
 use crate::tree::{ADD, EQ, GET, NOT, SET};
@@ -72,7 +72,7 @@ impl Block<'_> {
     pub fn look(&mut self) -> Option<Look> {
         let mut looks = Vec::new();
         for (reference, symbol) in self.references() {
-            if let Some(value) = self.log.found(symbol) {
+            if let Some(value) = self.log.seen(symbol) {
                 let wrong = value.code != self.cell(reference);
                 looks.push((if wrong { 5 } else { 1 }, Look { reference, value }));
             }
@@ -220,10 +220,10 @@ impl Block<'_> {
         match self.random.below(3) {
             0 if has_right => {
                 let stored = self.right(cell);
-                self.log.store(symbol, cell, stored);
+                self.log.put(symbol, cell, stored);
                 self.bind(two(SET, tree, stored.content.tree()), stored);
             }
-            1 => match self.log.found(symbol) {
+            1 => match self.log.seen(symbol) {
                 Some(found) => {
                     self.bind(one(GET, tree), found);
                 }

@@ -4,7 +4,7 @@
 use super::log::Value;
 use super::looks::Mark;
 use super::{block, Begun, Block, Frame};
-use crate::fresh_cells::known::{Content, Origin};
+use crate::known::{Content, Origin};
 use crate::maker::OPEN;
 use crate::parts::Part;
 use crate::tree::{choice, int, one, two, var, Tree};
@@ -74,7 +74,7 @@ impl Block<'_> {
     pub fn new_cell_of(&mut self, tree: Tree, value: Value) -> usize {
         let index = self.bind_fresh(one(REF, tree), value.code + 2, Origin::New);
         let symbol = self.variables[index].symbol.expect("a reference");
-        self.log.store(symbol, value.code, value);
+        self.log.put(symbol, value.code, value);
         index
     }
 
@@ -87,7 +87,7 @@ impl Block<'_> {
         }
         let (reference, symbol) = self.random.pick(&cells);
         let read = one(GET, var(reference));
-        match self.log.found(symbol) {
+        match self.log.seen(symbol) {
             Some(value) => {
                 self.bind(read, value);
             }
@@ -164,7 +164,7 @@ impl Block<'_> {
     pub fn store(&mut self, reference: usize, tree: Tree, value: Value) -> usize {
         let symbol = self.variables[reference].symbol.expect("a reference");
         let write = two(SET, var(reference), tree);
-        self.log.store(symbol, self.cell(reference), value);
+        self.log.put(symbol, self.cell(reference), value);
         self.bind(write, value)
     }
 

@@ -144,7 +144,10 @@ module _ (n t q : ℕ) {ws : List ℕ} where
           exactly = rw (lt-ltb t deepest l, f .place-is, f .left-is) refl;
         })
 
--- ---- what is found, and fresh symbols
+-- ---- consistency, what is found, and fresh symbols
+
+log-is : {ws : List ℕ} {b c : Bool} {p : Path} → b ≡ consistentIn ws → PathIn ws p → b ≡ c → consistent p ≡ c
+log-is e h z = sym (consistent-is (h .log)) ∙ sym e ∙ z
 
 nothing-found : {u i : ℕ} → Nothing ≡ Value u i → ⊥
 nothing-found e = let z : _≡_ {A = ℕ} 0 1 = cc in omega arith
@@ -203,15 +206,12 @@ module _ (n t q : ℕ) {ws : List ℕ} where
         }
 
     module _ (y : f ≡ Nothing) {b : Bool} (e : b ≡ consistentIn ws) where
-      log-is : {p : Path} {c : Bool} → PathIn ws p → b ≡ c → consistent p ≡ c
-      log-is h z = sym (consistent-is (h .log)) ∙ sym e ∙ z
-
       pub get-stopped : b ≡ false → One (unaryForm getOp) n t q ws (Stopped (InconsistentLog n)) ws
       unfolding oneExec oneGives unaryGives gotGives
       get-stopped z =
           record {
             ruled = ruled-refl ws;
-            yields = λ v p m h. get-nothing n q p h (refer l m) m (sym d ∙ y) λ c k. rw (log-is h z) stopping;
+            yields = λ v p m h. get-nothing n q p h (refer l m) m (sym d ∙ y) λ c k. rw (log-is e h z) stopping;
             exactly = rw (le-ltb t 2 l, sym d ∙ y, sym e ∙ z) refl;
           }
 
@@ -220,7 +220,7 @@ module _ (n t q : ℕ) {ws : List ℕ} where
       get-fresh z x =
           record {
             ruled = x .ruled;
-            yields = λ v p m h. get-nothing n q p h (refer l m) m (sym d ∙ y) λ c k. rw (log-is h z) (fresh-yields (t - 2) c (omega arith) x h);
+            yields = λ v p m h. get-nothing n q p h (refer l m) m (sym d ∙ y) λ c k. rw (log-is e h z) (fresh-yields (t - 2) c (omega arith) x h);
             exactly = rw (le-ltb t 2 l, sym d ∙ y, sym e ∙ z, x .place-is, x .left-is) refl;
           }
 
@@ -232,7 +232,7 @@ module _ (n t : ℕ) {ws : List ℕ} {b : Bool} (e : b ≡ consistentIn ws) wher
   block-stopped z =
       record {
         ruled = ruled-refl ws;
-        yields = λ p h. rw (sym (consistent-is (h .log)) ∙ sym e ∙ z) stopping;
+        yields = λ p h. rw (log-is e h z) stopping;
         exactly = rw (sym e ∙ z) refl;
       }
 
@@ -281,6 +281,6 @@ module _ (n t : ℕ) {ws : List ℕ} {b : Bool} (e : b ≡ consistentIn ws) wher
         record {
           ruled = ruled-then (emptied-other depthAt λ e. omega arith) (record { each = λ k l h. emptied-other k λ z. omega arith }) (y .ruled)
               (went-trans (omega arith) emptied-went (y .ruled .went));
-          yields = λ p h. rw (sym (consistent-is (h .log)) ∙ sym e ∙ z) (fresh-yields t t refl y (emptied-path h));
+          yields = λ p h. rw (log-is e h z) (fresh-yields t t refl y (emptied-path h));
           exactly = rw (sym e ∙ z, y .place-is, y .left-is) refl;
         }

@@ -1,6 +1,6 @@
-//! What a path knows of its cells: where the symbol of each reference comes from, and what was stored
-//! last through it. Beside the right rule stand wrong ones, so that a script can ask what tells them
-//! from it.
+//! What the maker of a block knows of its path: where the symbol of each reference comes from, and the
+//! log of writes. Beside the right rule of what is found there stand wrong ones, so that a script can
+//! ask what tells them from it.
 
 use crate::tree::{int, truth, var, Tree};
 
@@ -53,7 +53,7 @@ pub const RULES: [Rule; 7] = [
 
 impl Rule {
     /// Whether two different symbols are certainly different cells.
-    pub fn apart(self, a: Origin, b: Origin) -> bool {
+    fn apart(self, a: Origin, b: Origin) -> bool {
         match (a, b) {
             (Origin::New, old) | (old, Origin::New) => self.never_new(old),
             (Origin::Read | Origin::Block, _) | (_, Origin::Read | Origin::Block) => false,
@@ -94,20 +94,25 @@ impl Content {
     }
 }
 
-/// The symbols of a path, and what each rule knows of their cells.
-#[derive(Default)]
-pub struct Cells {
+/// The symbols of a path, and the writes through them.
+pub struct Log<W> {
     origins: Vec<Origin>,
-    known: [Vec<Option<Content>>; RULES.len()],
+    writes: Vec<(usize, W)>,
 }
 
-impl Cells {
-    /// A symbol of which nothing is known.
+impl<W> Default for Log<W> {
+    fn default() -> Log<W> {
+        Log {
+            origins: Vec::new(),
+            writes: Vec::new(),
+        }
+    }
+}
+
+impl<W: Copy> Log<W> {
+    /// A symbol that nothing was stored through.
     pub fn add(&mut self, origin: Origin) -> usize {
         self.origins.push(origin);
-        for known in &mut self.known {
-            known.push(None);
-        }
         self.origins.len() - 1
     }
 
@@ -115,28 +120,30 @@ impl Cells {
         self.origins[symbol]
     }
 
-    /// A write through a symbol: what is known of cells that may be the same is lost.
-    pub fn store(&mut self, symbol: usize, content: Content) {
-        for rule in RULES {
-            for other in 0..self.origins.len() {
-                if !self.apart(rule, symbol, other) {
-                    self.known[rule as usize][other] = None;
-                }
-            }
-            self.known[rule as usize][symbol] = Some(content);
-        }
+    pub fn symbols(&self) -> std::ops::Range<usize> {
+        0..self.origins.len()
     }
 
-    /// A typed block: what is known of the cells is lost.
+    pub fn store(&mut self, symbol: usize, write: W) {
+        self.writes.push((symbol, write));
+    }
+
+    /// A typed block empties the log.
     pub fn forget(&mut self) {
-        for known in &mut self.known {
-            known.fill(None);
-        }
+        self.writes.clear();
     }
 
-    /// What a rule knows of a symbol's cell.
-    pub fn known(&self, rule: Rule, symbol: usize) -> Option<Content> {
-        self.known[rule as usize][symbol]
+    /// The writes with their symbols, the newest first.
+    pub fn newest(&self) -> impl Iterator<Item = (usize, W)> + '_ {
+        self.writes.iter().rev().copied()
+    }
+
+    /// What a rule finds through a symbol.
+    pub fn found(&self, rule: Rule, symbol: usize) -> Option<W> {
+        let (through, write) = self
+            .newest()
+            .find(|&(through, _)| !self.apart(rule, through, symbol))?;
+        (through == symbol).then_some(write)
     }
 
     /// Whether two symbols are certainly different by a rule.
