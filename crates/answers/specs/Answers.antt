@@ -23,24 +23,24 @@ abbrev pub failed : ℕ
 failed = 2
 
 -- a place plus 1, or 0 for none
-abbrev pub placeField : Place → ℕ
-placeField Nowhere = 0
-placeField (At i) = suc i
+abbrev pub place_field : Place → ℕ
+place_field Nowhere = 0
+place_field (At i) = suc i
 
-abbrev pub answerOfRefusal : Refusal → ℕ
-answerOfRefusal r = packed refused (number_of r) (placeField (place_of r)) 0
+abbrev pub answer_of_refusal : Refusal → ℕ
+answer_of_refusal r = packed refused (number_of r) (place_field (place_of r)) 0
 
 -- the type's code as value
-abbrev pub answerOfCheck : Checked → ℕ
-answerOfCheck (Checked.Accepted t) = packed done 0 0 t
-answerOfCheck (Checked.Refused r) = answerOfRefusal r
+abbrev pub answer_of_check : Checked → ℕ
+answer_of_check (Checked.Accepted t) = packed done 0 0 t
+answer_of_check (Checked.Refused r) = answer_of_refusal r
 
 -- the value's kind as number and its 32 bits as value, or the node of the error state as value; the used count as place
-abbrev pub answerOfRun : Ran → ℕ
-answerOfRun (Ran.Gave v used) = packed done (kind_of v) used (bits_of v)
-answerOfRun (Ran.Failed n used) = packed failed 0 used n
-answerOfRun (Ran.Refused r) = answerOfRefusal r
+abbrev pub answer_of_run : Ran → ℕ
+answer_of_run (Ran.Gave v used) = packed done (kind_of v) used (bits_of v)
+answer_of_run (Ran.Failed n used) = packed failed 0 used n
+answer_of_run (Ran.Refused r) = answer_of_refusal r
 
 -- what a call of the runner gives and leaves in the lent cells
 abbrev pub AnswersRun : Run → ℕ → List ℕ → Type 0
-AnswersRun run r left = (r ≡ answerOfRun run.answer) × (left ≡ run.cells)
+AnswersRun run r left = (r ≡ answer_of_run run.answer) × (left ≡ run.cells)

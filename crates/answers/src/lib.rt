@@ -1,7 +1,7 @@
 // An answer as one number, for a host in C.
 ghost use Rattle.std.specs.Prelude.{◌≡◌, ◌^◌, ◌<◌};
-ghost use Rattle.answers.specs.Answers.{packed, answerOfRefusal, answerOfCheck, answerOfRun};
-ghost use Rattle.answers.specs.Code.Packing.{usedIn};
+ghost use Rattle.answers.specs.Answers.{packed, answer_of_refusal, answer_of_check, answer_of_run};
+ghost use Rattle.answers.specs.Code.Packing.{used_in};
 
 use script::{Checked, Place, Ran, Refusal};
 
@@ -15,7 +15,7 @@ fn pack(status: u64, number: u64, place: u64, value: u64) -> u64
 
 // A refusal's number and its place plus 1, or 0 for none.
 fn refusal_answer(why: Refusal) -> u64
-    ensures { result ≡ answerOfRefusal why }
+    ensures { result ≡ answer_of_refusal why }
 {
     let number = why.number() as u64;
     match why.place() {
@@ -26,7 +26,7 @@ fn refusal_answer(why: Refusal) -> u64
 
 // The answer of a check: the type's code, or the refusal.
 pub fn check_answer(answer: Checked) -> u64
-    ensures { result ≡ answerOfCheck answer }
+    ensures { result ≡ answer_of_check answer }
 {
     match answer {
         Checked::Accepted(code) => pack(0, 0, 0, code as u64),
@@ -36,8 +36,8 @@ pub fn check_answer(answer: Checked) -> u64
 
 // The answer of a run: the value or the node of the error state, with the used count; or the refusal.
 pub fn run_answer(answer: Ran) -> u64
-    requires { usedIn answer < 65536 }
-    ensures { result ≡ answerOfRun answer }
+    requires { used_in answer < 65536 }
+    ensures { result ≡ answer_of_run answer }
 {
     match answer {
         Ran::Gave(v, count) => pack(0, v.kind() as u64, count as u64, v.bits() as u64),

@@ -2,7 +2,7 @@
 // places more than a script can use.
 ghost use Rattle.std.specs.Prelude.{length};
 ghost use Rattle.record_texts.specs.Texts.{Writes};
-ghost use Rattle.call_texts.specs.Tables.{tableAs, ReadBack};
+ghost use Rattle.call_texts.specs.Tables.{table_as, ReadBack};
 
 use copies::{copy_in, copy_out};
 use script::{Node, Reading, Script, Writing};
@@ -26,7 +26,7 @@ pub fn write(
     entry_count: usize,
     out: &mut [u8],
 ) -> Writing
-    ensures { Writes (tableAs flat.now nodes entries.now entry_count) out.old result out.new }
+    ensures { Writes (table_as flat.now nodes entries.now entry_count) out.old result out.new }
 {
     let mut table = [STALE; PLACES];
     copy_in(&mut table, flat);

@@ -1,7 +1,7 @@
 // Checking and running over a table of records, for programs that keep a table in flat form. Each call has a table of records of its own, with two places more
 // than a script can use.
 ghost use Rattle.records.specs.Records.{Checks, Runs};
-ghost use Rattle.call_texts.specs.Tables.{tableAs};
+ghost use Rattle.call_texts.specs.Tables.{table_as};
 
 use call_texts::{PLACES, STALE};
 use copies::copy_in;
@@ -9,7 +9,7 @@ use script::{Checked, Ran};
 
 // Checks a table.
 pub fn check(flat: &[u32], nodes: usize, entries: &[u32], entry_count: usize) -> Checked
-    ensures { Checks (tableAs flat.now nodes entries.now entry_count) result }
+    ensures { Checks (table_as flat.now nodes entries.now entry_count) result }
 {
     let mut table = [STALE; PLACES];
     copy_in(&mut table, flat);
@@ -26,7 +26,7 @@ pub fn run(
     cells: &mut [u8],
     used: u32,
 ) -> Ran
-    ensures { Runs (tableAs flat.now nodes entries.now entry_count) values.now cells.old used result cells.new }
+    ensures { Runs (table_as flat.now nodes entries.now entry_count) values.now cells.old used result cells.new }
 {
     let mut table = [STALE; PLACES];
     copy_in(&mut table, flat);

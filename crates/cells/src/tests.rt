@@ -1,7 +1,7 @@
 // 35 and 34: the tests of the cells and values that a run is lent.
 ghost use Rattle.std.specs.Prelude.{true, ◌≡◌, ◌+◌, ◌*◌, ◌<◌, ◌≤◌, length, get_or, drop};
-ghost use Rattle.script.specs.Limits.{entryLimit};
-ghost use Rattle.rules.specs.Running.{bits_at, validBy, allValid, rightCells, rightValues};
+ghost use Rattle.script.specs.Limits.{entry_limit};
+ghost use Rattle.rules.specs.Running.{bits_at, valid_by, all_valid, right_cells, right_values};
 
 use crate::bits_at;
 
@@ -14,7 +14,7 @@ const LENT: usize = 192;
 // The value at place i is valid: a kind that there is, 0 or 1 as a truth, below the used cells as a location.
 fn valid(bytes: &[u8], i: usize, used: u32) -> bool
     requires { 5 * i + 4 < length bytes.now }
-    ensures { result ≡ validBy used (get_or (drop (5 * i) bytes.now) 0 0) (bits_at (drop (5 * i) bytes.now)) }
+    ensures { result ≡ valid_by used (get_or (drop (5 * i) bytes.now) 0 0) (bits_at (drop (5 * i) bytes.now)) }
 {
     let bits = bits_at(bytes, i);
     match bytes[5 * i] {
@@ -28,7 +28,7 @@ fn valid(bytes: &[u8], i: usize, used: u32) -> bool
 // The first `count` values are valid.
 fn all_valid(bytes: &[u8], count: usize, used: u32) -> bool
     requires { 5 * count ≤ length bytes.now }
-    ensures { result ≡ allValid used count bytes.now }
+    ensures { result ≡ all_valid used count bytes.now }
 {
     let mut i = 0;
     while i < count {
@@ -42,7 +42,7 @@ fn all_valid(bytes: &[u8], count: usize, used: u32) -> bool
 
 // Not 35: at most 64 cells are used, and at least 192 whole ones are lent.
 pub fn right_cells(cells: &[u8], used: u32) -> bool
-    ensures { result ≡ rightCells cells.now used }
+    ensures { result ≡ right_cells cells.now used }
 {
     if used <= USED {
         return LENT <= cells.len() / 5;
@@ -52,9 +52,9 @@ pub fn right_cells(cells: &[u8], used: u32) -> bool
 
 // Not 34: as many values as entries, whole cells, all values and used cells valid.
 pub fn right_values(entries: usize, values: &[u8], cells: &[u8], used: u32) -> bool
-    requires entries_le_entry_limit { entries ≤ entryLimit }
-    requires used_value { rightCells cells.now used ≡ true }
-    ensures { result ≡ rightValues entries values.now cells.now used }
+    requires entries_le_entry_limit { entries ≤ entry_limit }
+    requires used_value { right_cells cells.now used ≡ true }
+    ensures { result ≡ right_values entries values.now cells.now used }
 {
     if values.len() == 5 * entries {
         if cells.len() % 5 == 0 {

@@ -2,11 +2,11 @@
 -- Assumes nothing.
 use Rattle.std.specs.Prelude.{List, ◌≡◌, ℕ}
 use Rattle.std.proofs.Common.{ap}
-use Rattle.script.specs.Answers.{reportOfCheck}
-use Rattle.script.specs.Flat.{tableIn}
+use Rattle.script.specs.Answers.{report_of_check}
+use Rattle.script.specs.Flat.{table_in}
 use Rattle.script.specs.declared.Checked.{Checked}
-use Rattle.rules.specs.Checking.{checkReport, CheckedBy}
+use Rattle.rules.specs.Checking.{check_report, CheckedBy}
 
-pub check-reports : (limit : ℕ) (table : List ℕ) (nodes : ℕ) (entries : List ℕ) (entryCount : ℕ) {r : Checked}
-    → CheckedBy limit table nodes entries entryCount r → reportOfCheck r ≡ checkReport limit (tableIn table nodes entries entryCount)
-check-reports limit table nodes entries entryCount p = ap reportOfCheck p
+pub check_reports : (limit : ℕ) (table : List ℕ) (nodes : ℕ) (entries : List ℕ) (entry_count : ℕ) {r : Checked}
+    → CheckedBy limit table nodes entries entry_count r → report_of_check r ≡ check_report limit (table_in table nodes entries entry_count)
+check_reports limit table nodes entries entry_count p = ap report_of_check p

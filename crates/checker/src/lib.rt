@@ -3,9 +3,9 @@
 // over one `workspace`.
 ghost use Rattle.std.proofs.Math.Option.{none};
 ghost use Rattle.std.specs.Prelude.{◌≡◌, ◌*◌, ◌≤◌, length};
-ghost use Rattle.script.specs.Flat.{tableIn};
-ghost use Rattle.script.specs.Table.{tableTest};
-ghost use Rattle.rules.specs.Checking.{pathLimit, CheckedBy};
+ghost use Rattle.script.specs.Flat.{table_in};
+ghost use Rattle.script.specs.Table.{table_test};
+ghost use Rattle.rules.specs.Checking.{path_limit, CheckedBy};
 ghost use Rattle.checker.specs.Code.Whole.{Placed};
 
 mod forks;
@@ -43,7 +43,7 @@ fn check_tested(
     entry_count: usize,
     limit: u32,
 ) -> Checked
-    requires { tableTest (tableIn table.now nodes entries.now entry_count) ≡ none }
+    requires { table_test (table_in table.now nodes entries.now entry_count) ≡ none }
     ensures { CheckedBy limit table.now nodes entries.now entry_count result }
 {
     let mut space = [0u32; 2 * VARIABLES];
@@ -69,15 +69,15 @@ fn check_within(
 
 // Checks a table that is known to pass its tests, as one that was read from a text.
 pub fn check_passed(table: &[u32], nodes: usize, entries: &[u32], entry_count: usize) -> Checked
-    requires { tableTest (tableIn table.now nodes entries.now entry_count) ≡ none }
-    ensures { CheckedBy pathLimit table.now nodes entries.now entry_count result }
+    requires { table_test (table_in table.now nodes entries.now entry_count) ≡ none }
+    ensures { CheckedBy path_limit table.now nodes entries.now entry_count result }
 {
     check_tested(table, nodes, entries, entry_count, PATHS)
 }
 
 // Checks a table: accepted with its type, or why not. Nothing lent changes.
 pub fn check(table: &[u32], nodes: usize, entries: &[u32], entry_count: usize) -> Checked
-    ensures { CheckedBy pathLimit table.now nodes entries.now entry_count result }
+    ensures { CheckedBy path_limit table.now nodes entries.now entry_count result }
 {
     check_within(table, nodes, entries, entry_count, PATHS)
 }

@@ -2,9 +2,9 @@
 // symbolic block hands over to the typed rules, on the same workspace, unless a note has its type; a `sym` in typed mode follows its paths in a workspace and
 // frames of its own.
 ghost use Rattle.std.specs.Prelude.{false, ◌≡◌, ◌≤◌, ◌<◌};
-ghost use Rattle.script.specs.Code.Forms.{nodeIn, treeIn};
-ghost use Rattle.script.specs.Rows.{typedForm, nodeOperands};
-ghost use Rattle.script.specs.Rows.Kinds.{kindFor};
+ghost use Rattle.script.specs.Code.Forms.{node_in, tree_in};
+ghost use Rattle.script.specs.Rows.{typed_form, node_operands};
+ghost use Rattle.script.specs.Rows.Kinds.{kind_for};
 ghost use Rattle.rules.specs.Checking.{check, exec};
 ghost use Rattle.rules.specs.Paths.{start, leaves};
 ghost use Rattle.rules.specs.Symbolic.{symbols};
@@ -12,7 +12,7 @@ ghost use Rattle.rules.specs.SymbolicRules.{verdict};
 ghost use Rattle.workspace.specs.Frames.{waits_for};
 ghost use Rattle.workspace.specs.Notes.{Noting, Blocked};
 ghost use Rattle.workspace.specs.Rules.{Checkable, Judged};
-ghost use Rattle.workspace.specs.State.{typesOn};
+ghost use Rattle.workspace.specs.State.{types_on};
 ghost use Rattle.checker.specs.Code.Going.{Enterable, Arrives, AtEnd, PathEnds, Walkable, Walks};
 
 use crate::forks::resume;
@@ -20,7 +20,6 @@ use crate::path::start;
 use crate::steps::{Move, climb, leaf_up};
 use frames::descend;
 use frames::forks::none_left;
-use log::consistent;
 use notes::{note, recall};
 use script::table::{IF, LEAVES, SYM, TYPED};
 use script::{Checked, Refusal};
@@ -28,6 +27,7 @@ use symbolic::typed_result;
 use table::{has_one, node_at};
 use types::{bind_type, if_type, leaf_type, one_type, right_type, two_type};
 use workspace::{DEPTH, FRAMES, Known, SPACE, Step};
+use write_log::consistent;
 
 // How a path ended: with a refusal of the `sym`, as the last path, or with another one after it, which goes on from a node; the type is the path's.
 #[derive(Drop)]
@@ -93,7 +93,7 @@ fn walk(
 fn paths(table: &[u32], types: &[u32], depth: usize, limit: u32, n: u32, a: u32) -> Checked
     requires checkable { Checkable table.now types.now depth a }
     requires a_lt_n { a < n }
-    ensures { result ≡ verdict n limit (leaves (exec limit (treeIn table.now a) (symbols 0 (typesOn types.now depth)) (start depth))) }
+    ensures { result ≡ verdict n limit (leaves (exec limit (tree_in table.now a) (symbols 0 (types_on types.now depth)) (start depth))) }
 {
     let mut space = [0u32; SPACE];
     let mut frames = [0u32; FRAMES];
@@ -138,7 +138,7 @@ fn copied(answer: Checked) -> Checked
 #[cycle(arrive_block_type_block_up_check_node_check_several_operand_type_paths_walk)]
 fn operand_type(table: &[u32], space: &mut [u32], depth: usize, limit: u32, m: u32) -> Checked
     requires { Checkable table.now space.old depth m }
-    ensures { Judged (check limit (treeIn table.now m) (typesOn space.old depth)) depth space.old result space.new }
+    ensures { Judged (check limit (tree_in table.now m) (types_on space.old depth)) depth space.old result space.new }
 {
     let node = node_at(table, m as usize);
     if node.kind < LEAVES {
@@ -154,8 +154,8 @@ fn operand_type(table: &[u32], space: &mut [u32], depth: usize, limit: u32, m: u
 #[cycle(arrive_block_type_block_up_check_node_check_several_operand_type_paths_walk)]
 fn check_several(table: &[u32], space: &mut [u32], depth: usize, limit: u32, n: u32) -> Checked
     requires checkable { Checkable table.now space.old depth n }
-    requires bound { 2 ≤ nodeOperands (nodeIn table.now n).kind }
-    ensures { Judged (check limit (treeIn table.now n) (typesOn space.old depth)) depth space.old result space.new }
+    requires bound { 2 ≤ node_operands (node_in table.now n).kind }
+    ensures { Judged (check limit (tree_in table.now n) (types_on space.old depth)) depth space.old result space.new }
 {
     let node = node_at(table, n as usize);
     match operand_type(table, space, depth, limit, node.a) {
@@ -182,7 +182,7 @@ fn check_several(table: &[u32], space: &mut [u32], depth: usize, limit: u32, n: 
 #[cycle(arrive_block_type_block_up_check_node_check_several_operand_type_paths_walk)]
 pub fn check_node(table: &[u32], space: &mut [u32], depth: usize, limit: u32, n: u32) -> Checked
     requires { Checkable table.now space.old depth n }
-    ensures { Judged (check limit (treeIn table.now n) (typesOn space.old depth)) depth space.old result space.new }
+    ensures { Judged (check limit (tree_in table.now n) (types_on space.old depth)) depth space.old result space.new }
 {
     let node = node_at(table, n as usize);
     if node.kind < LEAVES {
@@ -205,7 +205,7 @@ pub fn check_node(table: &[u32], space: &mut [u32], depth: usize, limit: u32, n:
 fn block_type(table: &[u32], space: &mut [u32], depth: usize, limit: u32, a: u32) -> Checked
     requires checkable { Checkable table.now space.old depth a }
     requires noting { Noting limit table.now space.old depth }
-    ensures { Blocked limit table.now (check limit (treeIn table.now a) (typesOn space.old depth)) depth space.old result space.new }
+    ensures { Blocked limit table.now (check limit (tree_in table.now a) (types_on space.old depth)) depth space.old result space.new }
 {
     match recall(space, depth, a) {
         Known::Typed(t) => Checked::Accepted(t),
@@ -223,7 +223,7 @@ fn block_type(table: &[u32], space: &mut [u32], depth: usize, limit: u32, a: u32
 #[cycle(arrive_block_type_block_up_check_node_check_several_operand_type_paths_walk)]
 fn block_up(table: &[u32], space: &mut [u32], frames: &mut [u32], limit: u32, n: u32) -> Move
     requires enterable { Enterable limit table.now space.old frames.old n }
-    requires n_value { (nodeIn table.now n).kind ≡ kindFor typedForm }
+    requires n_value { (node_in table.now n).kind ≡ kind_for typed_form }
     ensures { Arrives limit table.now n space.old frames.old result space.new frames.new }
 {
     let a = node_at(table, n as usize).a;
@@ -241,7 +241,7 @@ fn block_up(table: &[u32], space: &mut [u32], frames: &mut [u32], limit: u32, n:
 #[cycle(arrive_block_type_block_up_check_node_check_several_operand_type_paths_walk)]
 fn arrive(table: &[u32], space: &mut [u32], frames: &mut [u32], limit: u32, n: u32) -> Move
     requires enterable { Enterable limit table.now space.old frames.old n }
-    requires n_value { waits_for (nodeIn table.now n).kind ≡ false }
+    requires n_value { waits_for (node_in table.now n).kind ≡ false }
     ensures { Arrives limit table.now n space.old frames.old result space.new frames.new }
 {
     if node_at(table, n as usize).kind == TYPED {

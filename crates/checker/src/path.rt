@@ -1,9 +1,9 @@
 // A path's own numbers: the decision at an `if`, the start.
 ghost use Rattle.std.specs.Prelude.{suc, ◌*◌, ◌<◌, ◌≤◌, length};
-ghost use Rattle.terms.specs.Places.{symbolLimit};
+ghost use Rattle.terms.specs.Places.{symbol_limit};
 ghost use Rattle.workspace.specs.Paths.{Blank, Starting};
 ghost use Rattle.workspace.specs.Rules.{Decidable, Chooses, Started};
-ghost use Rattle.workspace.specs.State.{typesOn};
+ghost use Rattle.workspace.specs.State.{types_on};
 
 use decision::decide;
 use frames::forks::{with_guard, without_guard};
@@ -40,9 +40,9 @@ pub fn choose(space: &mut [u32], t: u32, q: u32, n: u32) -> Branch
 // Each variable becomes a symbol of its type, numbered from 0 on; row 0 is `true`, and there are no notes.
 pub fn start(types: &[u32], space: &mut [u32], depth: usize)
     requires depth_in_bounds { 2 * depth ≤ length types.now }
-    requires depth_le_symbol_limit { depth ≤ symbolLimit }
+    requires depth_le_symbol_limit { depth ≤ symbol_limit }
     requires blank { Blank space.old }
-    ensures { Started depth (typesOn types.now depth) space.new }
+    ensures { Started depth (types_on types.now depth) space.new }
 {
     push(space, CONSTANT, 1, 0);
     let mut i = 0;
@@ -57,7 +57,7 @@ pub fn start(types: &[u32], space: &mut [u32], depth: usize)
 // The variable at place i becomes a fresh symbol.
 fn start_variable(types: &[u32], space: &mut [u32], i: usize)
     requires i_in_bounds { 2 * i < length types.now }
-    requires i_lt_symbol_limit { i < symbolLimit }
+    requires i_lt_symbol_limit { i < symbol_limit }
     requires starting { Starting types.now space.old i }
     ensures { Starting types.now space.new (suc i) }
 {

@@ -1,12 +1,12 @@
 // The steps of a path upwards: a value goes to the frame that waits for it, until an operand is to be executed next or no frame is left.
 ghost use Rattle.std.specs.Prelude.{◌≡◌, ◌+◌, ◌*◌, ◌≤◌, ◌<◌, length};
-ghost use Rattle.terms.specs.Places.{symbolLimit};
-ghost use Rattle.workspace.specs.Frames.{frameIn, Waitable};
-ghost use Rattle.workspace.specs.Forks.{forkedIn};
-ghost use Rattle.workspace.specs.Places.{framesSize, spaceSize, forkLimit};
+ghost use Rattle.terms.specs.Places.{symbol_limit};
+ghost use Rattle.workspace.specs.Frames.{frame_in, Waitable};
+ghost use Rattle.workspace.specs.Forks.{forked_in};
+ghost use Rattle.workspace.specs.Places.{frames_size, space_size, fork_limit};
 ghost use Rattle.workspace.specs.Rules.{Decidable};
-ghost use Rattle.workspace.specs.State.{depthIn};
-ghost use Rattle.checker.specs.Code.Going.{boundTo, unbound, movedBy, Branched, Lastable, Lasts, Returnable, Backs, Climbs, Leafable, LeafArrives};
+ghost use Rattle.workspace.specs.State.{depth_in};
+ghost use Rattle.checker.specs.Code.Going.{bound_to, unbound, moved_by, Branched, Lastable, Lasts, Returnable, Backs, Climbs, Leafable, LeafArrives};
 
 use crate::path::choose;
 use frames::forks::{fork, with_guard};
@@ -28,7 +28,7 @@ pub enum Move {
 
 // The step of a rule.
 fn moved(step: Step) -> Move
-    ensures { result ≡ movedBy step }
+    ensures { result ≡ moved_by step }
 {
     match step {
         Step::Gave(t, q) => Move::Value(t, q),
@@ -41,9 +41,9 @@ fn moved(step: Step) -> Move
 fn branch(space: &mut [u32], frames: &mut [u32], b: u32, c: u32, t: u32, q: u32, n: u32) -> Move
     requires decidable { Decidable space.old t q }
     requires waitable { Waitable frames.old }
-    requires frames_size_in_bounds { framesSize ≤ length frames.old }
-    requires frames_bound { forkedIn frames.old < forkLimit }
-    requires space_bound { depthIn space.old ≤ symbolLimit }
+    requires frames_size_in_bounds { frames_size ≤ length frames.old }
+    requires frames_bound { forked_in frames.old < fork_limit }
+    requires space_bound { depth_in space.old ≤ symbol_limit }
     ensures { Branched b c n t q space.old frames.old space.new frames.new result }
 {
     wait(frames, n, FOR_NEXT, t, q);
@@ -62,9 +62,9 @@ fn branch(space: &mut [u32], frames: &mut [u32], b: u32, c: u32, t: u32, q: u32,
 
 // A value of type t at place q becomes a variable.
 fn bind(space: &mut [u32], t: u32, q: u32)
-    requires space_size_in_bounds { spaceSize ≤ length space.old }
-    requires space_bound { depthIn space.old < symbolLimit }
-    ensures { space.new ≡ boundTo space.old t q }
+    requires space_size_in_bounds { space_size ≤ length space.old }
+    requires space_bound { depth_in space.old < symbol_limit }
+    ensures { space.new ≡ bound_to space.old t q }
 {
     let depth = space[DEPTH];
     space[2 * (depth as usize)] = t;
@@ -74,8 +74,8 @@ fn bind(space: &mut [u32], t: u32, q: u32)
 
 // The last variable is none any more.
 fn unbind(space: &mut [u32])
-    requires space_size_in_bounds { spaceSize ≤ length space.old }
-    requires bound { 1 ≤ depthIn space.old }
+    requires space_size_in_bounds { space_size ≤ length space.old }
+    requires bound { 1 ≤ depth_in space.old }
     ensures { space.new ≡ unbound space.old }
 {
     space[DEPTH] = space[DEPTH] - 1;
@@ -96,7 +96,7 @@ fn last(kind: u32, awaits: u32, t: u32, q: u32, u: u32, s: u32, space: &mut [u32
 // The value of type t at place q goes to the frame that waits for it.
 fn back(table: &[u32], space: &mut [u32], frames: &mut [u32], t: u32, q: u32) -> Move
     requires returnable { Returnable table.now space.old frames.old t q }
-    requires bound { 1 ≤ frameIn frames.old }
+    requires bound { 1 ≤ frame_in frames.old }
     ensures { Backs table.now t q space.old frames.old result space.new frames.new }
 {
     let frame = leave(frames);

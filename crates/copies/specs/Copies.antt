@@ -1,7 +1,7 @@
 -- The table of a call over records, and what the copying functions leave: a table of records in flat form, and a flat table in records. Assumes nothing.
 use Rattle.std.specs.Prelude.{List, ◌++◌, ◌≡◌, ℕ, ◌*◌, ◌/◌, min, length, take, drop}
-use Rattle.script.specs.Flat.{nodeWidth, flat, nodesIn}
-use Rattle.script.specs.Limits.{nodeLimit}
+use Rattle.script.specs.Flat.{node_width, flat, nodes_in}
+use Rattle.script.specs.Limits.{node_limit}
 use Rattle.script.specs.Table.{Table, unused}
 use Rattle.script.specs.declared.Node.{Node}
 use Rattle.text.specs.Reading.{filled}
@@ -10,23 +10,23 @@ pub mod Laws
 
 -- a slice of records is the list of nodes of the definitions; with it go the lent entries, and how many of both are used
 abbrev pub table_of : List Node → ℕ → List ℕ → ℕ → Table
-table_of ns nodes es entries = record { lentNodes = ns; nodeCount = nodes; lentEntries = es; entryCount = entries }
+table_of ns nodes es entries = record { lent_nodes = ns; node_count = nodes; lent_entries = es; entry_count = entries }
 
 -- a call makes room for the numbers of as many nodes as a script can have
-abbrev pub flatSize : ℕ
-flatSize = nodeWidth * nodeLimit
+abbrev pub flat_size : ℕ
+flat_size = node_width * node_limit
 
 -- the numbers xs with the first n nodes in front
 abbrev pub copied : List Node → ℕ → List ℕ → List ℕ
-copied ns n xs = flat (take n ns) ++ drop (nodeWidth * n) xs
+copied ns n xs = flat (take n ns) ++ drop (node_width * n) xs
 
 -- as many nodes are copied as there are and as there is room for
 abbrev pub CopiedOut : List Node → List ℕ → ℕ → List ℕ → Type 0
-CopiedOut ns xs r left = (r ≡ min (length ns) (length xs / nodeWidth)) × (left ≡ copied ns r xs)
+CopiedOut ns xs r left = (r ≡ min (length ns) (length xs / node_width)) × (left ≡ copied ns r xs)
 
 -- n places: the nodes in xs, and `false` in those that xs has no node for
 abbrev pub places : ℕ → List ℕ → List Node
-places n xs = filled (take n (nodesIn xs)) n unused
+places n xs = filled (take n (nodes_in xs)) n unused
 
 -- the table ns with its first i places filled
 abbrev pub placed : List ℕ → List Node → ℕ → List Node

@@ -1,7 +1,7 @@
 // Between a table of records and a table in flat form: one record out or in, and the whole table. What takes or fills a slice of records is proved by a walk.
 ghost use Rattle.std.specs.Prelude.{◌≡◌, ◌<◌, min, length, set};
-ghost use Rattle.script.specs.Flat.{nodesIn};
-ghost use Rattle.script.specs.Table.{nodeAt};
+ghost use Rattle.script.specs.Flat.{nodes_in};
+ghost use Rattle.script.specs.Table.{node_at};
 ghost use Rattle.copies.specs.Copies.{CopiedOut, places};
 
 use script::Node;
@@ -11,7 +11,7 @@ use table::{node_at, put_node, unused};
 // The record at place i.
 pub fn record_at(table: &[Node], i: usize) -> Node
     requires { i < length table.now }
-    ensures { result ≡ nodeAt table.now i }
+    ensures { result ≡ node_at table.now i }
 {
     table[i]
 }
@@ -36,7 +36,7 @@ pub fn lesser(a: usize, b: usize) -> usize
 
 // The node at place i of a table in flat form, `false` where it has no such place.
 fn place_at(flat: &[u32], i: usize) -> Node
-    ensures { result ≡ nodeAt (nodesIn flat.now) i }
+    ensures { result ≡ node_at (nodes_in flat.now) i }
 {
     if i < flat.len() / WIDTH {
         return node_at(flat, i);

@@ -7,95 +7,95 @@ use borrow.Author.Tests.{lt-ltb, le-ltb, eq-eqb, ne_eqb}
 use native.Mathlib.Omega.{arith}
 use Rattle.std.proofs.Math.ListN.{length}
 use Rattle.script.specs.Tests.{pick}
-use Rattle.terms.specs.Places.{rowLimit, rowsEnd}
-use Rattle.rows.specs.Code.{above, atomsFrom, Room, marked, rank, Rows, numberedTo, noNumbers, countsOf, blocksOf, searched, Searched, knownSize, knownNumbers, kept, Keepable, guardMarks, guardRows, compared, startMarks, marksFrom, conjunctOf, isLink, recalled, recalls, decidedAnew, aside, decided, LeftAnew, left-same, left-none, left-kept}
+use Rattle.terms.specs.Places.{row_limit, rows_end}
+use Rattle.rows.specs.Code.{above, atoms_from, Room, marked, rank, Rows, numbered_to, no_numbers, counts_of, blocks_of, searched, Searched, known_size, known_numbers, kept, Keepable, guard_marks, guard_rows, compared, start_marks, marks_from, conjunct_of, is_link, recalled, recalls, decided_anew, aside, decided, LeftAnew, left-same, left-none, left-kept}
 use Rattle.rows.specs.Code.Laws.{above-second, above_within, marked-length}
-use Rattle.rows.specs.Decision.{onlyOne}
+use Rattle.rows.specs.Decision.{only_one}
 use Rattle.rows.specs.Marks.{start-length}
 use Rattle.rows.specs.declared.Counts.{Counts}
 use Rattle.rows.specs.declared.Decision.{Decision}
 use Rattle.rows.specs.declared.Decision.TheVariants.{TooMany, OnlyTrue, OnlyFalse}
 use Rattle.known.specs.Ordered.{numbered-alike, taken-alike}
-use Rattle.known.specs.Searching.{rows-listed, order-long}
-use Rattle.terms.specs.Terms.{ofConjunction, ofExclusion}
+use Rattle.known.specs.Searching.{rows-listed, order_long}
+use Rattle.terms.specs.Terms.{of_conjunction, of_exclusion}
 
 module _ (ws : List ℕ) (c g : ℕ) where
-  pub room-start : (n : ℕ) → n ≡ above c g → rowsEnd ≤ length ws → c < rowLimit → g < rowLimit → Room ws n (startMarks c g)
+  pub room-start : (n : ℕ) → n ≡ above c g → rows_end ≤ length ws → c < row_limit → g < row_limit → Room ws n (start_marks c g)
   room-start n e h p q =
-      let a = above_within c g rowLimit p q in
+      let a = above_within c g row_limit p q in
       let l = start-length c g in
       record { lent = h; few = omega arith; marks = omega arith }
 
   -- what the parts give
   pub record Prepared (n : ℕ) (ms : List ℕ) (k : Counts) : Type 0 where
     pub up : n ≡ above c g
-    pub marks : ms ≡ marked ws n (startMarks c g)
-    pub counts : k ≡ countsOf ws ms n
+    pub marks : ms ≡ marked ws n (start_marks c g)
+    pub counts : k ≡ counts_of ws ms n
 
   module _ {n : ℕ} {ms : List ℕ} {k : Counts} (p : Prepared n ms k) where
-    parts-marks : ms ≡ marksFrom ws c g
-    unfolding marksFrom
+    parts-marks : ms ≡ marks_from ws c g
+    unfolding marks_from
     parts-marks = rw (p.marks, p.up)
 
-    parts_all : k.all ≡ atomsFrom ws c g 1
-    unfolding atomsFrom countsOf
+    parts_all : k.all ≡ atoms_from ws c g 1
+    unfolding atoms_from counts_of
     parts_all = rw (p.counts, parts-marks, p.up)
 
-    parts-own : k.own ≡ atomsFrom ws c g 2
-    unfolding atomsFrom countsOf
+    parts-own : k.own ≡ atoms_from ws c g 2
+    unfolding atoms_from counts_of
     parts-own = rw (p.counts, parts-marks, p.up)
 
-    parts_shared : k.shared ≡ atomsFrom ws c g 3
-    unfolding atomsFrom countsOf
+    parts_shared : k.shared ≡ atoms_from ws c g 3
+    unfolding atoms_from counts_of
     parts_shared = rw (p.counts, parts-marks, p.up)
 
-    pub decided-many : 10 < k.all → TooMany ≡ decidedAnew ws c g
-    unfolding decidedAnew
-    decided-many h = let e = parts_all in rw (lt-ltb 10 (atomsFrom ws c g 1) (omega arith))
+    pub decided-many : 10 < k.all → TooMany ≡ decided_anew ws c g
+    unfolding decided_anew
+    decided-many h = let e = parts_all in rw (lt-ltb 10 (atoms_from ws c g 1) (omega arith))
 
     -- the guard alone
-    pub decided-alone : (blocks : ℕ) (d : Decision) → k.all ≤ 10 → k.shared ≡ 0 → blocks ≡ blocksOf k.own → d ≡ searched ws ms 2 g g blocks
-        → d ≡ decidedAnew ws c g
-    unfolding decidedAnew
+    pub decided-alone : (blocks : ℕ) (d : Decision) → k.all ≤ 10 → k.shared ≡ 0 → blocks ≡ blocks_of k.own → d ≡ searched ws ms 2 g g blocks
+        → d ≡ decided_anew ws c g
+    unfolding decided_anew
     decided-alone blocks d h z eb ed =
         let e = parts_all in
         let f = parts_shared in
-        rw (le-ltb 10 (atomsFrom ws c g 1) (omega arith), eq-eqb (atomsFrom ws c g 3) 0 (omega arith), ed, eb, parts-marks, parts-own)
+        rw (le-ltb 10 (atoms_from ws c g 1) (omega arith), eq-eqb (atoms_from ws c g 3) 0 (omega arith), ed, eb, parts-marks, parts-own)
 
     -- the guard is a conjunct of the condition
-    pub decided-with : (link : ℕ) → k.all ≤ 10 → (k.shared ≡ 0 → ⊥) → link ≡ conjunctOf ws c g → link ≡ ofConjunction → OnlyTrue ≡ decidedAnew ws c g
-    unfolding decidedAnew
-    decided-with link h z el l =
+    pub decided_with : (link : ℕ) → k.all ≤ 10 → (k.shared ≡ 0 → ⊥) → link ≡ conjunct_of ws c g → link ≡ of_conjunction → OnlyTrue ≡ decided_anew ws c g
+    unfolding decided_anew
+    decided_with link h z el l =
         let e = parts_all in
         let f = parts_shared in
-        rw (le-ltb 10 (atomsFrom ws c g 1) (omega arith), ne_eqb (atomsFrom ws c g 3) 0 (λ q. z (f ∙ q)), eq-eqb (conjunctOf ws c g) ofConjunction (sym el ∙ l))
+        rw (le-ltb 10 (atoms_from ws c g 1) (omega arith), ne_eqb (atoms_from ws c g 3) 0 (λ q. z (f ∙ q)), eq-eqb (conjunct_of ws c g) of_conjunction (sym el ∙ l))
 
     -- its negation is one
-    pub decided-without : (link : ℕ) → k.all ≤ 10 → (k.shared ≡ 0 → ⊥) → link ≡ conjunctOf ws c g → link ≡ ofExclusion → OnlyFalse ≡ decidedAnew ws c g
-    unfolding decidedAnew
+    pub decided-without : (link : ℕ) → k.all ≤ 10 → (k.shared ≡ 0 → ⊥) → link ≡ conjunct_of ws c g → link ≡ of_exclusion → OnlyFalse ≡ decided_anew ws c g
+    unfolding decided_anew
     decided-without link h z el l =
         let e = parts_all in
         let f = parts_shared in
-        let m : conjunctOf ws c g ≡ 7 = sym el ∙ l in
+        let m : conjunct_of ws c g ≡ 7 = sym el ∙ l in
         rw (
-          le-ltb 10 (atomsFrom ws c g 1) (omega arith),
-          ne_eqb (atomsFrom ws c g 3) 0 (λ q. z (f ∙ q)),
-          ne_eqb (conjunctOf ws c g) ofConjunction (λ q. omega arith),
-          eq-eqb (conjunctOf ws c g) ofExclusion m,
+          le-ltb 10 (atoms_from ws c g 1) (omega arith),
+          ne_eqb (atoms_from ws c g 3) 0 (λ q. z (f ∙ q)),
+          ne_eqb (conjunct_of ws c g) of_conjunction (λ q. omega arith),
+          eq-eqb (conjunct_of ws c g) of_exclusion m,
         )
 
     -- the two together
-    pub decided-both : (link blocks : ℕ) (d : Decision) → k.all ≤ 10 → (k.shared ≡ 0 → ⊥) → link ≡ conjunctOf ws c g → (link ≡ ofConjunction → ⊥) → (link ≡ ofExclusion → ⊥)
-        → blocks ≡ blocksOf k.all → d ≡ searched ws ms 1 c g blocks → d ≡ decidedAnew ws c g
-    unfolding decidedAnew
+    pub decided-both : (link blocks : ℕ) (d : Decision) → k.all ≤ 10 → (k.shared ≡ 0 → ⊥) → link ≡ conjunct_of ws c g → (link ≡ of_conjunction → ⊥) → (link ≡ of_exclusion → ⊥)
+        → blocks ≡ blocks_of k.all → d ≡ searched ws ms 1 c g blocks → d ≡ decided_anew ws c g
+    unfolding decided_anew
     decided-both link blocks d h z el m n eb ed =
         let e = parts_all in
         let f = parts_shared in
         rw (
-          le-ltb 10 (atomsFrom ws c g 1) (omega arith),
-          ne_eqb (atomsFrom ws c g 3) 0 (λ q. z (f ∙ q)),
-          ne_eqb (conjunctOf ws c g) ofConjunction (λ q. m (el ∙ q)),
-          ne_eqb (conjunctOf ws c g) ofExclusion (λ q. n (el ∙ q)),
+          le-ltb 10 (atoms_from ws c g 1) (omega arith),
+          ne_eqb (atoms_from ws c g 3) 0 (λ q. z (f ∙ q)),
+          ne_eqb (conjunct_of ws c g) of_conjunction (λ q. m (el ∙ q)),
+          ne_eqb (conjunct_of ws c g) of_exclusion (λ q. n (el ∙ q)),
           ed,
           eb,
           parts-marks,
@@ -105,59 +105,59 @@ module _ (ws : List ℕ) (c g : ℕ) where
     -- whether the condition's truths were computed
     pub aside-alone : k.shared ≡ 0 → aside ws c g ≡ true
     unfolding aside
-    aside-alone z = let f = parts_shared in rw (eq-eqb (atomsFrom ws c g 3) 0 (omega arith)) refl
+    aside-alone z = let f = parts_shared in rw (eq-eqb (atoms_from ws c g 3) 0 (omega arith)) refl
 
-    pub aside-with : (link : ℕ) → (k.shared ≡ 0 → ⊥) → link ≡ conjunctOf ws c g → link ≡ ofConjunction → aside ws c g ≡ true
-    unfolding aside isLink
-    aside-with link z el l = let f = parts_shared in rw (ne_eqb (atomsFrom ws c g 3) 0 (λ q. z (f ∙ q)), eq-eqb (conjunctOf ws c g) ofConjunction (sym el ∙ l)) refl
+    pub aside_with : (link : ℕ) → (k.shared ≡ 0 → ⊥) → link ≡ conjunct_of ws c g → link ≡ of_conjunction → aside ws c g ≡ true
+    unfolding aside is_link
+    aside_with link z el l = let f = parts_shared in rw (ne_eqb (atoms_from ws c g 3) 0 (λ q. z (f ∙ q)), eq-eqb (conjunct_of ws c g) of_conjunction (sym el ∙ l)) refl
 
-    pub aside-without : (link : ℕ) → (k.shared ≡ 0 → ⊥) → link ≡ conjunctOf ws c g → link ≡ ofExclusion → aside ws c g ≡ true
-    unfolding aside isLink
+    pub aside-without : (link : ℕ) → (k.shared ≡ 0 → ⊥) → link ≡ conjunct_of ws c g → link ≡ of_exclusion → aside ws c g ≡ true
+    unfolding aside is_link
     aside-without link z el l =
         let f = parts_shared in
-        let m : conjunctOf ws c g ≡ 7 = sym el ∙ l in
-        rw (ne_eqb (atomsFrom ws c g 3) 0 (λ q. z (f ∙ q)), ne_eqb (conjunctOf ws c g) ofConjunction (λ q. omega arith), eq-eqb (conjunctOf ws c g) ofExclusion m) refl
+        let m : conjunct_of ws c g ≡ 7 = sym el ∙ l in
+        rw (ne_eqb (atoms_from ws c g 3) 0 (λ q. z (f ∙ q)), ne_eqb (conjunct_of ws c g) of_conjunction (λ q. omega arith), eq-eqb (conjunct_of ws c g) of_exclusion m) refl
 
-    pub aside-not : (link : ℕ) → (k.shared ≡ 0 → ⊥) → link ≡ conjunctOf ws c g → (link ≡ ofConjunction → ⊥) → (link ≡ ofExclusion → ⊥) → aside ws c g ≡ false
-    unfolding aside isLink
+    pub aside-not : (link : ℕ) → (k.shared ≡ 0 → ⊥) → link ≡ conjunct_of ws c g → (link ≡ of_conjunction → ⊥) → (link ≡ of_exclusion → ⊥) → aside ws c g ≡ false
+    unfolding aside is_link
     aside-not link z el n m =
         let f = parts_shared in
-        rw (ne_eqb (atomsFrom ws c g 3) 0 (λ q. z (f ∙ q)), ne_eqb (conjunctOf ws c g) ofConjunction (λ q. n (el ∙ q)), ne_eqb (conjunctOf ws c g) ofExclusion (λ q. m (el ∙ q))) refl
+        rw (ne_eqb (atoms_from ws c g 3) 0 (λ q. z (f ∙ q)), ne_eqb (conjunct_of ws c g) of_conjunction (λ q. n (el ∙ q)), ne_eqb (conjunct_of ws c g) of_exclusion (λ q. m (el ∙ q))) refl
 
     -- what is kept then
-    pub keepable : (at : ℕ) → rowsEnd ≤ at → at + knownSize ≤ length ws → c < rowLimit → g < rowLimit → k.all ≤ 10 → Keepable ws at ms n
-    unfolding countsOf
+    pub keepable : (at : ℕ) → rows_end ≤ at → at + known_size ≤ length ws → c < row_limit → g < row_limit → k.all ≤ 10 → Keepable ws at ms n
+    unfolding counts_of
     keepable at b l low high few =
-        let a = above_within c g rowLimit low high in
+        let a = above_within c g row_limit low high in
         let u = p.up in
-        let m = ap length p.marks ∙ marked-length ws n (startMarks c g) ∙ start-length c g in
+        let m = ap length p.marks ∙ marked-length ws n (start_marks c g) ∙ start-length c g in
         let e : k.all ≡ rank ws ms 1 n = ap all p.counts in
         record { behind = b; lent = l; rows = omega arith; marks = omega arith; few = omega arith }
       where
         all : Counts → ℕ
         all x = x.all
 
-    left-with : {at blocks : ℕ} {r : Decision} {start ts left : List ℕ} → aside ws c g ≡ false → k.all ≤ 10 → blocks ≡ blocksOf k.all → Searched ws ms 1 c g blocks start r ts → onlyOne r ≡ true
+    left_with : {at blocks : ℕ} {r : Decision} {start ts left : List ℕ} → aside ws c g ≡ false → k.all ≤ 10 → blocks ≡ blocks_of k.all → Searched ws ms 1 c g blocks start r ts → only_one r ≡ true
         → left ≡ kept ws at ms n blocks ts → LeftAnew ws at c g r left
-    left-with {ts = ts} n few eb s t e =
+    left_with {ts = ts} n few eb s t e =
         let a = parts_all in
-        left-kept t n (omega arith) ts (λ b h. rw parts-marks at (s.truths t b (rw (eb ∙ ap blocksOf a) h)))
+        left-kept t n (omega arith) ts (λ b h. rw parts-marks at (s.truths t b (rw (eb ∙ ap blocks_of a) h)))
         (e ∙ rw (parts-marks, p.up, eb, a) refl)
 
-    pub left_after : {at blocks : ℕ} {r : Decision} {start ts left : List ℕ} → aside ws c g ≡ false → k.all ≤ 10 → blocks ≡ blocksOf k.all
-        → Searched ws ms 1 c g blocks start r ts → left ≡ pick (onlyOne r) (kept ws at ms n blocks ts) ws → LeftAnew ws at c g r left
-    left_after {at} {blocks} {r} {start} {ts} {left} a few eb s e = go (onlyOne r) refl e
+    pub left_after : {at blocks : ℕ} {r : Decision} {start ts left : List ℕ} → aside ws c g ≡ false → k.all ≤ 10 → blocks ≡ blocks_of k.all
+        → Searched ws ms 1 c g blocks start r ts → left ≡ pick (only_one r) (kept ws at ms n blocks ts) ws → LeftAnew ws at c g r left
+    left_after {at} {blocks} {r} {start} {ts} {left} a few eb s e = go (only_one r) refl e
       where
-        go : (t : Bool) → onlyOne r ≡ t → left ≡ pick t (kept ws at ms n blocks ts) ws → LeftAnew ws at c g r left
-        go true q z = left-with a few eb s q z
+        go : (t : Bool) → only_one r ≡ t → left ≡ pick t (kept ws at ms n blocks ts) ws → LeftAnew ws at c g r left
+        go true q z = left_with a few eb s q z
         go false q z = left-same q z
 
 -- where the condition's truths were not computed
-pub left_alone : {ws : List ℕ} {at c g : ℕ} {r : Decision} {left : List ℕ} → aside ws c g ≡ true → left ≡ pick (onlyOne r) (set ws at 0) ws
+pub left_alone : {ws : List ℕ} {at c g : ℕ} {r : Decision} {left : List ℕ} → aside ws c g ≡ true → left ≡ pick (only_one r) (set ws at 0) ws
     → LeftAnew ws at c g r left
-left_alone {ws} {at} {c} {g} {r} {left} a e = go (onlyOne r) refl e
+left_alone {ws} {at} {c} {g} {r} {left} a e = go (only_one r) refl e
   where
-    go : (t : Bool) → onlyOne r ≡ t → left ≡ pick t (set ws at 0) ws → LeftAnew ws at c g r left
+    go : (t : Bool) → only_one r ≡ t → left ≡ pick t (set ws at 0) ws → LeftAnew ws at c g r left
     go true q z = left-none q a z
     go false q z = left-same q z
 
@@ -178,7 +178,7 @@ room-guard c g r e =
 -- ---- by what is known
 
 module _ (ws : List ℕ) (at c g : ℕ) (r : Decision) where
-  pub decided-unknown : (get_or ws at 0 ≡ 1 → ⊥) → r ≡ decidedAnew ws c g → r ≡ decided ws at c g
+  pub decided-unknown : (get_or ws at 0 ≡ 1 → ⊥) → r ≡ decided_anew ws c g → r ≡ decided ws at c g
   unfolding decided
   decided-unknown n e = rw (ne_eqb (get_or ws at 0) 1 n) e
 
@@ -186,7 +186,7 @@ module _ (ws : List ℕ) (at c g : ℕ) (r : Decision) where
   unfolding decided
   decided-known o t e = rw (eq-eqb (get_or ws at 0) 1 o, t) e
 
-  pub decided-other : get_or ws at 0 ≡ 1 → recalls ws at g ≡ false → r ≡ decidedAnew ws c g → r ≡ decided ws at c g
+  pub decided-other : get_or ws at 0 ≡ 1 → recalls ws at g ≡ false → r ≡ decided_anew ws c g → r ≡ decided ws at c g
   unfolding decided
   decided-other o t e = rw (eq-eqb (get_or ws at 0) 1 o, t) e
 
@@ -201,21 +201,21 @@ not-recalled ws at g e = go (eqb (get_or ws at 0) 1)
     go true = e
     go false = refl
 
-module _ (ws : List ℕ) (at g : ℕ) (os : List ℕ) (count : ℕ) (ns : List ℕ) (many : count ≡ length (guardRows ws g)) (rows : take count os ≡ guardRows ws g) where
-  pub numbers-known : ns ≡ knownNumbers ws at noNumbers (get_or ws (at + 1) 0) → ns ≡ recalled ws at
+module _ (ws : List ℕ) (at g : ℕ) (os : List ℕ) (count : ℕ) (ns : List ℕ) (many : count ≡ length (guard_rows ws g)) (rows : take count os ≡ guard_rows ws g) where
+  pub numbers-known : ns ≡ known_numbers ws at no_numbers (get_or ws (at + 1) 0) → ns ≡ recalled ws at
   unfolding recalled
   numbers-known e = e
 
-  pub recalls-is : (b : Bool) → ns ≡ recalled ws at → b ≡ numberedTo ws os ns count → b ≡ recalls ws at g
+  pub recalls-is : (b : Bool) → ns ≡ recalled ws at → b ≡ numbered_to ws os ns count → b ≡ recalls ws at g
   unfolding recalls
   recalls-is b e f =
-      f ∙ numbered-alike ws os (guardRows ws g) ns count (taken-alike os (guardRows ws g) count rows) ∙ ap₂ (numberedTo ws (guardRows ws g)) e many
+      f ∙ numbered-alike ws os (guard_rows ws g) ns count (taken-alike os (guard_rows ws g) count rows) ∙ ap₂ (numbered_to ws (guard_rows ws g)) e many
 
   -- the rows of the guard are few
-  pub guard-long : g < rowLimit → length os ≡ rowLimit → count ≤ length os
-  unfolding guardRows
-  guard-long h l = order-long (guardMarks ws g) 1 (g + 1) count os (omega arith) many l
+  pub guard-long : g < row_limit → length os ≡ row_limit → count ≤ length os
+  unfolding guard_rows
+  guard-long h l = order_long (guard_marks ws g) 1 (g + 1) count os (omega arith) many l
 
-  pub guard-rows : rowsEnd ≤ length ws → g < rowLimit → length os ≡ rowLimit → Rows ws os count
-  unfolding guardRows
-  guard-rows b h l = rows-listed ws (guardMarks ws g) 1 (g + 1) os count b (omega arith) (guard-long h l) many rows
+  pub guard-rows : rows_end ≤ length ws → g < row_limit → length os ≡ row_limit → Rows ws os count
+  unfolding guard_rows
+  guard-rows b h l = rows-listed ws (guard_marks ws g) 1 (g + 1) os count b (omega arith) (guard-long h l) many rows

@@ -4,8 +4,8 @@
 // known when the next guard comes.
 ghost use Rattle.std.specs.Prelude.{◌≡◌, ◌<◌, ◌≤◌, length, set};
 ghost use Rattle.script.specs.Tests.{pick};
-ghost use Rattle.rows.specs.Decision.{onlyOne};
-ghost use Rattle.rows.specs.Code.{conditionWord, Searchable, Searched, kept, Keepable, decidedAnew, LeftAnew};
+ghost use Rattle.rows.specs.Decision.{only_one};
+ghost use Rattle.rows.specs.Code.{condition_word, Searchable, Searched, kept, Keepable, decided_anew, LeftAnew};
 ghost use Rattle.rows.specs.Promise.{Decidable, Decides};
 
 mod conjuncts;
@@ -26,7 +26,7 @@ const NONE: u8 = 10;
 
 // One branch is taken, and the other is impossible.
 fn only_one(decision: Decision) -> bool
-    ensures { result ≡ onlyOne decision }
+    ensures { result ≡ only_one decision }
 {
     match decision {
         Decision::TooMany => false,
@@ -39,7 +39,7 @@ fn only_one(decision: Decision) -> bool
 // The truths of the condition; where only the guard's rows have words, it is true.
 fn condition_word(words: &[u64], condition: usize, least: u8) -> u64
     requires { condition < length words.now }
-    ensures { result ≡ conditionWord words.now condition least }
+    ensures { result ≡ condition_word words.now condition least }
 {
     if least == GUARD {
         return ONES;
@@ -91,7 +91,7 @@ fn search(
 // After a decision of the guard alone: if one branch is impossible, nothing is known any more.
 fn forget_after(space: &mut [u32], at: usize, decision: Decision)
     requires { at < length space.old }
-    ensures { space.new ≡ pick (onlyOne decision) (set space.old at 0) space.old }
+    ensures { space.new ≡ pick (only_one decision) (set space.old at 0) space.old }
 {
     if !only_one(decision) {
         return;
@@ -111,7 +111,7 @@ fn keep_after(
 )
     requires keepable { Keepable space.old at marks.now n }
     requires blocks_bound { (blocks ≤ 16) × (16 ≤ length truths.now) }
-    ensures { space.new ≡ pick (onlyOne decision) (kept space.old at marks.now n blocks truths.now) space.old }
+    ensures { space.new ≡ pick (only_one decision) (kept space.old at marks.now n blocks truths.now) space.old }
 {
     if !only_one(decision) {
         return;
@@ -123,7 +123,7 @@ fn keep_after(
 // impossible, the condition's truths are known then, or nothing is.
 fn decide_anew(space: &mut [u32], at: usize, condition: u32, guard: u32) -> Decision
     requires { Decidable space.old at condition guard }
-    ensures value { result ≡ decidedAnew space.old condition guard }
+    ensures value { result ≡ decided_anew space.old condition guard }
     ensures left_anew { LeftAnew space.old at condition guard result space.new }
 {
     let c = condition as usize;

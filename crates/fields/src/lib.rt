@@ -1,8 +1,8 @@
 // The fields of a text and what they say: the tab splitter, numbers and types.
 ghost use Rattle.std.specs.Prelude.{◌≡◌, ◌+◌, ◌≤◌, length, drop, []};
-ghost use Rattle.script.specs.Limits.{typeLimit};
-ghost use Rattle.text.specs.Fields.{decimalUpTo, type_of, typeUpTo, lastLetter};
-ghost use Rattle.text.specs.Code.Scan.{endsField, fieldIn, starts_with, numberAfter, saidBy};
+ghost use Rattle.script.specs.Limits.{type_limit};
+ghost use Rattle.text.specs.Fields.{decimal_up_to, type_of, type_up_to, last_letter};
+ghost use Rattle.text.specs.Code.Scan.{ends_field, field_in, starts_with, number_after, said_by};
 
 pub mod words;
 
@@ -15,7 +15,7 @@ pub const LF: u8 = 10;
 
 // Whether a field ends at this byte.
 fn ends_field(c: u8) -> bool
-    ensures { result ≡ endsField c }
+    ensures { result ≡ ends_field c }
 {
     if c == TAB {
         return true;
@@ -26,7 +26,7 @@ fn ends_field(c: u8) -> bool
 // Where the field that starts at `from` ends: at the next tab, the line's end or the text's.
 fn field_end(text: &[u8], from: usize) -> usize
     requires { from ≤ length text.now }
-    ensures { result ≡ from + length (fieldIn (drop from text.now)) }
+    ensures { result ≡ from + length (field_in (drop from text.now)) }
 {
     let mut e = from;
     while e < text.len() {
@@ -41,7 +41,7 @@ fn field_end(text: &[u8], from: usize) -> usize
 // The field that starts at `from`, as that part of the text.
 pub fn field(text: &[u8], from: usize) -> &[u8]
     requires { from ≤ length text.now }
-    ensures { result.now ≡ fieldIn (drop from text.now) }
+    ensures { result.now ≡ field_in (drop from text.now) }
 {
     let e = field_end(text, from);
     &text[from..e]
@@ -60,7 +60,7 @@ pub fn byte_is(text: &[u8], at: usize, b: u8) -> bool
 
 // The number that the digits of a field make, at most `limit`.
 fn digits(f: &[u8], limit: u32) -> Said
-    ensures { result ≡ saidBy (numberAfter limit 0 f.now) }
+    ensures { result ≡ said_by (number_after limit 0 f.now) }
 {
     let mut n: u64 = 0;
     let mut i = 0;
@@ -83,7 +83,7 @@ fn digits(f: &[u8], limit: u32) -> Said
 
 // The number that a field says: decimal without leading zeros, at most `limit`.
 pub fn number(f: &[u8], limit: u32) -> Said
-    ensures { result ≡ saidBy (decimalUpTo limit f.now) }
+    ensures { result ≡ said_by (decimal_up_to limit f.now) }
 {
     if f.len() == 0 {
         return Said::Nothing;
@@ -100,7 +100,7 @@ pub fn number(f: &[u8], limit: u32) -> Said
 // The type's code that the last letter makes after the letters r.
 fn last_letter(t: u32, c: u8) -> Said
     requires { t ≤ 30 }
-    ensures { result ≡ saidBy (typeUpTo typeLimit (lastLetter t c [])) }
+    ensures { result ≡ said_by (type_up_to type_limit (last_letter t c [])) }
 {
     if c == b'i' {
         return Said::Number(t);
@@ -113,7 +113,7 @@ fn last_letter(t: u32, c: u8) -> Said
 
 // The code of the type that a field says: 0 to 15 letters r, then i or b.
 pub fn type_code(f: &[u8]) -> Said
-    ensures { result ≡ saidBy (type_of f.now) }
+    ensures { result ≡ said_by (type_of f.now) }
 {
     let mut references: u32 = 0;
     let mut i = 0;

@@ -1,7 +1,7 @@
 // The words of the kinds: compared with fields in reading, copied out in writing.
 ghost use Rattle.std.specs.Prelude.{◌≡◌};
-ghost use Rattle.text.specs.Fields.{sameBytes, kindNamed};
-ghost use Rattle.text.specs.Code.Scan.{saidBy};
+ghost use Rattle.text.specs.Fields.{same_bytes, kind_named};
+ghost use Rattle.text.specs.Code.Scan.{said_by};
 
 use script::table::KINDS;
 use text::Said;
@@ -15,7 +15,7 @@ pub const LENGTHS: [usize; KINDS as usize] = [3, 4, 5, 3, 3, 2, 3, 3, 2, 3, 3, 3
 
 // Whether two byte strings are the same.
 pub fn same(a: &[u8], b: &[u8]) -> bool
-    ensures { result ≡ sameBytes a.now b.now }
+    ensures { result ≡ same_bytes a.now b.now }
 {
     if a.len() != b.len() {
         return false;
@@ -32,7 +32,7 @@ pub fn same(a: &[u8], b: &[u8]) -> bool
 
 // The kind whose word the field is.
 pub fn kind_of(f: &[u8]) -> Said
-    ensures { result ≡ saidBy (kindNamed f.now) }
+    ensures { result ≡ said_by (kind_named f.now) }
 {
     let words = WORDS;
     let lengths = LENGTHS;

@@ -1,10 +1,10 @@
 // The forks of a path: what is kept where both branches of an `if` can be taken, what is set again there, and the condition on each branch. A fork has the
 // frame of the `if` and the path's own numbers, seven small ones in two.
 ghost use Rattle.std.specs.Prelude.{◌≡◌, ◌+◌, ◌*◌, ◌-◌, ◌≤◌, ◌<◌, eqb, length};
-ghost use Rattle.terms.specs.Terms.{Space, ofConjunction, ofExclusion};
-ghost use Rattle.workspace.specs.Forks.{forkedIn, Forkable, Forks, Rewound, RestoredOne};
+ghost use Rattle.terms.specs.Terms.{Space, of_conjunction, of_exclusion};
+ghost use Rattle.workspace.specs.Forks.{forked_in, Forkable, Forks, Rewound, RestoredOne};
 ghost use Rattle.workspace.specs.Paths.{assumed};
-ghost use Rattle.workspace.specs.Places.{framesSize, spaceSize, forkLimit, frameWidth};
+ghost use Rattle.workspace.specs.Places.{frames_size, space_size, fork_limit, frame_width};
 
 use terms::{CONJUNCTION, COUNT, EXCLUSION, push};
 use workspace::{
@@ -29,11 +29,11 @@ pub fn fork(space: &[u32], frames: &mut [u32])
 
 // The numbers of the path are those of its last fork, which is left no more. Nothing is known of its condition.
 pub fn rewind(space: &mut [u32], frames: &mut [u32])
-    requires space_size_in_bounds { spaceSize ≤ length space.old }
-    requires frames_size_in_bounds { framesSize ≤ length frames.old }
-    requires bound { 1 ≤ forkedIn frames.old }
-    requires frames_bound { forkedIn frames.old ≤ forkLimit }
-    ensures { Rewound (forkedIn frames.old - 1) space.old frames.old space.new frames.new }
+    requires space_size_in_bounds { space_size ≤ length space.old }
+    requires frames_size_in_bounds { frames_size ≤ length frames.old }
+    requires bound { 1 ≤ forked_in frames.old }
+    requires frames_bound { forked_in frames.old ≤ fork_limit }
+    ensures { Rewound (forked_in frames.old - 1) space.old frames.old space.new frames.new }
 {
     let count = frames[FORKED] - 1;
     let at = FORKS + FORK * (count as usize);
@@ -53,7 +53,7 @@ pub fn rewind(space: &mut [u32], frames: &mut [u32])
 
 // The variable before place d is the one that frame f has, if that waits for the body of a `let`. Answers how many variables are left.
 pub fn restore_one(space: &mut [u32], frames: &[u32], f: usize, d: usize) -> usize
-    requires f_in_bounds { frameWidth * f + 3 < length frames.now }
+    requires f_in_bounds { frame_width * f + 3 < length frames.now }
     requires d_in_bounds { 2 * d ≤ length space.old }
     requires le_d { 1 ≤ d }
     ensures { RestoredOne frames.now f d space.old result space.new }
@@ -68,8 +68,8 @@ pub fn restore_one(space: &mut [u32], frames: &[u32], f: usize, d: usize) -> usi
 
 // Whether no fork is left.
 pub fn none_left(frames: &[u32]) -> bool
-    requires { framesSize ≤ length frames.now }
-    ensures { result ≡ eqb (forkedIn frames.now) 0 }
+    requires { frames_size ≤ length frames.now }
+    ensures { result ≡ eqb (forked_in frames.now) 0 }
 {
     frames[FORKED] == 0
 }
@@ -77,7 +77,7 @@ pub fn none_left(frames: &[u32]) -> bool
 // The condition becomes a row of it and the guard.
 fn assume(space: &mut [u32], op: u32, guard: u32)
     requires space { Space space.old 1 }
-    requires space_size_in_bounds { spaceSize ≤ length space.old }
+    requires space_size_in_bounds { space_size ≤ length space.old }
     ensures { space.new ≡ assumed space.old op guard }
 {
     let condition = space[CONDITION];
@@ -88,8 +88,8 @@ fn assume(space: &mut [u32], op: u32, guard: u32)
 // The condition where the guard holds: their conjunction.
 pub fn with_guard(space: &mut [u32], guard: u32)
     requires space { Space space.old 1 }
-    requires space_size_in_bounds { spaceSize ≤ length space.old }
-    ensures { space.new ≡ assumed space.old ofConjunction guard }
+    requires space_size_in_bounds { space_size ≤ length space.old }
+    ensures { space.new ≡ assumed space.old of_conjunction guard }
 {
     assume(space, CONJUNCTION, guard);
 }
@@ -97,8 +97,8 @@ pub fn with_guard(space: &mut [u32], guard: u32)
 // The condition where it does not: the condition without the guard.
 pub fn without_guard(space: &mut [u32], guard: u32)
     requires space { Space space.old 1 }
-    requires space_size_in_bounds { spaceSize ≤ length space.old }
-    ensures { space.new ≡ assumed space.old ofExclusion guard }
+    requires space_size_in_bounds { space_size ≤ length space.old }
+    ensures { space.new ≡ assumed space.old of_exclusion guard }
 {
     assume(space, EXCLUSION, guard);
 }

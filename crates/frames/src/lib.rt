@@ -2,9 +2,9 @@
 // and what it waits for, and the type and the place of its first operand's value. Frames are only added, so a path can come back to any of them; there is
 // no frame 0. `forks` has what is kept where both branches of an `if` can be taken.
 ghost use Rattle.std.specs.Prelude.{◌≡◌, ◌*◌, ◌/◌, ◌≤◌, ◌<◌, length, set};
-ghost use Rattle.script.specs.Limits.{nodeLimit};
-ghost use Rattle.workspace.specs.Frames.{frameIn, Waitable, Waits, frame_at, waits_for, Descends, Descendable, awaitLimit, goesTo};
-ghost use Rattle.workspace.specs.Places.{framesEnd, goalAt};
+ghost use Rattle.script.specs.Limits.{node_limit};
+ghost use Rattle.workspace.specs.Frames.{frame_in, Waitable, Waits, frame_at, waits_for, Descends, Descendable, await_limit, goes_to};
+ghost use Rattle.workspace.specs.Places.{frames_end, goal_at};
 
 pub mod forks;
 
@@ -15,7 +15,7 @@ use workspace::{AWAITS, FOR_FIRST, FRAME, Frame, GOAL, TOP};
 // Node n waits for an operand, where the first one gave x and y, if it has given yet.
 pub fn wait(frames: &mut [u32], n: u32, awaits: u32, x: u32, y: u32)
     requires waitable { Waitable frames.old }
-    requires awaits_lt_await_limit { awaits < awaitLimit }
+    requires awaits_lt_await_limit { awaits < await_limit }
     ensures { Waits n awaits x y frames.old frames.new }
 {
     let top = frames[TOP] + 1;
@@ -31,10 +31,10 @@ pub fn wait(frames: &mut [u32], n: u32, awaits: u32, x: u32, y: u32)
 
 // The frame that a value goes to; the next one goes to where this one's does.
 pub fn leave(frames: &mut [u32]) -> Frame
-    requires frames_end_in_bounds { framesEnd ≤ length frames.old }
-    requires frames_bound { frameIn frames.old < nodeLimit }
-    ensures value { result ≡ frame_at frames.old (frameIn frames.old) }
-    ensures frames_after { frames.new ≡ set frames.old goalAt (goesTo frames.old (frameIn frames.old)) }
+    requires frames_end_in_bounds { frames_end ≤ length frames.old }
+    requires frames_bound { frame_in frames.old < node_limit }
+    ensures value { result ≡ frame_at frames.old (frame_in frames.old) }
+    ensures frames_after { frames.new ≡ set frames.old goal_at (goes_to frames.old (frame_in frames.old)) }
 {
     let at = FRAME * (frames[GOAL] as usize);
     let up = frames[at + 1];

@@ -2,7 +2,7 @@
 -- cells. Assumes nothing.
 use Rattle.std.specs.Prelude.{List, ◌≡◌, refl, ℕ, zero, suc, ◌/◌, ◌%◌, ◌<◌}
 use Rattle.std.proofs.Common.{ap, ap₂, ◌∙◌, arith}
-use Rattle.script.specs.Answers.{number_of, place_of, kind_of, bits_of, Report, typeIs, valueIs, errorAt, refusedWith, reportOfCheck, reportOfRun}
+use Rattle.script.specs.Answers.{number_of, place_of, kind_of, bits_of, Report, type_is, value_is, error_at, refused_with, report_of_check, report_of_run}
 use Rattle.script.specs.Answers.Bounds.{PlaceBelow, no_place, place-below, number-most, kind-most}
 use Rattle.script.specs.declared.Checked.{Checked}
 use Rattle.script.specs.declared.Place.{Place}
@@ -10,15 +10,15 @@ use Rattle.script.specs.declared.Place.TheVariants.{Nowhere, At}
 use Rattle.script.specs.declared.Ran.{Ran}
 use Rattle.script.specs.declared.Refusal.{Refusal}
 use Rattle.rules.specs.Checking.Bounds.{Bounded, code, refusal}
-use Rattle.rules.specs.Running.{lentLimit}
-use Rattle.answers.specs.Answers.{packed, placeField, answerOfRefusal, answerOfCheck, answerOfRun}
-use Rattle.host.specs.Texts.Bounds.{placeLimit, check-bounded, RanWithin, gave-within, failed-within, refused-within, run-within}
-use Rattle.host.specs.Texts.{checkText, runText, checkTextReport, runTextReport}
+use Rattle.rules.specs.Running.{lent_limit}
+use Rattle.answers.specs.Answers.{packed, place_field, answer_of_refusal, answer_of_check, answer_of_run}
+use Rattle.host.specs.Texts.Bounds.{place_limit, check-bounded, RanWithin, gave-within, failed-within, refused-within, run_within}
+use Rattle.host.specs.Texts.{check_text, run_text, check_text_report, run_text_report}
 
 -- ---- how a host takes an answer apart
 
-abbrev pub statusIn : ℕ → ℕ
-statusIn a = a % 256
+abbrev pub status_in : ℕ → ℕ
+status_in a = a % 256
 
 abbrev pub number_in : ℕ → ℕ
 number_in a = a / 256 % 256
@@ -26,94 +26,94 @@ number_in a = a / 256 % 256
 abbrev pub place_in : ℕ → ℕ
 place_in a = a / 65536 % 65536
 
-abbrev pub valueIn : ℕ → ℕ
-valueIn a = a / 4294967296
+abbrev pub value_in : ℕ → ℕ
+value_in a = a / 4294967296
 
-abbrev pub placeBy : ℕ → Place
-placeBy zero = Nowhere
-placeBy (suc i) = At i
+abbrev pub place_by : ℕ → Place
+place_by zero = Nowhere
+place_by (suc i) = At i
 
-abbrev pub refusedIn : ℕ → Report
-refusedIn a = refusedWith (number_in a) (placeBy (place_in a))
+abbrev pub refused_in : ℕ → Report
+refused_in a = refused_with (number_in a) (place_by (place_in a))
 
-abbrev pub checkedBy : ℕ → ℕ → Report
-checkedBy zero a = typeIs (valueIn a)
-checkedBy (suc s) a = refusedIn a
+abbrev pub checked_by : ℕ → ℕ → Report
+checked_by zero a = type_is (value_in a)
+checked_by (suc s) a = refused_in a
 
-abbrev pub checkedIn : ℕ → Report
-checkedIn a = checkedBy (statusIn a) a
+abbrev pub checked_in : ℕ → Report
+checked_in a = checked_by (status_in a) a
 
-abbrev pub ranBy : ℕ → ℕ → Report
-ranBy zero a = valueIs (number_in a) (valueIn a) (place_in a)
-ranBy (suc zero) a = refusedIn a
-ranBy (suc (suc s)) a = errorAt (valueIn a) (place_in a)
+abbrev pub ran_by : ℕ → ℕ → Report
+ran_by zero a = value_is (number_in a) (value_in a) (place_in a)
+ran_by (suc zero) a = refused_in a
+ran_by (suc (suc s)) a = error_at (value_in a) (place_in a)
 
-abbrev pub ranIn : ℕ → Report
-ranIn a = ranBy (statusIn a) a
+abbrev pub ran_in : ℕ → Report
+ran_in a = ran_by (status_in a) a
 
 -- ---- the fields of a packed number
 
 module _ (s n p v : ℕ) (hs : s < 256) (hn : n < 256) (hp : p < 65536) where
-  status-in : statusIn (packed s n p v) ≡ s
-  status-in = omega arith
+  status_in_lem : status_in (packed s n p v) ≡ s
+  status_in_lem = omega arith
 
-  number-in : number_in (packed s n p v) ≡ n
-  number-in = omega arith
+  number_in_lem : number_in (packed s n p v) ≡ n
+  number_in_lem = omega arith
 
-  place-in : place_in (packed s n p v) ≡ p
-  place-in = omega arith
+  place_in_lem : place_in (packed s n p v) ≡ p
+  place_in_lem = omega arith
 
-  value_in : valueIn (packed s n p v) ≡ v
-  value_in = omega arith
+  value_in_lem : value_in (packed s n p v) ≡ v
+  value_in_lem = omega arith
 
 -- ---- refusals
 
-place-back : (p : Place) → placeBy (placeField p) ≡ p
-place-back Nowhere = refl
-place-back (At i) = refl
+place_back : (p : Place) → place_by (place_field p) ≡ p
+place_back Nowhere = refl
+place_back (At i) = refl
 
-field-few : {p : Place} → PlaceBelow placeLimit p → placeField p < 65536
+field-few : {p : Place} → PlaceBelow place_limit p → place_field p < 65536
 field-few no_place = omega arith
 field-few (place-below {i = i} h) = omega arith
 
-module _ (r : Refusal) (h : PlaceBelow placeLimit (place_of r)) where
+module _ (r : Refusal) (h : PlaceBelow place_limit (place_of r)) where
   number-few : number_of r < 256
   number-few = let n = number-most r in omega arith
 
-  refused-status : statusIn (answerOfRefusal r) ≡ 1
-  refused-status = status-in 1 (number_of r) (placeField (place_of r)) 0 (omega arith) number-few (field-few h)
+  refused_status : status_in (answer_of_refusal r) ≡ 1
+  refused_status = status_in_lem 1 (number_of r) (place_field (place_of r)) 0 (omega arith) number-few (field-few h)
 
-  refused-report : refusedIn (answerOfRefusal r) ≡ refusedWith (number_of r) (place_of r)
-  refused-report =
-      ap₂ refusedWith
-      (number-in 1 (number_of r) (placeField (place_of r)) 0 (omega arith) number-few (field-few h))
-      (ap placeBy (place-in 1 (number_of r) (placeField (place_of r)) 0 (omega arith) number-few (field-few h)) ∙ place-back (place_of r))
+  refused_report : refused_in (answer_of_refusal r) ≡ refused_with (number_of r) (place_of r)
+  refused_report =
+      ap₂ refused_with
+      (number_in_lem 1 (number_of r) (place_field (place_of r)) 0 (omega arith) number-few (field-few h))
+      (ap place_by (place_in_lem 1 (number_of r) (place_field (place_of r)) 0 (omega arith) number-few (field-few h)) ∙ place_back (place_of r))
 
 -- ---- the theorems
 
-checked-back : {c : Checked} → Bounded placeLimit c → checkedIn (answerOfCheck c) ≡ reportOfCheck c
-checked-back (code {t = t} h) =
+checked_back : {c : Checked} → Bounded place_limit c → checked_in (answer_of_check c) ≡ report_of_check c
+checked_back (code {t = t} h) =
     let a = packed 0 0 0 t in
-    ap (λ (s : ℕ). checkedBy s a) (status-in 0 0 0 t (omega arith) (omega arith) (omega arith)) ∙ ap typeIs (value_in 0 0 0 t (omega arith) (omega arith) (omega arith))
-checked-back (refusal {r = r} h) = ap (λ (s : ℕ). checkedBy s (answerOfRefusal r)) (refused-status r h) ∙ refused-report r h
+    ap (λ (s : ℕ). checked_by s a) (status_in_lem 0 0 0 t (omega arith) (omega arith) (omega arith)) ∙ ap type_is (value_in_lem 0 0 0 t (omega arith) (omega arith) (omega arith))
+checked_back (refusal {r = r} h) = ap (λ (s : ℕ). checked_by s (answer_of_refusal r)) (refused_status r h) ∙ refused_report r h
 
-pub check-loses-nothing : (text : List ℕ) → checkedIn (answerOfCheck (checkText text)) ≡ checkTextReport text
-check-loses-nothing text = checked-back (check-bounded text)
+pub check_loses_nothing : (text : List ℕ) → checked_in (answer_of_check (check_text text)) ≡ check_text_report text
+check_loses_nothing text = checked_back (check-bounded text)
 
-ran-back : {r : Ran} → RanWithin placeLimit lentLimit r → ranIn (answerOfRun r) ≡ reportOfRun r
-ran-back (gave-within {v = v} {used = used} h) =
+ran_back : {r : Ran} → RanWithin place_limit lent_limit r → ran_in (answer_of_run r) ≡ report_of_run r
+ran_back (gave-within {v = v} {used = used} h) =
     let k = kind-most v in
     let a = packed 0 (kind_of v) used (bits_of v) in
     let few : kind_of v < 256 = omega arith in
     let room : used < 65536 = omega arith in
-    ap (λ (s : ℕ). ranBy s a) (status-in 0 (kind_of v) used (bits_of v) (omega arith) few room)
-    ∙ ap (λ (n : ℕ). valueIs n (valueIn a) (place_in a)) (number-in 0 (kind_of v) used (bits_of v) (omega arith) few room)
-    ∙ ap₂ (valueIs (kind_of v)) (value_in 0 (kind_of v) used (bits_of v) (omega arith) few room) (place-in 0 (kind_of v) used (bits_of v) (omega arith) few room)
-ran-back (failed-within {i = i} {used = used} b h) =
+    ap (λ (s : ℕ). ran_by s a) (status_in_lem 0 (kind_of v) used (bits_of v) (omega arith) few room)
+    ∙ ap (λ (n : ℕ). value_is n (value_in a) (place_in a)) (number_in_lem 0 (kind_of v) used (bits_of v) (omega arith) few room)
+    ∙ ap₂ (value_is (kind_of v)) (value_in_lem 0 (kind_of v) used (bits_of v) (omega arith) few room) (place_in_lem 0 (kind_of v) used (bits_of v) (omega arith) few room)
+ran_back (failed-within {i = i} {used = used} b h) =
     let room : used < 65536 = omega arith in
-    ap (λ (s : ℕ). ranBy s (packed 2 0 used i)) (status-in 2 0 used i (omega arith) (omega arith) room)
-    ∙ ap₂ errorAt (value_in 2 0 used i (omega arith) (omega arith) room) (place-in 2 0 used i (omega arith) (omega arith) room)
-ran-back (refused-within {r = r} h) = ap (λ (s : ℕ). ranBy s (answerOfRefusal r)) (refused-status r h) ∙ refused-report r h
+    ap (λ (s : ℕ). ran_by s (packed 2 0 used i)) (status_in_lem 2 0 used i (omega arith) (omega arith) room)
+    ∙ ap₂ error_at (value_in_lem 2 0 used i (omega arith) (omega arith) room) (place_in_lem 2 0 used i (omega arith) (omega arith) room)
+ran_back (refused-within {r = r} h) = ap (λ (s : ℕ). ran_by s (answer_of_refusal r)) (refused_status r h) ∙ refused_report r h
 
-pub run-loses-nothing : (text values cells : List ℕ) (used : ℕ) → ranIn (answerOfRun (runText text values cells used).answer) ≡ runTextReport text values cells used
-run-loses-nothing text values cells used = ran-back (run-within text values cells used)
+pub run_loses_nothing : (text values cells : List ℕ) (used : ℕ) → ran_in (answer_of_run (run_text text values cells used).answer) ≡ run_text_report text values cells used
+run_loses_nothing text values cells used = ran_back (run_within text values cells used)

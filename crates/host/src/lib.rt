@@ -1,8 +1,8 @@
 // The library for a host in C: checking and running of script text, each answered by one number. `teqharis_check` and `teqharis_run` are what C calls;
 // `check_text` and `run_text` are the same calls with answers as enums, for Rattle.
 ghost use Rattle.std.specs.Prelude.{◌≡◌};
-ghost use Rattle.answers.specs.Answers.{answerOfCheck, AnswersRun};
-ghost use Rattle.host.specs.Texts.{checkText, runText, RanTo};
+ghost use Rattle.answers.specs.Answers.{answer_of_check, AnswersRun};
+ghost use Rattle.host.specs.Texts.{check_text, run_text, RanTo};
 
 use answers::{check_answer, run_answer};
 use script::table::WIDTH;
@@ -10,7 +10,7 @@ use script::{Checked, Ran, Reading, Script};
 
 // Reads a text and checks it: accepted with its type, or why not.
 pub fn check_text(text: &[u8]) -> Checked
-    ensures { result ≡ checkText text.now }
+    ensures { result ≡ check_text text.now }
 {
     let mut table = [0u32; WIDTH * Script::NODES];
     let mut entries = [0u32; Script::ENTRIES];
@@ -26,7 +26,7 @@ pub fn check_text(text: &[u8]) -> Checked
 
 // Reads a text and runs it on entry values and cells, of which the first `used` are used: a value or the error state, or why not.
 pub fn run_text(text: &[u8], values: &[u8], cells: &mut [u8], used: u32) -> Ran
-    ensures { RanTo (runText text.now values.now cells.old used) result cells.new }
+    ensures { RanTo (run_text text.now values.now cells.old used) result cells.new }
 {
     let mut table = [0u32; WIDTH * Script::NODES];
     let mut entries = [0u32; Script::ENTRIES];
@@ -43,7 +43,7 @@ pub fn run_text(text: &[u8], values: &[u8], cells: &mut [u8], used: u32) -> Ran
 // Checks a script text. The answer is a number that include/teqharis.h takes apart.
 #[unsafe(no_mangle)]
 pub extern "C" fn teqharis_check(text: &[u8]) -> u64
-    ensures { result ≡ answerOfCheck (checkText text.now) }
+    ensures { result ≡ answer_of_check (check_text text.now) }
 {
     check_answer(check_text(text))
 }
@@ -51,7 +51,7 @@ pub extern "C" fn teqharis_check(text: &[u8]) -> u64
 // Runs a script text on entry values and cells. The answer is a number that include/teqharis.h takes apart.
 #[unsafe(no_mangle)]
 pub extern "C" fn teqharis_run(text: &[u8], values: &[u8], cells: &mut [u8], used: u32) -> u64
-    ensures { AnswersRun (runText text.now values.now cells.old used) result cells.new }
+    ensures { AnswersRun (run_text text.now values.now cells.old used) result cells.new }
 {
     run_answer(run_text(text, values, cells, used))
 }

@@ -9,26 +9,26 @@ use Rattle.std.proofs.Math.Decide.{dec_lt}
 use Rattle.std.specs.Int.Bits.{bit_or}
 use Rattle.std.proofs.Math.ListN.{length-replicate, get_or-eq_default}
 use Rattle.script.specs.Tests.{pick}
-use Rattle.script.specs.Tests.Bits.{or-first-most, or-second-most}
-use Rattle.script.specs.Rows.Laws.{same-anywhere}
-use Rattle.terms.specs.Places.{rowLimit}
-use Rattle.terms.specs.Terms.{row_in, firstAtom, ofTruth}
+use Rattle.script.specs.Tests.Bits.{or_first-most, or_second-most}
+use Rattle.script.specs.Rows.Laws.{same_anywhere}
+use Rattle.terms.specs.Places.{row_limit}
+use Rattle.terms.specs.Terms.{row_in, first_atom, of_truth}
 use Rattle.terms.specs.declared.Row.{Row}
-use Rattle.rows.specs.Code.{patternOf, rowWord, word_of, words, rows_from, evaluateRow, evaluatedTo, changeOf, changeRow, changedTo, changesOf}
+use Rattle.rows.specs.Code.{pattern_of, row_word, word_of, words, rows_from, evaluate_row, evaluated_to, change_of, change_row, changed_to, changes_of}
 use Rattle.rows.specs.Code.Laws.{words-length, operand-out}
-use Rattle.known.specs.Ordered.{taken-alike, filledTo, filled-alike, after, after-length, after_kept, after-fixed, after-all}
+use Rattle.known.specs.Ordered.{taken-alike, filled_to, filled_alike, after, after-length, after_kept, after-fixed, after-all}
 use Rattle.known.specs.Words.{words-at, words_same}
 
 -- ---- words
 
 module _ (ws : List ℕ) (ns : List ℕ) (block : ℕ) where
-  abbrev wordBy : List ℕ → ℕ → ℕ
-  wordBy xs i = rowWord (row_in ws i) (get_or xs (row_in ws i).a 0) (get_or xs (row_in ws i).b 0) (get_or ns i 0) block
+  abbrev word_by : List ℕ → ℕ → ℕ
+  word_by xs i = row_word (row_in ws i) (get_or xs (row_in ws i).a 0) (get_or xs (row_in ws i).b 0) (get_or ns i 0) block
 
-  evaluated-filled : (os vs : List ℕ) (m : ℕ) → evaluatedTo ws os ns block vs m ≡ filledTo wordBy os vs m
-  unfolding evaluatedTo evaluateRow filledTo
-  evaluated-filled os vs zero = refl
-  evaluated-filled os vs (suc m) = rw (evaluated-filled os vs m) refl
+  evaluated_filled : (os vs : List ℕ) (m : ℕ) → evaluated_to ws os ns block vs m ≡ filled_to word_by os vs m
+  unfolding evaluated_to evaluate_row filled_to
+  evaluated_filled os vs zero = refl
+  evaluated_filled os vs (suc m) = rw (evaluated_filled os vs m) refl
 
   module _ (ms : List ℕ) (least n : ℕ) where
     abbrev all : List ℕ
@@ -43,7 +43,7 @@ module _ (ws : List ℕ) (ns : List ℕ) (block : ℕ) where
             let e = words-length ws ms least ns block i in
             get_or-eq_default (words ws ms least ns block i) 0 (omega arith) ∙ sym (operand-out all i a (omega arith))
 
-    pub word-fixed : (i : ℕ) → i < n → least ≤ get_or ms i 0 → get_or all i 0 ≡ wordBy (take i all) i
+    pub word-fixed : (i : ℕ) → i < n → least ≤ get_or ms i 0 → get_or all i 0 ≡ word_by (take i all) i
     unfolding word_of
     word-fixed i h m =
         words-at ws ms least ns block n i h
@@ -52,99 +52,99 @@ module _ (ws : List ℕ) (ns : List ℕ) (block : ℕ) where
     -- the rows that are listed have the mark, and the others have their words
     module _ (fs : List ℕ) (low : ℕ) (os : List ℕ) (count : ℕ) (many : count ≡ length (rows_from fs low n)) (is : take count os ≡ rows_from fs low n)
         (listed : (i : ℕ) → i < n → low ≤ get_or fs i 0 → least ≤ get_or ms i 0) (vs : List ℕ) where
-      evaluated-after : evaluatedTo ws os ns block vs count ≡ after wordBy fs low vs n
+      evaluated_after : evaluated_to ws os ns block vs count ≡ after word_by fs low vs n
       unfolding after
-      evaluated-after =
-          evaluated-filled os vs count ∙ filled-alike wordBy os (rows_from fs low n) vs count (taken-alike os (rows_from fs low n) count is)
-          ∙ ap (filledTo wordBy (rows_from fs low n) vs) many
+      evaluated_after =
+          evaluated_filled os vs count ∙ filled_alike word_by os (rows_from fs low n) vs count (taken-alike os (rows_from fs low n) count is)
+          ∙ ap (filled_to word_by (rows_from fs low n) vs) many
 
-      pub evaluated-length : length (evaluatedTo ws os ns block vs count) ≡ length vs
-      evaluated-length = ap length evaluated-after ∙ after-length wordBy fs low vs n
+      pub evaluated_length : length (evaluated_to ws os ns block vs count) ≡ length vs
+      evaluated_length = ap length evaluated_after ∙ after-length word_by fs low vs n
 
-      pub evaluated-words : n ≤ length vs → ((i : ℕ) → i < n → get_or fs i 0 < low → get_or vs i 0 ≡ get_or all i 0) → take n (evaluatedTo ws os ns block vs count) ≡ all
-      evaluated-words long there =
+      pub evaluated_words : n ≤ length vs → ((i : ℕ) → i < n → get_or fs i 0 < low → get_or vs i 0 ≡ get_or all i 0) → take n (evaluated_to ws os ns block vs count) ≡ all
+      evaluated_words long there =
           let l = words-length ws ms least ns block n in
-          ap (take n) evaluated-after
-          ∙ after-all wordBy fs low vs all (λ i h m. word-fixed i (omega arith) (listed i (omega arith) m)) (λ i h m. there i (omega arith) m) n long (omega arith)
+          ap (take n) evaluated_after
+          ∙ after-all word_by fs low vs all (λ i h m. word-fixed i (omega arith) (listed i (omega arith) m)) (λ i h m. there i (omega arith) m) n long (omega arith)
           ∙ take_all n all (omega arith)
 
 -- ---- the rows whose words may differ
 
-pattern-steady : (m block : ℕ) → m < 6 → patternOf m block ≡ patternOf m 0
-unfolding patternOf
-pattern-steady zero block h = refl
-pattern-steady (suc zero) block h = refl
-pattern-steady (suc (suc zero)) block h = refl
-pattern-steady (suc (suc (suc zero))) block h = refl
-pattern-steady (suc (suc (suc (suc zero)))) block h = refl
-pattern-steady (suc (suc (suc (suc (suc zero))))) block h = refl
-pattern-steady (suc (suc (suc (suc (suc (suc m)))))) block h = absurd (omega arith)
+pattern_steady : (m block : ℕ) → m < 6 → pattern_of m block ≡ pattern_of m 0
+unfolding pattern_of
+pattern_steady zero block h = refl
+pattern_steady (suc zero) block h = refl
+pattern_steady (suc (suc zero)) block h = refl
+pattern_steady (suc (suc (suc zero))) block h = refl
+pattern_steady (suc (suc (suc (suc zero)))) block h = refl
+pattern_steady (suc (suc (suc (suc (suc zero))))) block h = refl
+pattern_steady (suc (suc (suc (suc (suc (suc m)))))) block h = absurd (omega arith)
 
 -- of an atom and of another row
-change-atom : (r : Row) (m x y : ℕ) → firstAtom ≤ r.op → changeOf r m x y ≡ 0 → m < 6
-unfolding changeOf
-change-atom r m x y h e = go (ltb m 6) refl (rw (le-ltb r.op firstAtom h) at e)
+change_atom : (r : Row) (m x y : ℕ) → first_atom ≤ r.op → change_of r m x y ≡ 0 → m < 6
+unfolding change_of
+change_atom r m x y h e = go (ltb m 6) refl (rw (le-ltb r.op first_atom h) at e)
   where
     go : (t : Bool) → ltb m 6 ≡ t → ◌≡◌ {A = ℕ} (pick t 0 1) 0 → m < 6
     go true q z = ltb-true m 6 q
     go false q z = absurd (omega arith)
 
-change-operands : (r : Row) (m x y : ℕ) → r.op < firstAtom → changeOf r m x y ≡ 0 → (x ≡ 0) × (y ≡ 0)
-unfolding changeOf
-change-operands r m x y h e =
-    let z : bit_or x y ≡ 0 = rw (lt-ltb r.op firstAtom h) at e in
-    let a = or-first-most x y in
-    let b = or-second-most x y in
+change_operands : (r : Row) (m x y : ℕ) → r.op < first_atom → change_of r m x y ≡ 0 → (x ≡ 0) × (y ≡ 0)
+unfolding change_of
+change_operands r m x y h e =
+    let z : bit_or x y ≡ 0 = rw (lt-ltb r.op first_atom h) at e in
+    let a = or_first-most x y in
+    let b = or_second-most x y in
     (omega arith, omega arith)
 
-row-steady : (r : Row) (x y u v m block : ℕ) → r.op < firstAtom → x ≡ u → y ≡ v → rowWord r x y m block ≡ rowWord r u v m 0
-unfolding rowWord
-row-steady r x y u v m block h ex ey = rw (lt-leb firstAtom r.op h, ex, ey) refl
+row-steady : (r : Row) (x y u v m block : ℕ) → r.op < first_atom → x ≡ u → y ≡ v → row_word r x y m block ≡ row_word r u v m 0
+unfolding row_word
+row-steady r x y u v m block h ex ey = rw (lt-leb first_atom r.op h, ex, ey) refl
 
-atom-steady : (r : Row) (x y u v m block : ℕ) → firstAtom ≤ r.op → m < 6 → rowWord r x y m block ≡ rowWord r u v m 0
-unfolding rowWord
-atom-steady r x y u v m block h l = rw (le-leb firstAtom r.op h) (pattern-steady m block l)
+atom-steady : (r : Row) (x y u v m block : ℕ) → first_atom ≤ r.op → m < 6 → row_word r x y m block ≡ row_word r u v m 0
+unfolding row_word
+atom-steady r x y u v m block h l = rw (le-leb first_atom r.op h) (pattern_steady m block l)
 
-module _ (ws ns ms : List ℕ) (least n : ℕ) (few : n ≤ rowLimit) (os : List ℕ) (count : ℕ) (many : count ≡ length (rows_from ms least n)) (is : take count os ≡ rows_from ms least n) where
+module _ (ws ns ms : List ℕ) (least n : ℕ) (few : n ≤ row_limit) (os : List ℕ) (count : ℕ) (many : count ≡ length (rows_from ms least n)) (is : take count os ≡ rows_from ms least n) where
   abbrev changes : List ℕ
-  changes = changesOf ws os ns count
+  changes = changes_of ws os ns count
 
-  changeBy : List ℕ → ℕ → ℕ
-  changeBy hs i = changeOf (row_in ws i) (get_or ns i 0) (get_or hs (row_in ws i).a 0) (get_or hs (row_in ws i).b 0)
+  change_by : List ℕ → ℕ → ℕ
+  change_by hs i = change_of (row_in ws i) (get_or ns i 0) (get_or hs (row_in ws i).a 0) (get_or hs (row_in ws i).b 0)
 
-  changed-filled : (os vs : List ℕ) (m : ℕ) → changedTo ws os ns vs m ≡ filledTo changeBy os vs m
-  unfolding changedTo changeRow filledTo changeBy
-  changed-filled os vs zero = refl
-  changed-filled os vs (suc m) = rw (changed-filled os vs m) refl
+  changed_filled : (os vs : List ℕ) (m : ℕ) → changed_to ws os ns vs m ≡ filled_to change_by os vs m
+  unfolding changed_to change_row filled_to change_by
+  changed_filled os vs zero = refl
+  changed_filled os vs (suc m) = rw (changed_filled os vs m) refl
 
-  changes-after : changes ≡ after changeBy ms least (replicate rowLimit 0) n
-  unfolding changesOf after
+  changes-after : changes ≡ after change_by ms least (replicate row_limit 0) n
+  unfolding changes_of after
   changes-after =
-      changed-filled os (replicate rowLimit 0) count
-      ∙ filled-alike changeBy os (rows_from ms least n) (replicate rowLimit 0) count (taken-alike os (rows_from ms least n) count is)
-      ∙ ap (filledTo changeBy (rows_from ms least n) (replicate rowLimit 0)) many
+      changed_filled os (replicate row_limit 0) count
+      ∙ filled_alike change_by os (rows_from ms least n) (replicate row_limit 0) count (taken-alike os (rows_from ms least n) count is)
+      ∙ ap (filled_to change_by (rows_from ms least n) (replicate row_limit 0)) many
 
-  pub changes-length : length changes ≡ rowLimit
-  changes-length = ap length changes-after ∙ after-length changeBy ms least (replicate rowLimit 0) n ∙ length-replicate {A = ℕ} rowLimit 0
+  pub changes-length : length changes ≡ row_limit
+  changes-length = ap length changes-after ∙ after-length change_by ms least (replicate row_limit 0) n ∙ length-replicate {A = ℕ} row_limit 0
 
   -- of a row without the mark it is not said
-  pub change-none : (i : ℕ) → get_or ms i 0 < least → get_or changes i 0 ≡ 0
-  change-none i m =
-      ap (λ (l : List ℕ). get_or l i 0) changes-after ∙ after_kept changeBy ms least (replicate rowLimit 0) i m n ∙ same-anywhere rowLimit 0 i
+  pub change_none : (i : ℕ) → get_or ms i 0 < least → get_or changes i 0 ≡ 0
+  change_none i m =
+      ap (λ (l : List ℕ). get_or l i 0) changes-after ∙ after_kept change_by ms least (replicate row_limit 0) i m n ∙ same_anywhere row_limit 0 i
 
-  pub change-listed : (i : ℕ) → 1 ≤ get_or changes i 0 → least ≤ get_or ms i 0
-  change-listed i h = go (dec_lt (get_or ms i 0) least)
+  pub change_listed : (i : ℕ) → 1 ≤ get_or changes i 0 → least ≤ get_or ms i 0
+  change_listed i h = go (dec_lt (get_or ms i 0) least)
     where
       go : Dec (get_or ms i 0 < least) → least ≤ get_or ms i 0
-      go (yes m) = let e = change-none i m in absurd (omega arith)
+      go (yes m) = let e = change_none i m in absurd (omega arith)
       go (no m) = omega arith
 
-  change-fixed : (i : ℕ) → i < n → least ≤ get_or ms i 0
-      → get_or changes i 0 ≡ changeOf (row_in ws i) (get_or ns i 0) (get_or (take i changes) (row_in ws i).a 0) (get_or (take i changes) (row_in ws i).b 0)
-  unfolding changeBy
-  change-fixed i h m =
-      let l = length-replicate {A = ℕ} rowLimit 0 in
-      rw changes-after (after-fixed changeBy ms least (replicate rowLimit 0) i n h (omega arith) m)
+  change_fixed : (i : ℕ) → i < n → least ≤ get_or ms i 0
+      → get_or changes i 0 ≡ change_of (row_in ws i) (get_or ns i 0) (get_or (take i changes) (row_in ws i).a 0) (get_or (take i changes) (row_in ws i).b 0)
+  unfolding change_by
+  change_fixed i h m =
+      let l = length-replicate {A = ℕ} row_limit 0 in
+      rw changes-after (after-fixed change_by ms least (replicate row_limit 0) i n h (omega arith) m)
 
   -- the word of an operand
   operand-steady : (block i a : ℕ) → i < n
@@ -164,19 +164,19 @@ module _ (ws ns ms : List ℕ) (least n : ℕ) (few : n ≤ rowLimit) (os : List
   -- a row of which it is not said has the same word in every block
   pub steady : (k i : ℕ) → i < k → i < n → get_or changes i 0 ≡ 0 → (block : ℕ) → get_or (words ws ms least ns block n) i 0 ≡ get_or (words ws ms least ns 0 n) i 0
   steady zero i l h z block = absurd (omega arith)
-  steady (suc k) i l h z block = go (dec_lt (get_or ms i 0) least) (dec_lt (row_in ws i).op ofTruth) (λ j m q. steady k j (omega arith) (omega arith) q block)
+  steady (suc k) i l h z block = go (dec_lt (get_or ms i 0) least) (dec_lt (row_in ws i).op of_truth) (λ j m q. steady k j (omega arith) (omega arith) q block)
     where
-      go : Dec (get_or ms i 0 < least) → Dec ((row_in ws i).op < firstAtom)
+      go : Dec (get_or ms i 0 < least) → Dec ((row_in ws i).op < first_atom)
           → ((j : ℕ) → j < i → get_or changes j 0 ≡ 0 → get_or (words ws ms least ns block n) j 0 ≡ get_or (words ws ms least ns 0 n) j 0)
           → get_or (words ws ms least ns block n) i 0 ≡ get_or (words ws ms least ns 0 n) i 0
       go (yes m) d ih = no_word block i h m ∙ sym (no_word 0 i h m)
       go (no m) (yes o) ih =
-          let e = change-operands (row_in ws i) (get_or ns i 0) _ _ o (sym (change-fixed i h (omega arith)) ∙ z) in
+          let e = change_operands (row_in ws i) (get_or ns i 0) _ _ o (sym (change_fixed i h (omega arith)) ∙ z) in
           word-fixed ws ns block ms least n i h (omega arith)
           ∙ row-steady (row_in ws i) _ _ _ _ (get_or ns i 0) block o (operand-steady block i (row_in ws i).a h ih e.0) (operand-steady block i (row_in ws i).b h ih e.1)
           ∙ sym (word-fixed ws ns 0 ms least n i h (omega arith))
       go (no m) (no o) ih =
-          let e = change-atom (row_in ws i) (get_or ns i 0) _ _ (omega arith) (sym (change-fixed i h (omega arith)) ∙ z) in
+          let e = change_atom (row_in ws i) (get_or ns i 0) _ _ (omega arith) (sym (change_fixed i h (omega arith)) ∙ z) in
           word-fixed ws ns block ms least n i h (omega arith) ∙ atom-steady (row_in ws i) _ _ _ _ (get_or ns i 0) block (omega arith) e
           ∙ sym (word-fixed ws ns 0 ms least n i h (omega arith))
 
@@ -187,41 +187,41 @@ pub record Steadily (ws ms : List ℕ) (least : ℕ) (ns : List ℕ) (n : ℕ) (
   pub long : n ≤ length vs
   pub there : (i : ℕ) → i < n → get_or fs i 0 < 1 → get_or vs i 0 ≡ get_or (words ws ms least ns 0 n) i 0
 
-module _ (ws ns ms : List ℕ) (least n : ℕ) (few : n ≤ rowLimit) (os : List ℕ) (count : ℕ) (many : count ≡ length (rows_from ms least n)) (is : take count os ≡ rows_from ms least n) where
+module _ (ws ns ms : List ℕ) (least n : ℕ) (few : n ≤ row_limit) (os : List ℕ) (count : ℕ) (many : count ≡ length (rows_from ms least n)) (is : take count os ≡ rows_from ms least n) where
   abbrev said : List ℕ
-  said = changesOf ws os ns count
+  said = changes_of ws os ns count
 
   none_said : (i : ℕ) → get_or said i 0 < 1 → get_or said i 0 ≡ 0
   none_said i h = omega arith
 
   -- after the first block
   module _ (vs : List ℕ) (zeros : (i : ℕ) → get_or vs i 0 ≡ 0) (long : n ≤ length vs) where
-    first-words : take n (evaluatedTo ws os ns 0 vs count) ≡ words ws ms least ns 0 n
+    first-words : take n (evaluated_to ws os ns 0 vs count) ≡ words ws ms least ns 0 n
     first-words =
-        evaluated-words ws ns 0 ms least n ms least os count many is (λ i h m. m) vs long
+        evaluated_words ws ns 0 ms least n ms least os count many is (λ i h m. m) vs long
         (λ i h m. zeros i ∙ sym (no_word ws ns ms least n few os count many is 0 i h m))
 
-    pub first-length : length (evaluatedTo ws os ns 0 vs count) ≡ length vs
-    first-length = evaluated-length ws ns 0 ms least n ms least os count many is (λ i h m. m) vs
+    pub first-length : length (evaluated_to ws os ns 0 vs count) ≡ length vs
+    first-length = evaluated_length ws ns 0 ms least n ms least os count many is (λ i h m. m) vs
 
-    pub first-steadily : Steadily ws ms least ns n said (evaluatedTo ws os ns 0 vs count)
+    pub first-steadily : Steadily ws ms least ns n said (evaluated_to ws os ns 0 vs count)
     first-steadily =
         let l = first-length in
-        record { long = omega arith; there = λ i h m. taken-alike (evaluatedTo ws os ns 0 vs count) _ n first-words i h }
+        record { long = omega arith; there = λ i h m. taken-alike (evaluated_to ws os ns 0 vs count) _ n first-words i h }
 
   -- after any other
   module _ (ls : List ℕ) (more : ℕ) (more-many : more ≡ length (rows_from said 1 n)) (later : take more ls ≡ rows_from said 1 n) (vs : List ℕ)
       (k : Steadily ws ms least ns n said vs) (block : ℕ) where
     abbrev now : List ℕ
-    now = evaluatedTo ws ls ns block vs more
+    now = evaluated_to ws ls ns block vs more
 
     pub later-words : take n now ≡ words ws ms least ns block n
     later-words =
-        evaluated-words ws ns block ms least n said 1 ls more more-many later (λ i h m. change-listed ws ns ms least n few os count many is i m) vs k.long
+        evaluated_words ws ns block ms least n said 1 ls more more-many later (λ i h m. change_listed ws ns ms least n few os count many is i m) vs k.long
         (λ i h m. k.there i h m ∙ sym (steady ws ns ms least n few os count many is (suc i) i (omega arith) h (none_said i m) block))
 
     pub later-length : length now ≡ length vs
-    later-length = evaluated-length ws ns block ms least n said 1 ls more more-many later (λ i h m. change-listed ws ns ms least n few os count many is i m) vs
+    later-length = evaluated_length ws ns block ms least n said 1 ls more more-many later (λ i h m. change_listed ws ns ms least n few os count many is i m) vs
 
     pub later-steadily : Steadily ws ms least ns n said now
     later-steadily =

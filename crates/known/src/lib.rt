@@ -1,9 +1,9 @@
 // What is known of a condition, so that it is not gone through again: the rows of its atoms, and its truths. It stands among the lent numbers from a place
 // on: 1 if something is known, how many atoms, their rows, and two numbers for each block.
 ghost use Rattle.std.specs.Prelude.{◌≡◌, ◌+◌, ◌*◌, ◌≤◌, ◌<◌, length, get_or, set};
-ghost use Rattle.terms.specs.Places.{rowLimit, rowsEnd};
+ghost use Rattle.terms.specs.Places.{row_limit, rows_end};
 ghost use Rattle.terms.specs.Terms.{row_in};
-ghost use Rattle.rows.specs.Code.{Rows, seenAfter, rank, knownSize, knownWord, knownNumbers, Sound, keepRow, Keepable, keptRows, keepWord, keptWords, kept, GuardListed, guardedWord, guardedWords, Comparable, compared};
+ghost use Rattle.rows.specs.Code.{Rows, seen_after, rank, known_size, known_word, known_numbers, Sound, keep_row, Keepable, kept_rows, keep_word, kept_words, kept, GuardListed, guarded_word, guarded_words, Comparable, compared};
 
 use rows::{CONDITION, Decision, blocks_of, both_found, branches_of, mark_all};
 use terms::{FIRST_ATOM, ROWS, RowNumber, row_at};
@@ -21,9 +21,9 @@ const HALF: u64 = 4294967296;
 
 // The truths under the assignments of a block.
 fn known_word(space: &[u32], at: usize, block: u32) -> u64
-    requires known_size_in_bounds { at + knownSize ≤ length space.now }
+    requires known_size_in_bounds { at + known_size ≤ length space.now }
     requires block_bound { block < 16 }
-    ensures { result ≡ knownWord space.now at block }
+    ensures { result ≡ known_word space.now at block }
 {
     let i = at + TRUTHS + 2 * (block as usize);
     (space[i] as u64) + (space[i + 1] as u64) * HALF
@@ -31,11 +31,11 @@ fn known_word(space: &[u32], at: usize, block: u32) -> u64
 
 // The atoms whose rows are known get their numbers.
 pub fn number_known(space: &[u32], at: usize, numbers: &mut [u8])
-    requires known_size_in_bounds { at + knownSize ≤ length space.now }
+    requires known_size_in_bounds { at + known_size ≤ length space.now }
     requires at_value { get_or space.now at 0 ≡ 1 }
     requires sound { Sound space.now at }
-    requires row_limit_in_bounds { rowLimit ≤ length numbers.old }
-    ensures { numbers.new ≡ knownNumbers space.now at numbers.old (get_or space.now (at + 1) 0) }
+    requires row_limit_in_bounds { row_limit ≤ length numbers.old }
+    ensures { numbers.new ≡ known_numbers space.now at numbers.old (get_or space.now (at + 1) 0) }
 {
     let count = space[at + COUNT] as usize;
     let mut j = 0;
@@ -47,10 +47,10 @@ pub fn number_known(space: &[u32], at: usize, numbers: &mut [u8])
 
 // Row i is kept, if it is an atom with a mark. Answers how many rows are then.
 fn keep_row(space: &mut [u32], at: usize, mark: u8, i: usize, count: u32) -> u32
-    requires rows_end_le_at { (rowsEnd ≤ at) × (at + knownSize ≤ length space.old) }
-    requires i_lt_row_limit { (i < rowLimit) × (count < 42) }
-    ensures value { result ≡ seenAfter (row_in space.old i).op mark 1 count }
-    ensures space_after { space.new ≡ keepRow space.old at mark i count }
+    requires rows_end_le_at { (rows_end ≤ at) × (at + known_size ≤ length space.old) }
+    requires i_lt_row_limit { (i < row_limit) × (count < 42) }
+    ensures value { result ≡ seen_after (row_in space.old i).op mark 1 count }
+    ensures space_after { space.new ≡ keep_row space.old at mark i count }
 {
     if mark < CONDITION {
         return count;
@@ -66,7 +66,7 @@ fn keep_row(space: &mut [u32], at: usize, mark: u8, i: usize, count: u32) -> u32
 fn keep_rows(space: &mut [u32], at: usize, marks: &[u8], n: usize) -> u32
     requires { Keepable space.old at marks.now n }
     ensures value { result ≡ rank space.old marks.now 1 n }
-    ensures space_after { space.new ≡ keptRows space.old at marks.now n }
+    ensures space_after { space.new ≡ kept_rows space.old at marks.now n }
 {
     let mut count = 0;
     let mut i = 0;
@@ -79,9 +79,9 @@ fn keep_rows(space: &mut [u32], at: usize, marks: &[u8], n: usize) -> u32
 
 // The truths of a block are kept.
 fn keep_word(space: &mut [u32], at: usize, block: u32, word: u64)
-    requires known_size_in_bounds { at + knownSize ≤ length space.old }
+    requires known_size_in_bounds { at + known_size ≤ length space.old }
     requires block_bound { block < 16 }
-    ensures { space.new ≡ keepWord space.old at block word }
+    ensures { space.new ≡ keep_word space.old at block word }
 {
     let i = at + TRUTHS + 2 * (block as usize);
     space[i] = (word % HALF) as u32;
@@ -90,9 +90,9 @@ fn keep_word(space: &mut [u32], at: usize, block: u32, word: u64)
 
 // The truths of the first blocks are kept.
 fn keep_words(space: &mut [u32], at: usize, blocks: u32, truths: &[u64])
-    requires known_size_in_bounds { at + knownSize ≤ length space.old }
+    requires known_size_in_bounds { at + known_size ≤ length space.old }
     requires blocks_bound { (blocks ≤ 16) × (16 ≤ length truths.now) }
-    ensures { space.new ≡ keptWords space.old at truths.now blocks }
+    ensures { space.new ≡ kept_words space.old at truths.now blocks }
 {
     let mut block = 0;
     while block < blocks {
@@ -115,8 +115,8 @@ pub fn keep(space: &mut [u32], at: usize, marks: &[u8], n: usize, blocks: u32, t
 
 // The rows that the guard reaches, in order. Answers how many.
 pub fn list_guard(space: &[u32], guard: usize, order: &mut [RowNumber]) -> usize
-    requires rows_end_in_bounds { (rowsEnd ≤ length space.now) × (guard < rowLimit) }
-    requires row_limit_in_bounds { rowLimit ≤ length order.old }
+    requires rows_end_in_bounds { (rows_end ≤ length space.now) × (guard < row_limit) }
+    requires row_limit_in_bounds { row_limit ≤ length order.old }
     ensures { GuardListed space.now guard order.old result order.new }
 {
     let mut marks = [0u8; ROWS];
@@ -137,10 +137,10 @@ fn guarded_word(
     c: u64,
 ) -> u64
     requires rows { Rows space.now order.now count }
-    requires row_limit_in_bounds { (rowLimit ≤ length numbers.now) × (rowLimit ≤ length words.old) }
-    requires guard_lt_row_limit { guard < rowLimit }
-    ensures words_after { words.new ≡ guardedWords space.now order.now count numbers.now block words.old c }
-    ensures value { result ≡ guardedWord words.new guard c }
+    requires row_limit_in_bounds { (row_limit ≤ length numbers.now) × (row_limit ≤ length words.old) }
+    requires guard_lt_row_limit { guard < row_limit }
+    ensures words_after { words.new ≡ guarded_words space.now order.now count numbers.now block words.old c }
+    ensures value { result ≡ guarded_word words.new guard c }
 {
     if c == 0 {
         return 0;

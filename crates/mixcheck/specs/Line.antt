@@ -6,35 +6,35 @@ use Rattle.script.specs.declared.Checked.{Checked}
 use Rattle.script.specs.declared.Place.{Place}
 use Rattle.script.specs.declared.Place.TheVariants.{Nowhere, At}
 use Rattle.text.specs.Bytes.{lf, tab}
-use Rattle.text.specs.Writing.{digits, typeText}
+use Rattle.text.specs.Writing.{digits, type_text}
 pub mod Laws
 
 -- accepted
-abbrev pub acceptedWord : List ℕ
-acceptedWord = 97 ∷ 99 ∷ 99 ∷ 101 ∷ 112 ∷ 116 ∷ 101 ∷ 100 ∷ []
+abbrev pub accepted_word : List ℕ
+accepted_word = 97 ∷ 99 ∷ 99 ∷ 101 ∷ 112 ∷ 116 ∷ 101 ∷ 100 ∷ []
 
 -- refused
-abbrev pub refusedWord : List ℕ
-refusedWord = 114 ∷ 101 ∷ 102 ∷ 117 ∷ 115 ∷ 101 ∷ 100 ∷ []
+abbrev pub refused_word : List ℕ
+refused_word = 114 ∷ 101 ∷ 102 ∷ 117 ∷ 115 ∷ 101 ∷ 100 ∷ []
 
 -- stands for no place
 abbrev pub dash : ℕ
 dash = 45
 
-abbrev pub placeText : Place → List ℕ
-placeText Nowhere = dash ∷ []
-placeText (At i) = digits i
+abbrev pub place_text : Place → List ℕ
+place_text Nowhere = dash ∷ []
+place_text (At i) = digits i
 
 abbrev pub line_of : Checked → List ℕ
-line_of (Checked.Accepted t) = acceptedWord ++ (tab ∷ typeText t) ++ (lf ∷ [])
-line_of (Checked.Refused r) = refusedWord ++ (tab ∷ digits (number_of r)) ++ (tab ∷ placeText (place_of r)) ++ (lf ∷ [])
+line_of (Checked.Accepted t) = accepted_word ++ (tab ∷ type_text t) ++ (lf ∷ [])
+line_of (Checked.Refused r) = refused_word ++ (tab ∷ digits (number_of r)) ++ (tab ∷ place_text (place_of r)) ++ (lf ∷ [])
 
 -- no line is longer
-abbrev pub lineLimit : ℕ
-lineLimit = 26
+abbrev pub line_limit : ℕ
+line_limit = 26
 
 -- the line stands at the start of the lent bytes, what was behind it as it was, and its length is given
 pub record PutLine (line out : List ℕ) (n : ℕ) (out' : List ℕ) : Type 0 where
   pub length-is : n ≡ length line
-  pub most : n ≤ lineLimit
-  pub bytes-are : out' ≡ line ++ drop n out
+  pub most : n ≤ line_limit
+  pub bytes_are : out' ≡ line ++ drop n out

@@ -3,8 +3,8 @@ ghost use Rattle.std.specs.Prelude.{◌∷◌, ◌+◌, ◌^◌, ◌≤◌, ◌<
 ghost use Rattle.script.specs.declared.Checked.TheVariants.{Accepted, Refused};
 ghost use Rattle.text.specs.Bytes.{tab};
 ghost use Rattle.text.specs.Code.Output.{Put};
-ghost use Rattle.host.specs.Texts.{checkText};
-ghost use Rattle.mixcheck.specs.Line.{placeText, line_of, lineLimit, PutLine};
+ghost use Rattle.host.specs.Texts.{check_text};
+ghost use Rattle.mixcheck.specs.Line.{place_text, line_of, line_limit, PutLine};
 
 use output::{put, put_bytes, put_number, put_type};
 use script::{Checked, Place, Refusal};
@@ -24,8 +24,8 @@ fn put_accepted(out: &mut [u8], code: u32) -> usize
 
 // A place or `-`, after a tab.
 fn put_place(out: &mut [u8], at: usize, place: Place) -> usize
-    requires { at + length (tab ∷ placeText place) < 2 ^ 64 }
-    ensures { Put (tab ∷ placeText place) at out.old result out.new }
+    requires { at + length (tab ∷ place_text place) < 2 ^ 64 }
+    ensures { Put (tab ∷ place_text place) at out.old result out.new }
 {
     put(out, at, b'\t');
     let next = at + 1;
@@ -51,8 +51,8 @@ fn put_refused(out: &mut [u8], why: Refusal) -> usize
 
 // Checks a text and puts its line into `out`; gives the line's length.
 pub fn put_line(text: &[u8], out: &mut [u8]) -> usize
-    requires { lineLimit ≤ length out.old }
-    ensures { PutLine (line_of (checkText text.now)) out.old result out.new }
+    requires { line_limit ≤ length out.old }
+    ensures { PutLine (line_of (check_text text.now)) out.old result out.new }
 {
     match host::check_text(text) {
         Checked::Accepted(code) => put_accepted(out, code),

@@ -3,12 +3,12 @@
 // variables there are and one more (0 in a note that says nothing), the block's type, how many variables follow; and two numbers for each of these, which
 // one it is and its type.
 ghost use Rattle.std.specs.Prelude.{◌≡◌, suc, ◌≤◌, length};
-ghost use Rattle.script.specs.Code.Forms.{form_of, treeIn};
+ghost use Rattle.script.specs.Code.Forms.{form_of, tree_in};
 ghost use Rattle.script.specs.Flat.{FormedNodes};
 ghost use Rattle.rules.specs.Checking.Mentions.{mentions};
-ghost use Rattle.terms.specs.Places.{symbolLimit};
-ghost use Rattle.workspace.specs.Notes.{leafMentions, Readable, Recallable, Recallables, agreesOn, is_of, recalledOn, Named, named, Nameable, Names, Noted};
-ghost use Rattle.workspace.specs.Places.{noteLimit, spaceSize};
+ghost use Rattle.terms.specs.Places.{symbol_limit};
+ghost use Rattle.workspace.specs.Notes.{leaf_mentions, Readable, Recallable, Recallables, agrees_on, is_of, recalled_on, Named, named, Nameable, Names, Noted};
+ghost use Rattle.workspace.specs.Places.{note_limit, space_size};
 
 use script::Node;
 use script::table::{IF, LEAVES, VAR};
@@ -17,7 +17,7 @@ use workspace::{BASE, KEPT, Known, NAMES, NOTE, NOTES, TURN};
 
 // A node whose operands are no nodes is variable k.
 fn is_variable(node: Node, k: u32) -> bool
-    ensures { result ≡ leafMentions (form_of node.kind) node k }
+    ensures { result ≡ leaf_mentions (form_of node.kind) node k }
 {
     if node.kind == VAR {
         return node.a == k;
@@ -28,7 +28,7 @@ fn is_variable(node: Node, k: u32) -> bool
 // Whether node n mentions variable k.
 fn mentions(table: &[u32], n: u32, k: u32) -> bool
     requires { FormedNodes table.now (suc n) }
-    ensures { result ≡ mentions (treeIn table.now n) k }
+    ensures { result ≡ mentions (tree_in table.now n) k }
 {
     let node = node_at(table, n as usize);
     if node.kind < LEAVES {
@@ -52,7 +52,7 @@ fn mentions(table: &[u32], n: u32, k: u32) -> bool
 // The variables that the note at this place names have the types that it names.
 fn agrees(space: &[u32], at: usize) -> bool
     requires { Readable space.now at }
-    ensures { result ≡ agreesOn space.now at }
+    ensures { result ≡ agrees_on space.now at }
 {
     let count = space[at + 3] as usize;
     let mut i = 0;
@@ -83,7 +83,7 @@ fn is_of(space: &[u32], at: usize, depth: usize, a: u32) -> bool
 // What the notes say of node a with so many variables.
 pub fn recall(space: &[u32], depth: usize, a: u32) -> Known
     requires { Recallables space.now depth }
-    ensures { result ≡ recalledOn space.now depth a 0 noteLimit }
+    ensures { result ≡ recalled_on space.now depth a 0 note_limit }
 {
     let mut i = 0;
     while i < KEPT {
@@ -109,7 +109,7 @@ fn name_type(space: &mut [u32], at: usize, count: usize, k: u32)
 fn name_types(table: &[u32], space: &mut [u32], depth: usize, a: u32, at: usize) -> usize
     requires formed_nodes { FormedNodes table.now (suc a) }
     requires nameable { Nameable space.old depth at }
-    ensures { Names (treeIn table.now a) depth at space.old result space.new }
+    ensures { Names (tree_in table.now a) depth at space.old result space.new }
 {
     let mut count = 0;
     let mut k = space[BASE];
@@ -129,8 +129,8 @@ fn name_types(table: &[u32], space: &mut [u32], depth: usize, a: u32, at: usize)
 // Notes that node a has type t with so many variables, in place of the oldest note; not if it mentions too many.
 pub fn note(table: &[u32], space: &mut [u32], depth: usize, a: u32, t: u32)
     requires formed_nodes { FormedNodes table.now (suc a) }
-    requires depth_le_symbol_limit { depth ≤ symbolLimit }
-    requires space_size_in_bounds { spaceSize ≤ length space.old }
+    requires depth_le_symbol_limit { depth ≤ symbol_limit }
+    requires space_size_in_bounds { space_size ≤ length space.old }
     ensures { Noted table.now depth a t space.old space.new }
 {
     let turn = space[TURN] as usize % KEPT;

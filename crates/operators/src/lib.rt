@@ -2,11 +2,11 @@
 ghost use Rattle.std.specs.Prelude.{ℕ, ◌*◌, ◌≤◌, length};
 ghost use Rattle.std.proofs.Math.ListN.{get_elem?};
 ghost use Rattle.script.specs.Code.Forms.{form_of};
-ghost use Rattle.script.specs.Rows.{notOp, refOp, getOp, addOp, eqOp, and_op, setOp};
-ghost use Rattle.rules.specs.Evaluation.{gave, failed, found, unaryOn, binaryOn};
+ghost use Rattle.script.specs.Rows.{not_op, ref_op, get_op, add_op, eq_op, and_op, set_op};
+ghost use Rattle.rules.specs.Evaluation.{gave, failed, found, unary_on, binary_on};
 ghost use Rattle.rules.specs.Running.{values_of};
 ghost use Rattle.rules.specs.Running.Laws.{InRange};
-ghost use Rattle.operators.specs.Steps.{Cells, Does, Says, leafOn, oneOn, twoOn};
+ghost use Rattle.operators.specs.Steps.{Cells, Does, Says, leaf_on, one_on, two_on};
 
 pub mod steps;
 
@@ -54,7 +54,7 @@ fn variable(environment: &[u8], depth: usize, k: u32, used: u32, n: u32) -> Step
 // A node whose operands are no nodes: `int`, `true`, `false` and `var`.
 pub fn leaf(node: Node, environment: &[u8], depth: usize, used: u32, n: u32) -> Step
     requires { 5 * depth ≤ length environment.now }
-    ensures { Says (leafOn (form_of node.kind) n node (values_of depth environment.now)) used result }
+    ensures { Says (leaf_on (form_of node.kind) n node (values_of depth environment.now)) used result }
 {
     let kind = node.kind;
     match kind {
@@ -67,7 +67,7 @@ pub fn leaf(node: Node, environment: &[u8], depth: usize, used: u32, n: u32) -> 
 
 // `not`.
 fn negation(v: Value, used: u32, n: u32) -> Step
-    ensures { Says (unaryOn n notOp v) used result }
+    ensures { Says (unary_on n not_op v) used result }
 {
     match v {
         Value::Word(_) => Step::Failed(n, used),
@@ -80,7 +80,7 @@ fn negation(v: Value, used: u32, n: u32) -> Step
 fn make_cell(v: Value, cells: &mut [u8], used: u32) -> Step
     requires cells { Cells cells.old used 1 }
     requires in_range { InRange v }
-    ensures { (n : ℕ) → Does (unaryOn n refOp v (values_of used cells.old)) result cells.old cells.new }
+    ensures { (n : ℕ) → Does (unary_on n ref_op v (values_of used cells.old)) result cells.old cells.new }
 {
     store(cells, used as usize, v);
     Step::Gave(Value::Location(used), used + 1)
@@ -89,7 +89,7 @@ fn make_cell(v: Value, cells: &mut [u8], used: u32) -> Step
 // `get`.
 fn read_cell(v: Value, cells: &[u8], used: u32, n: u32) -> Step
     requires { Cells cells.now used 0 }
-    ensures { Does (unaryOn n getOp v (values_of used cells.now)) result cells.now cells.now }
+    ensures { Does (unary_on n get_op v (values_of used cells.now)) result cells.now cells.now }
 {
     match v {
         Value::Word(_) => Step::Failed(n, used),
@@ -107,7 +107,7 @@ fn read_cell(v: Value, cells: &[u8], used: u32, n: u32) -> Step
 pub fn one(kind: u32, v: Value, cells: &mut [u8], used: u32, n: u32) -> Step
     requires cells { Cells cells.old used 1 }
     requires in_range { InRange v }
-    ensures { Does (oneOn (form_of kind) n v (values_of used cells.old)) result cells.old cells.new }
+    ensures { Does (one_on (form_of kind) n v (values_of used cells.old)) result cells.old cells.new }
 {
     match kind {
         NOT => negation(v, used, n),
@@ -119,7 +119,7 @@ pub fn one(kind: u32, v: Value, cells: &mut [u8], used: u32, n: u32) -> Step
 
 // `add`, modulo 2^32.
 fn sum(v: Value, w: Value, used: u32, n: u32) -> Step
-    ensures { Says (binaryOn n addOp v w) used result }
+    ensures { Says (binary_on n add_op v w) used result }
 {
     match v {
         Value::Word(a) => match w {
@@ -134,7 +134,7 @@ fn sum(v: Value, w: Value, used: u32, n: u32) -> Step
 
 // `eq`: two values of one kind.
 fn equality(v: Value, w: Value, used: u32, n: u32) -> Step
-    ensures { Says (binaryOn n eqOp v w) used result }
+    ensures { Says (binary_on n eq_op v w) used result }
 {
     if v.kind() == w.kind() {
         return Step::Gave(Value::Truth(v.bits() == w.bits()), used);
@@ -144,7 +144,7 @@ fn equality(v: Value, w: Value, used: u32, n: u32) -> Step
 
 // `and`.
 fn conjunction(v: Value, w: Value, used: u32, n: u32) -> Step
-    ensures { Says (binaryOn n and_op v w) used result }
+    ensures { Says (binary_on n and_op v w) used result }
 {
     match v {
         Value::Word(_) => Step::Failed(n, used),
@@ -161,7 +161,7 @@ fn conjunction(v: Value, w: Value, used: u32, n: u32) -> Step
 fn write_cell(v: Value, w: Value, cells: &mut [u8], used: u32, n: u32) -> Step
     requires cells { Cells cells.old used 0 }
     requires in_range { InRange w }
-    ensures { Does (binaryOn n setOp v w (values_of used cells.old)) result cells.old cells.new }
+    ensures { Does (binary_on n set_op v w (values_of used cells.old)) result cells.old cells.new }
 {
     match v {
         Value::Word(_) => Step::Failed(n, used),
@@ -180,7 +180,7 @@ fn write_cell(v: Value, w: Value, cells: &mut [u8], used: u32, n: u32) -> Step
 pub fn two(kind: u32, v: Value, w: Value, cells: &mut [u8], used: u32, n: u32) -> Step
     requires cells { Cells cells.old used 0 }
     requires in_range { InRange w }
-    ensures { Does (twoOn (form_of kind) n v w (values_of used cells.old)) result cells.old cells.new }
+    ensures { Does (two_on (form_of kind) n v w (values_of used cells.old)) result cells.old cells.new }
 {
     match kind {
         ADD => sum(v, w, used, n),

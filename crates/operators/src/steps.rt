@@ -1,7 +1,7 @@
 // The steps of a run: how one is handed up, and which operand comes next.
 ghost use Rattle.std.specs.Prelude.{◌≡◌};
 ghost use Rattle.script.specs.Code.Forms.{form_of};
-ghost use Rattle.operators.specs.Steps.{whole_of, nextOn};
+ghost use Rattle.operators.specs.Steps.{whole_of, next_on};
 
 use crate::{Next, Parts, Step};
 use script::table::IF;
@@ -35,7 +35,7 @@ pub fn whole(parts: Parts) -> Step
 
 // The operand of a node that comes after the first, which gave v: of an `if` the branch that is taken.
 pub fn next_operand(node: Node, v: Value) -> Next
-    ensures { result ≡ nextOn (form_of node.kind) v node }
+    ensures { result ≡ next_on (form_of node.kind) v node }
 {
     if node.kind == IF {
         return match v {

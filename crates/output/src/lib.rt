@@ -1,9 +1,9 @@
 // Bytes, numbers and types written from a place of the output on. What does not fit is left out, and the place after it is given all the same: so a text
 // is measured by writing it into no bytes.
 ghost use Rattle.std.specs.Prelude.{◌≡◌, ◌+◌, ◌^◌, ◌<◌, length, set};
-ghost use Rattle.script.specs.Rows.Kinds.{kindCount};
+ghost use Rattle.script.specs.Rows.Kinds.{kind_count};
 ghost use Rattle.text.specs.Code.Output.{Put, word_of};
-ghost use Rattle.text.specs.Writing.{digits, typeText};
+ghost use Rattle.text.specs.Writing.{digits, type_text};
 
 use fields::words::{LENGTHS, WORDS};
 
@@ -31,7 +31,7 @@ pub fn put_bytes(out: &mut [u8], at: usize, bytes: &[u8]) -> usize
 
 // The word of this kind, written from place `at` on.
 pub fn put_word(out: &mut [u8], at: usize, kind: u32) -> usize
-    requires kind_lt_kind_count { kind < kindCount }
+    requires kind_lt_kind_count { kind < kind_count }
     requires kind_bound { at + length (word_of kind) < 2 ^ 64 }
     ensures { Put (word_of kind) at out.old result out.new }
 {
@@ -58,8 +58,8 @@ pub fn put_number(out: &mut [u8], at: usize, n: u32) -> usize
 
 // A type by its code: a letter r for each 2, then i or b.
 pub fn put_type(out: &mut [u8], at: usize, code: u32) -> usize
-    requires { at + length (typeText code) < 2 ^ 64 }
-    ensures { Put (typeText code) at out.old result out.new }
+    requires { at + length (type_text code) < 2 ^ 64 }
+    ensures { Put (type_text code) at out.old result out.new }
 {
     let mut t = code;
     let mut last = at;

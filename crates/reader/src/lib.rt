@@ -1,15 +1,15 @@
 // The reader: from a text to a lent table in flat form and a lent list of entries.
 ghost use Rattle.std.specs.Prelude.{[], ◌≡◌, ◌*◌, ◌≤◌, ltb, length, take};
-ghost use Rattle.script.specs.Flat.{nodeWidth, nodesIn};
-ghost use Rattle.script.specs.Limits.{nodeLimit, entryLimit, byteLimit};
-ghost use Rattle.script.specs.Table.{treeTest};
+ghost use Rattle.script.specs.Flat.{node_width, nodes_in};
+ghost use Rattle.script.specs.Limits.{node_limit, entry_limit, byte_limit};
+ghost use Rattle.script.specs.Table.{tree_test};
 ghost use Rattle.script.specs.Flat.{FormedNodes};
 ghost use Rattle.script.specs.Tests.{need};
 ghost use Rattle.script.specs.declared.Refusal.TheVariants.{NoNode};
 ghost use Rattle.text.specs.Bytes.{lf};
 ghost use Rattle.text.specs.Grammar.{lines_from, parts};
-ghost use Rattle.text.specs.Reading.{leaves, readingIn, tried};
-ghost use Rattle.text.specs.Code.Steps.{Kept, Took, Holds, entryStep, entryStored, nodeStep, nodeStored, endedBy};
+ghost use Rattle.text.specs.Reading.{leaves, reading_in, tried};
+ghost use Rattle.text.specs.Code.Steps.{Kept, Took, Holds, entry_step, entry_stored, node_step, node_stored, ended_by};
 
 mod lines;
 
@@ -23,8 +23,8 @@ use text::{Scanned, Step};
 
 // Line i is an entry of type `t`.
 fn take_entry(entries: &mut [u32], script: Script, t: u32, next: usize, i: u32) -> Step
-    requires { entryLimit ≤ length entries.old }
-    ensures { (result ≡ entryStep script next i) × (entries.new ≡ entryStored script t entries.old) }
+    requires { entry_limit ≤ length entries.old }
+    ensures { (result ≡ entry_step script next i) × (entries.new ≡ entry_stored script t entries.old) }
 {
     if script.nodes != 0 {
         return Step::Refused(Refusal::BadLine(i));
@@ -43,8 +43,8 @@ fn take_entry(entries: &mut [u32], script: Script, t: u32, next: usize, i: u32) 
 
 // Line i is a node.
 fn take_node(table: &mut [u32], script: Script, n: Node, next: usize, i: u32) -> Step
-    requires { nodeWidth * nodeLimit ≤ length table.old }
-    ensures { (result ≡ nodeStep script n next i) × (table.new ≡ nodeStored script n table.old) }
+    requires { node_width * node_limit ≤ length table.old }
+    ensures { (result ≡ node_step script n next i) × (table.new ≡ node_stored script n table.old) }
 {
     match script.with_node() {
         Sized::Fits(more) => {
@@ -84,7 +84,7 @@ fn take_line(
 // 3, 5 and 13 after the last line.
 fn at_end(table: &[u32], script: Script) -> Reading
     requires { FormedNodes table.now script.nodes }
-    ensures { result ≡ endedBy (need (ltb 0 script.nodes) NoNode (treeTest (take script.nodes (nodesIn table.now)))) script }
+    ensures { result ≡ ended_by (need (ltb 0 script.nodes) NoNode (tree_test (take script.nodes (nodes_in table.now)))) script }
 {
     let nodes = script.nodes;
     if nodes == 0 {
@@ -98,9 +98,9 @@ fn at_end(table: &[u32], script: Script) -> Reading
 
 // All lines, in one pass.
 fn read_lines(text: &[u8], table: &mut [u32], entries: &mut [u32]) -> Reading
-    requires text_len_bound { length text.now ≤ byteLimit }
-    requires node_limit_in_bounds { nodeWidth * nodeLimit ≤ length table.old }
-    requires entry_limit_in_bounds { entryLimit ≤ length entries.old }
+    requires text_len_bound { length text.now ≤ byte_limit }
+    requires node_limit_in_bounds { node_width * node_limit ≤ length table.old }
+    requires entry_limit_in_bounds { entry_limit ≤ length entries.old }
     ensures { Holds (lines_from 0 [] [] (parts lf text.now)) table.old entries.old result table.new entries.new }
 {
     let mut script = Script::empty();
@@ -123,7 +123,7 @@ fn read_lines(text: &[u8], table: &mut [u32], entries: &mut [u32]) -> Reading
 
 // 32 and 31, then the lines.
 fn read_text(text: &[u8], table: &mut [u32], entries: &mut [u32]) -> Reading
-    ensures { Holds (tried text.now (length (nodesIn table.old)) (length entries.old)) table.old entries.old result table.new entries.new }
+    ensures { Holds (tried text.now (length (nodes_in table.old)) (length entries.old)) table.old entries.old result table.new entries.new }
 {
     if table.len() / WIDTH < Script::NODES {
         return Reading::Refused(Refusal::TableTooSmall);
@@ -139,7 +139,7 @@ fn read_text(text: &[u8], table: &mut [u32], entries: &mut [u32]) -> Reading
 
 // Reads a text into a lent table and a lent list of entries.
 pub fn read(text: &[u8], table: &mut [u32], entries: &mut [u32]) -> Reading
-    ensures { leaves result table.new entries.new ≡ readingIn text.now table.old entries.old }
+    ensures { leaves result table.new entries.new ≡ reading_in text.now table.old entries.old }
 {
     match read_text(text, table, entries) {
         Reading::Read(script) => {

@@ -1,8 +1,8 @@
 // A line of a text: an entry line or a node line, and where the next line starts.
 ghost use Rattle.std.specs.Prelude.{◌≡◌, true, ◌≤◌, ◌<◌, length, drop};
 ghost use Rattle.script.specs.Rows.{row_of};
-ghost use Rattle.script.specs.Rows.Kinds.{kindCount};
-ghost use Rattle.text.specs.Code.Scan.{fieldEnds, largestBy, operand_at, entryAfter, nodeAfter, line_at};
+ghost use Rattle.script.specs.Rows.Kinds.{kind_count};
+ghost use Rattle.text.specs.Code.Scan.{field_ends, largest_by, operand_at, entry_after, node_after, line_at};
 
 use fields::words::{kind_of, same};
 use fields::{LF, TAB, byte_is, field, number, type_code};
@@ -32,7 +32,7 @@ fn operand_at(text: &[u8], at: usize, limit: u32, wanted: bool) -> Operand
 
 // The largest number that an operand of this kind may be.
 fn largest(kind: u32) -> u32
-    ensures { result ≡ largestBy (row_of kind) }
+    ensures { result ≡ largest_by (row_of kind) }
 {
     match kind_takes(kind) {
         Takes::Number(limit) => limit,
@@ -43,9 +43,9 @@ fn largest(kind: u32) -> u32
 // The rest of a node line after its word.
 fn node_line(text: &[u8], at: usize, kind: u32) -> Scanned
     requires at_in_bounds { at ≤ length text.now }
-    requires text_value { fieldEnds (drop at text.now) ≡ true }
-    requires kind_lt_kind_count { kind < kindCount }
-    ensures { result ≡ nodeAfter kind at (drop at text.now) }
+    requires text_value { field_ends (drop at text.now) ≡ true }
+    requires kind_lt_kind_count { kind < kind_count }
+    ensures { result ≡ node_after kind at (drop at text.now) }
 {
     let count = operand_count(kind);
     let limit = largest(kind);
@@ -67,8 +67,8 @@ fn node_line(text: &[u8], at: usize, kind: u32) -> Scanned
 // The rest of an entry line after its word.
 fn entry_line(text: &[u8], at: usize) -> Scanned
     requires at_in_bounds { at ≤ length text.now }
-    requires text_value { fieldEnds (drop at text.now) ≡ true }
-    ensures { result ≡ entryAfter at (drop at text.now) }
+    requires text_value { field_ends (drop at text.now) ≡ true }
+    ensures { result ≡ entry_after at (drop at text.now) }
 {
     if !byte_is(text, at, TAB) {
         return Scanned::Bad;

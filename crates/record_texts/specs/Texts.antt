@@ -14,4 +14,4 @@ Writes t out r left = outcome r left ≡ writing t out
 
 -- the answer of a reading into so many places and entries, and what each of them then holds
 abbrev pub Reads : List ℕ → ℕ → ℕ → Reading → List Node → List ℕ → Type 0
-Reads text n m r ns es = ◌≡◌ {A = Read.Outcome} (record { answer = r; lentNodes = ns; lentEntries = es }) (reading text n m)
+Reads text n m r ns es = ◌≡◌ {A = Read.Outcome} (record { answer = r; lent_nodes = ns; lent_entries = es }) (reading text n m)

@@ -1,8 +1,8 @@
 // Writing from a lent table of records, and reading into one. Each copies the table to flat form, or from it, and hands on to the call over a table in flat
 // form, which makes every refusal.
 ghost use Rattle.std.specs.Prelude.{◌≡◌, ◌*◌, ◌≤◌, length, take};
-ghost use Rattle.script.specs.Flat.{nodeWidth, tableIn};
-ghost use Rattle.script.specs.Limits.{nodeLimit};
+ghost use Rattle.script.specs.Flat.{node_width, table_in};
+ghost use Rattle.script.specs.Limits.{node_limit};
 ghost use Rattle.copies.specs.Copies.{places, table_of};
 ghost use Rattle.record_texts.specs.Texts.{Writes, Reads};
 
@@ -19,15 +19,15 @@ fn write_flat(
     entry_count: usize,
     out: &mut [u8],
 ) -> Writing
-    requires { nodeWidth * lent ≤ length flat.now }
-    ensures { Writes (tableIn (take (nodeWidth * lent) flat.now) nodes entries.now entry_count) out.old result out.new }
+    requires { node_width * lent ≤ length flat.now }
+    ensures { Writes (table_in (take (node_width * lent) flat.now) nodes entries.now entry_count) out.old result out.new }
 {
     writer::write(&flat[..WIDTH * lent], nodes, entries, entry_count, out)
 }
 
 // Reads a text for `lent` places into a flat table, which has the nodes that a script can have.
 fn read_flat(text: &[u8], lent: usize, flat: &mut [u32], entries: &mut [u32]) -> Reading
-    requires { length flat.old ≡ nodeWidth * nodeLimit }
+    requires { length flat.old ≡ node_width * node_limit }
     ensures { Reads text.now lent (length entries.old) result (places lent flat.new) entries.new }
 {
     let n = lesser(lent, Script::NODES);

@@ -3,24 +3,24 @@
 -- fits an extension of that typing. Assumes nothing.
 use Rattle.std.specs.Prelude.{true, List, ◌≡◌, ℕ}
 use Rattle.std.proofs.Common.{sym, subst, ◌∙◌}
-use Rattle.script.specs.Table.{Table, entriesOf}
+use Rattle.script.specs.Table.{Table, entries_of}
 use Rattle.script.specs.declared.Checked.{Checked}
 use Rattle.script.specs.declared.Ran.{Ran}
-use Rattle.rules.specs.Checking.{pathLimit}
-use Rattle.rules.specs.Demand3.{EndsWithValue, accepted-ends-with-value}
-use Rattle.rules.specs.Running.{Run, values_of, withinLimits}
+use Rattle.rules.specs.Checking.{path_limit}
+use Rattle.rules.specs.Demand3.{EndsWithValue, accepted_ends_with_value}
+use Rattle.rules.specs.Running.{Run, values_of, within_limits}
 use Rattle.rules.specs.Typings.{Fits, HaveTypes}
 use Rattle.records.specs.Records.{Checks, Runs}
 
 -- a is the answer of the check; b and left are the answer of the run and what the lent cells then hold
-pub checked-runs-with-value : (t : Table) (type : ℕ) (values cells : List ℕ) (used : ℕ) (typing : List ℕ) (a : Checked) (b : Ran) (left : List ℕ)
+pub checked_runs_with_value : (t : Table) (type : ℕ) (values cells : List ℕ) (used : ℕ) (typing : List ℕ) (a : Checked) (b : Ran) (left : List ℕ)
     → Checks t a
     → Runs t values cells used b left
     → a ≡ Checked.Accepted type
-    → withinLimits t values cells used ≡ true
+    → within_limits t values cells used ≡ true
     → Fits typing (values_of used cells)
-    → HaveTypes typing (values_of t.entryCount values) (entriesOf t)
+    → HaveTypes typing (values_of t.entry_count values) (entries_of t)
     → EndsWithValue typing type (record { answer = b; cells = left })
-checked-runs-with-value t type values cells used typing a b left checks runs accepted within fits typed =
+checked_runs_with_value t type values cells used typing a b left checks runs accepted within fits typed =
     subst (λ (run : Run). EndsWithValue typing type run) (sym runs)
-    (accepted-ends-with-value pathLimit t type values cells used typing (sym checks ∙ accepted) within fits typed)
+    (accepted_ends_with_value path_limit t type values cells used typing (sym checks ∙ accepted) within fits typed)

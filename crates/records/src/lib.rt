@@ -1,7 +1,7 @@
 // Checking and running over a lent table of records. Each copies the table to flat form and ends in the call over a table in flat form, which makes every
 // refusal.
 ghost use Rattle.std.specs.Prelude.{◌≡◌, ◌*◌, ◌≤◌, length, take};
-ghost use Rattle.script.specs.Flat.{nodeWidth, tableIn};
+ghost use Rattle.script.specs.Flat.{node_width, table_in};
 ghost use Rattle.copies.specs.Copies.{table_of};
 ghost use Rattle.records.specs.Records.{Checks, Runs};
 
@@ -17,8 +17,8 @@ fn check_flat(
     entries: &[u32],
     entry_count: usize,
 ) -> Checked
-    requires { nodeWidth * lent ≤ length flat.now }
-    ensures { Checks (tableIn (take (nodeWidth * lent) flat.now) nodes entries.now entry_count) result }
+    requires { node_width * lent ≤ length flat.now }
+    ensures { Checks (table_in (take (node_width * lent) flat.now) nodes entries.now entry_count) result }
 {
     checker::check(&flat[..WIDTH * lent], nodes, entries, entry_count)
 }
@@ -34,8 +34,8 @@ fn run_flat(
     cells: &mut [u8],
     used: u32,
 ) -> Ran
-    requires { nodeWidth * lent ≤ length flat.now }
-    ensures { Runs (tableIn (take (nodeWidth * lent) flat.now) nodes entries.now entry_count) values.now cells.old used result cells.new }
+    requires { node_width * lent ≤ length flat.now }
+    ensures { Runs (table_in (take (node_width * lent) flat.now) nodes entries.now entry_count) values.now cells.old used result cells.new }
 {
     runner::run(
         &flat[..WIDTH * lent],

@@ -1,9 +1,9 @@
 // The rows that a decision looks at: which of them the condition and the guard reach, by a mark on each, and how many atoms are among them. What the
 // functions of a decision compute of the lent numbers stands in `specs/`.
 ghost use Rattle.std.specs.Prelude.{◌&&◌, ◌≡◌, ◌+◌, ◌<◌, ◌≤◌, length};
-ghost use Rattle.terms.specs.Places.{rowLimit};
-ghost use Rattle.rows.specs.Decision.{branchesOf};
-ghost use Rattle.rows.specs.Code.{above, Room, Low, operandBelow, reached, markRow, marked, seenAfter, Visited, countsOf, blocksOf, nonZero};
+ghost use Rattle.terms.specs.Places.{row_limit};
+ghost use Rattle.rows.specs.Decision.{branches_of};
+ghost use Rattle.rows.specs.Code.{above, Room, Low, operand_below, reached, mark_row, marked, seen_after, Visited, counts_of, blocks_of, non_zero};
 
 use terms::{CONJUNCTION, EXCLUSION, FIRST_ATOM, NEGATION, Row, row_at};
 
@@ -42,7 +42,7 @@ pub const ONES: u64 = 0xFFFF_FFFF_FFFF_FFFF;
 
 // The row after the greater of two.
 pub fn above(a: usize, b: usize) -> usize
-    requires { (a < rowLimit) × (b < rowLimit) }
+    requires { (a < row_limit) × (b < row_limit) }
     ensures { result ≡ above a b }
 {
     if a < b {
@@ -53,7 +53,7 @@ pub fn above(a: usize, b: usize) -> usize
 
 // Below which row an operand of row i lies that the operators from `least` on have; 0 if the row is not marked or has none.
 fn operand_below(least: u32, op: u32, mark: u8, i: usize) -> usize
-    ensures { result ≡ operandBelow least op mark i }
+    ensures { result ≡ operand_below least op mark i }
 {
     if mark == 0 {
         return 0;
@@ -82,7 +82,7 @@ fn reach(marks: &mut [u8], a: u32, below: usize, mark: u8)
 // The operands of row i have its mark too.
 fn mark_row(marks: &mut [u8], row: Row, i: usize)
     requires { i < length marks.old }
-    ensures { marks.new ≡ markRow marks.old row i }
+    ensures { marks.new ≡ mark_row marks.old row i }
 {
     let mark = marks[i];
     reach(marks, row.a, operand_below(NEGATION, row.op, mark, i), mark);
@@ -96,8 +96,8 @@ fn mark_row(marks: &mut [u8], row: Row, i: usize)
 
 // How many atoms with at least a mark are seen after a row.
 fn seen_after(op: u32, mark: u8, least: u8, seen: u32) -> u32
-    requires { seen < rowLimit }
-    ensures { result ≡ seenAfter op mark least seen }
+    requires { seen < row_limit }
+    ensures { result ≡ seen_after op mark least seen }
 {
     if mark < least {
         return seen;
@@ -133,7 +133,7 @@ fn visit(space: &[u32], marks: &mut [u8], i: usize, counts: Counts) -> Counts
 // Marks what the marked rows below n reach, from the last row down, and counts the atoms.
 pub fn mark_all(space: &[u32], n: usize, marks: &mut [u8]) -> Counts
     requires { Room space.now n marks.old }
-    ensures value { result ≡ countsOf space.now marks.new n }
+    ensures value { result ≡ counts_of space.now marks.new n }
     ensures marks_after { marks.new ≡ marked space.now n marks.old }
 {
     let mut counts = Counts {
@@ -151,7 +151,7 @@ pub fn mark_all(space: &[u32], n: usize, marks: &mut [u8]) -> Counts
 
 // How many blocks of 64 assignments so many atoms have.
 pub fn blocks_of(atoms: u32) -> u32
-    ensures { result ≡ blocksOf atoms }
+    ensures { result ≡ blocks_of atoms }
 {
     match atoms {
         7 => 2,
@@ -164,7 +164,7 @@ pub fn blocks_of(atoms: u32) -> u32
 
 // The branches by the assignments found for each.
 pub fn branches_of(yes: u64, no: u64) -> Decision
-    ensures { result ≡ branchesOf (nonZero yes) (nonZero no) }
+    ensures { result ≡ branches_of (non_zero yes) (non_zero no) }
 {
     if yes == 0 {
         return Decision::OnlyFalse;
@@ -177,7 +177,7 @@ pub fn branches_of(yes: u64, no: u64) -> Decision
 
 // Both branches have an assignment.
 pub fn both_found(yes: u64, no: u64) -> bool
-    ensures { result ≡ nonZero yes && nonZero no }
+    ensures { result ≡ non_zero yes && non_zero no }
 {
     if yes == 0 {
         return false;

@@ -2,23 +2,23 @@
 -- computation. The tables below are of the same form: `Traps` tells the rules from the traps, `NewCells` new cells from old ones, `ScratchCells` what `get`
 -- finds from what it doesn't, `Refusals` has the tests of tables, values and cells. Assumes nothing.
 use Rattle.std.specs.Prelude.{◌≡◌, refl, List, [], ◌∷◌, map, ℕ, replicate, take}
-use Rattle.script.specs.Answers.{Report, typeIs, valueIs, refusedWith, reportOfRun}
+use Rattle.script.specs.Answers.{Report, type_is, value_is, refused_with, report_of_run}
 use Rattle.script.specs.Rows.{rows, row_of}
-use Rattle.script.specs.Table.{Table, wellFormed, operands, timesIn, uses, symsAround, tooDeep, treeTest, nodesTest, tableTest}
+use Rattle.script.specs.Table.{Table, well_formed, operands, times_in, uses, syms_around, too_deep, tree_test, nodes_test, table_test}
 use Rattle.script.specs.Table.Cases.{lend, int', true', var', add', if', let', ref', set', sym'}
-use Rattle.script.specs.Tests.{lowestFrom}
-use Rattle.script.specs.Tree.{shape, treeBy, treesFrom, trees, root, tree_of}
+use Rattle.script.specs.Tests.{lowest_from}
+use Rattle.script.specs.Tree.{shape, tree_by, trees_from, trees, root, tree_of}
 use Rattle.script.specs.declared.Node.{Node}
 use Rattle.script.specs.declared.Place.{Place}
 use Rattle.script.specs.declared.Place.TheVariants.{Nowhere, At}
-use Rattle.rules.specs.Checking.{checkTable, checkReport, pathLimit, check}
-use Rattle.rules.specs.Evaluation.{unaryOn, binaryOn, eval}
-use Rattle.rules.specs.Paths.{has, consistentAfter, lookup, bind, leaves}
-use Rattle.rules.specs.Running.{Run, runTable, runTest, allValid, values_of, all_bytes}
-use Rattle.rules.specs.Satisfiable.{holds, atomsOf, among, different, someChoice, satisfiable}
-use Rattle.rules.specs.Symbolic.{plusEach, oppositeEach, sameEach, sameSum, sameAtom, symbol, symbols, apart, equalReferences}
-use Rattle.rules.specs.SymbolicRules.{unaryExec, binaryExec, branches, decide, typedResult, variable, judge}
-use Rattle.rules.specs.TypedRules.{unaryType, binaryType, ifType}
+use Rattle.rules.specs.Checking.{check_table, check_report, path_limit, check}
+use Rattle.rules.specs.Evaluation.{unary_on, binary_on, eval}
+use Rattle.rules.specs.Paths.{has, consistent_after, lookup, bind, leaves}
+use Rattle.rules.specs.Running.{Run, run_table, run_test, all_valid, values_of, all_bytes}
+use Rattle.rules.specs.Satisfiable.{holds, atoms_of, among, different, some_choice, satisfiable}
+use Rattle.rules.specs.Symbolic.{plus_each, opposite_each, same_each, same_sum, same_atom, symbol, symbols, apart, equal_references}
+use Rattle.rules.specs.SymbolicRules.{unary_exec, binary_exec, branches, decide, typed_result, variable, judge}
+use Rattle.rules.specs.TypedRules.{unary_type, binary_type, if_type}
 pub mod NewCells
 pub mod Refusals
 pub mod ScratchCells
@@ -45,12 +45,12 @@ pub record Case : Type 0 where
 abbrev pub five : ℕ → ℕ → List ℕ
 five k b = k ∷ b ∷ 0 ∷ 0 ∷ 0 ∷ []
 
-abbrev ranTo : Run → Answer
-ranTo r = runs (reportOfRun r.answer) (take 10 r.cells)
+abbrev ran_to : Run → Answer
+ran_to r = runs (report_of_run r.answer) (take 10 r.cells)
 
 abbrev asked : Question → Table → Answer
-asked check? t = checks (checkReport pathLimit t)
-asked (run? values cells used) t = ranTo (runTable t values cells used)
+asked check? t = checks (check_report path_limit t)
+asked (run? values cells used) t = ran_to (run_table t values cells used)
 
 abbrev pub asking : Case → Answer
 asking c = asked c.question c.table
@@ -59,10 +59,10 @@ abbrev pub right : Case → Answer
 right c = c.answer
 
 abbrev accepts : List ℕ → List Node → ℕ → Case
-accepts es ns t = record { table = lend es ns; question = check?; answer = checks (typeIs t) }
+accepts es ns t = record { table = lend es ns; question = check?; answer = checks (type_is t) }
 
 abbrev refuses : List ℕ → List Node → ℕ → Place → Case
-refuses es ns number place = record { table = lend es ns; question = check?; answer = checks (refusedWith number place) }
+refuses es ns number place = record { table = lend es ns; question = check?; answer = checks (refused_with number place) }
 
 -- a run with no entry values, on 192 empty cells of which none is used
 abbrev ends : List Node → Report → List ℕ → Case
@@ -89,15 +89,15 @@ cases =
     -- P8
     ∷ refuses [] [] 3 Nowhere
     -- P9
-    ∷ ends (int' 4294967295 ∷ int' 1 ∷ add' 0 1 ∷ []) (valueIs 0 0 0) (replicate 10 0)
+    ∷ ends (int' 4294967295 ∷ int' 1 ∷ add' 0 1 ∷ []) (value_is 0 0 0) (replicate 10 0)
     ∷ []
 
 -- to unfold this is to unfold every definition that the cases compute with
 computed : Unit {0}
-unfolding checkTable unaryOn binaryOn eval has consistentAfter lookup bind leaves allValid values_of runTest runTable all_bytes holds atomsOf among different someChoice satisfiable plusEach oppositeEach sameEach sameSum sameAtom symbol symbols
-    apart equalReferences unaryExec binaryExec branches decide typedResult variable judge unaryType binaryType ifType rows row_of wellFormed operands timesIn uses symsAround tooDeep treeTest nodesTest tableTest lowestFrom shape treeBy treesFrom trees root tree_of check
+unfolding check_table unary_on binary_on eval has consistent_after lookup bind leaves all_valid values_of run_test run_table all_bytes holds atoms_of among different some_choice satisfiable plus_each opposite_each same_each same_sum same_atom symbol symbols
+    apart equal_references unary_exec binary_exec branches decide typed_result variable judge unary_type binary_type if_type rows row_of well_formed operands times_in uses syms_around too_deep tree_test nodes_test table_test lowest_from shape tree_by trees_from trees root tree_of check
 computed = tt
 
-pub cases-hold : map asking cases ≡ map right cases
+pub cases_hold : map asking cases ≡ map right cases
 unfolding cases computed
-cases-hold = refl
+cases_hold = refl

@@ -13,8 +13,8 @@ pub record Write : Type 0 where
   pub through : ℕ
   pub value : Symbolic
 
-abbrev pub writeOf : Origin → ℕ → ℕ → Symbolic → Write
-writeOf o t s v = record { origin = o; cell = t; through = s; value = v }
+abbrev pub write_of : Origin → ℕ → ℕ → Symbolic → Write
+write_of o t s v = record { origin = o; cell = t; through = s; value = v }
 
 -- the next fresh symbol, the condition, and the log with the newest write first
 pub record Path : Type 0 where
@@ -41,21 +41,21 @@ forget p = record { next = p.next; condition = p.condition; log = [] }
 
 -- ---- the write log
 
-abbrev pub isRight : Write → Bool
-isRight w = eqb (type_of w.value) w.cell
+abbrev pub is_right : Write → Bool
+is_right w = eqb (type_of w.value) w.cell
 
 unfoldable pub has : List ℕ → ℕ → Bool
 has [] s = false
 has (x ∷ xs) s = eqb x s || has xs s
 
 -- each write of a wrong type is followed by one of the right type through the same symbol; `mended` are the symbols of newer right writes
-unfoldable pub consistentAfter : List ℕ → List Write → Bool
-consistentAfter mended [] = true
-consistentAfter mended (w ∷ ws) =
-    pick (isRight w) (consistentAfter (w.through ∷ mended) ws) (has mended w.through && consistentAfter mended ws)
+unfoldable pub consistent_after : List ℕ → List Write → Bool
+consistent_after mended [] = true
+consistent_after mended (w ∷ ws) =
+    pick (is_right w) (consistent_after (w.through ∷ mended) ws) (has mended w.through && consistent_after mended ws)
 
 abbrev pub consistent : Path → Bool
-consistent p = consistentAfter [] p.log
+consistent p = consistent_after [] p.log
 
 -- what `get` finds: writes through certainly different symbols are passed over; the next one counts if it is through the same symbol
 unfoldable pub lookup : Origin → ℕ → List Write → Option Symbolic

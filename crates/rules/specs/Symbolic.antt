@@ -11,62 +11,62 @@ pub record Sum : Type 0 where
 abbrev pub number : ℕ → Sum
 number w = record { constant = w; coefficients = [] }
 
-abbrev pub wordSymbol : ℕ → Sum
-wordSymbol s = record { constant = 0; coefficients = replicate s 0 ++ (1 ∷ []) }
+abbrev pub word_symbol : ℕ → Sum
+word_symbol s = record { constant = 0; coefficients = replicate s 0 ++ (1 ∷ []) }
 
-unfoldable pub plusEach : List ℕ → List ℕ → List ℕ
-plusEach [] ys = ys
-plusEach (x ∷ xs) [] = x ∷ xs
-plusEach (x ∷ xs) (y ∷ ys) = (x + y) % 2 ^ 32 ∷ plusEach xs ys
+unfoldable pub plus_each : List ℕ → List ℕ → List ℕ
+plus_each [] ys = ys
+plus_each (x ∷ xs) [] = x ∷ xs
+plus_each (x ∷ xs) (y ∷ ys) = (x + y) % 2 ^ 32 ∷ plus_each xs ys
 
 abbrev pub plus : Sum → Sum → Sum
-plus p q = record { constant = (p.constant + q.constant) % 2 ^ 32; coefficients = plusEach p.coefficients q.coefficients }
+plus p q = record { constant = (p.constant + q.constant) % 2 ^ 32; coefficients = plus_each p.coefficients q.coefficients }
 
 abbrev pub opposite : ℕ → ℕ
 opposite x = (2 ^ 32 - x % 2 ^ 32) % 2 ^ 32
 
-unfoldable pub oppositeEach : List ℕ → List ℕ
-oppositeEach [] = []
-oppositeEach (x ∷ xs) = opposite x ∷ oppositeEach xs
+unfoldable pub opposite_each : List ℕ → List ℕ
+opposite_each [] = []
+opposite_each (x ∷ xs) = opposite x ∷ opposite_each xs
 
 abbrev pub negated : Sum → Sum
-negated p = record { constant = opposite p.constant; coefficients = oppositeEach p.coefficients }
+negated p = record { constant = opposite p.constant; coefficients = opposite_each p.coefficients }
 
 abbrev pub minus : Sum → Sum → Sum
 minus p q = plus p (negated q)
 
 -- equal modulo 2^32
-abbrev pub sameNumber : ℕ → ℕ → Bool
-sameNumber x y = eqb (x % 2 ^ 32) (y % 2 ^ 32)
+abbrev pub same_number : ℕ → ℕ → Bool
+same_number x y = eqb (x % 2 ^ 32) (y % 2 ^ 32)
 
 abbrev pub is_zero : ℕ → Bool
-is_zero x = sameNumber x 0
+is_zero x = same_number x 0
 
-unfoldable pub sameEach : List ℕ → List ℕ → Bool
-sameEach [] ys = all is_zero ys
-sameEach (x ∷ xs) [] = is_zero x && all is_zero xs
-sameEach (x ∷ xs) (y ∷ ys) = sameNumber x y && sameEach xs ys
+unfoldable pub same_each : List ℕ → List ℕ → Bool
+same_each [] ys = all is_zero ys
+same_each (x ∷ xs) [] = is_zero x && all is_zero xs
+same_each (x ∷ xs) (y ∷ ys) = same_number x y && same_each xs ys
 
-unfoldable pub sameSum : Sum → Sum → Bool
-sameSum p q = sameNumber p.constant q.constant && sameEach p.coefficients q.coefficients
+unfoldable pub same_sum : Sum → Sum → Bool
+same_sum p q = same_number p.constant q.constant && same_each p.coefficients q.coefficients
 
 -- a truth symbol, an unordered pair of reference symbols, or a difference of words that is no constant
 pub data Atom : Type 0 where
-  truthSymbol : ℕ → Atom
+  truth_symbol : ℕ → Atom
   pair : ℕ → ℕ → Atom
   difference : Sum → Atom
 
 -- a difference and its negation are one atom
-unfoldable pub sameAtom : Atom → Atom → Bool
-sameAtom (truthSymbol s) (truthSymbol u) = eqb s u
-sameAtom (truthSymbol s) (pair u v) = false
-sameAtom (truthSymbol s) (difference q) = false
-sameAtom (pair r s) (truthSymbol u) = false
-sameAtom (pair r s) (pair u v) = eqb r u && eqb s v || eqb r v && eqb s u
-sameAtom (pair r s) (difference q) = false
-sameAtom (difference p) (truthSymbol u) = false
-sameAtom (difference p) (pair u v) = false
-sameAtom (difference p) (difference q) = sameSum p q || sameSum p (negated q)
+unfoldable pub same_atom : Atom → Atom → Bool
+same_atom (truth_symbol s) (truth_symbol u) = eqb s u
+same_atom (truth_symbol s) (pair u v) = false
+same_atom (truth_symbol s) (difference q) = false
+same_atom (pair r s) (truth_symbol u) = false
+same_atom (pair r s) (pair u v) = eqb r u && eqb s v || eqb r v && eqb s u
+same_atom (pair r s) (difference q) = false
+same_atom (difference p) (truth_symbol u) = false
+same_atom (difference p) (pair u v) = false
+same_atom (difference p) (difference q) = same_sum p q || same_sum p (negated q)
 
 -- no formula is simplified
 pub data Formula : Type 0 where
@@ -82,20 +82,20 @@ pub data Origin : Type 0 where
 
 -- the constructor is the type; of a reference: its origin, the type of its cell, and its symbol
 pub data Symbolic : Type 0 where
-  aWord : Sum → Symbolic
-  aTruth : Formula → Symbolic
-  aReference : Origin → ℕ → ℕ → Symbolic
+  a_word : Sum → Symbolic
+  a_truth : Formula → Symbolic
+  a_reference : Origin → ℕ → ℕ → Symbolic
 
 abbrev pub type_of : Symbolic → ℕ
-type_of (aWord p) = 0
-type_of (aTruth f) = 1
-type_of (aReference o t s) = suc (suc t)
+type_of (a_word p) = 0
+type_of (a_truth f) = 1
+type_of (a_reference o t s) = suc (suc t)
 
 -- the symbol s as a value of type t, and its origin
 unfoldable pub symbol : Origin → ℕ → ℕ → Symbolic
-symbol o zero s = aWord (wordSymbol s)
-symbol o (suc zero) s = aTruth (atom (truthSymbol s))
-symbol o (suc (suc t)) s = aReference o t s
+symbol o zero s = a_word (word_symbol s)
+symbol o (suc zero) s = a_truth (atom (truth_symbol s))
+symbol o (suc (suc t)) s = a_reference o t s
 
 -- when a path begins: each variable is a symbol of its type, numbered from s on
 unfoldable pub symbols : ℕ → List ℕ → List Symbolic
@@ -114,14 +114,14 @@ apart other s o u = false
 
 -- ---- equality
 
-abbrev pub isConstant : Sum → Bool
-isConstant p = all is_zero p.coefficients
+abbrev pub is_constant : Sum → Bool
+is_constant p = all is_zero p.coefficients
 
-abbrev pub zeroDifference : Sum → Formula
-zeroDifference d = pick (isConstant d) (constantly (is_zero d.constant)) (atom (difference d))
+abbrev pub zero_difference : Sum → Formula
+zero_difference d = pick (is_constant d) (constantly (is_zero d.constant)) (atom (difference d))
 
-abbrev pub equalSums : Sum → Sum → Formula
-equalSums p q = zeroDifference (minus p q)
+abbrev pub equal_sums : Sum → Sum → Formula
+equal_sums p q = zero_difference (minus p q)
 
-unfoldable pub equalReferences : Origin → ℕ → Origin → ℕ → Formula
-equalReferences o s p u = pick (eqb s u) (constantly true) (pick (apart o s p u) (constantly false) (atom (pair s u)))
+unfoldable pub equal_references : Origin → ℕ → Origin → ℕ → Formula
+equal_references o s p u = pick (eqb s u) (constantly true) (pick (apart o s p u) (constantly false) (atom (pair s u)))

@@ -1,6 +1,6 @@
 -- Typings of cells, in the words of demand 3 (docs/RUNS.md, 'What is promised of an accepted script'). A typing is the list of its cells' types. Assumes nothing.
 use Rattle.std.specs.Prelude.{Bool, List, [], ◌∷◌, ℕ, zero, suc, ◌^◌, ◌≤◌, ◌<◌}
-use Rattle.script.specs.Limits.{typeLimit}
+use Rattle.script.specs.Limits.{type_limit}
 use Rattle.script.specs.declared.Value.{Value}
 use Rattle.script.specs.declared.Value.TheVariants.{Word, Truth, Location}
 pub mod Laws
@@ -14,7 +14,7 @@ pub data At {A : Type 0} : List A → ℕ → A → Type 0 where
 pub data HasType (typing : List ℕ) : Value → ℕ → Type 0 where
   is_word : {w : ℕ} → w < 2 ^ 32 → HasType typing (Word w) 0
   is-truth : {b : Bool} → HasType typing (Truth b) 1
-  is-location : {l t : ℕ} → At typing l t → suc (suc t) ≤ typeLimit → HasType typing (Location l) (suc (suc t))
+  is_location : {l t : ℕ} → At typing l t → suc (suc t) ≤ type_limit → HasType typing (Location l) (suc (suc t))
 
 -- two lists of one length whose elements are related at each place
 pub data Each {A B : Type 0} (R : A → B → Type 0) : List A → List B → Type 0 where

@@ -2,8 +2,8 @@
 // `cells`, the 5-byte form and the tests 35 and 34.
 ghost use Rattle.std.proofs.Math.Option.{none};
 ghost use Rattle.std.specs.Prelude.{◌≡◌, take};
-ghost use Rattle.script.specs.Flat.{nodesIn, tableIn};
-ghost use Rattle.script.specs.Table.{tableTest};
+ghost use Rattle.script.specs.Flat.{nodes_in, table_in};
+ghost use Rattle.script.specs.Table.{table_test};
 ghost use Rattle.script.specs.Tree.{root};
 ghost use Rattle.rules.specs.Evaluation.{eval};
 ghost use Rattle.rules.specs.Running.{values_of};
@@ -34,7 +34,7 @@ fn run_tested(
     used: u32,
 ) -> Step
     requires { Runnable table.now nodes entries values.now cells.old used }
-    ensures { Does (eval (root (take nodes (nodesIn table.now))) (values_of entries values.now) (values_of used cells.old)) result cells.old cells.new }
+    ensures { Does (eval (root (take nodes (nodes_in table.now))) (values_of entries values.now) (values_of used cells.old)) result cells.old cells.new }
 {
     let mut environment = [0u8; ENVIRONMENT];
     bytes::copy(values, &mut environment);
@@ -58,7 +58,7 @@ pub fn run_passed(
     cells: &mut [u8],
     used: u32,
 ) -> Ran
-    requires { tableTest (tableIn table.now nodes entries.now entry_count) ≡ none }
+    requires { table_test (table_in table.now nodes entries.now entry_count) ≡ none }
     ensures { Answered table.now nodes entries.now entry_count values.now cells.old used result cells.new }
 {
     if !right_cells(cells, used) {

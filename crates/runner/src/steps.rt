@@ -1,9 +1,9 @@
 // Evaluation by the table: each node runs its operands, whose numbers are smaller, and then its rule.
-ghost use Rattle.script.specs.Code.Forms.{nodeIn, treeIn, boundOn};
+ghost use Rattle.script.specs.Code.Forms.{node_in, tree_in, bound_on};
 ghost use Rattle.rules.specs.Evaluation.{eval};
 ghost use Rattle.rules.specs.Running.{values_of};
 ghost use Rattle.rules.specs.Running.Laws.{InRange};
-ghost use Rattle.operators.specs.Steps.{whole_of, Variables, Bound, restOn, Ready, Halfway, Runs};
+ghost use Rattle.operators.specs.Steps.{whole_of, Variables, Bound, rest_on, Ready, Halfway, Runs};
 
 use cells::store;
 use operators::steps::{next_operand, parts_of, whole};
@@ -16,7 +16,7 @@ use table::{has_one, node_at};
 fn bind(environment: &mut [u8], depth: usize, node: Node, v: Value) -> usize
     requires variables { Variables environment.old depth 1 }
     requires in_range { InRange v }
-    ensures { Bound environment.old depth (boundOn node v (values_of depth environment.old)) environment.new result }
+    ensures { Bound environment.old depth (bound_on node v (values_of depth environment.old)) environment.new result }
 {
     if node.kind == LET {
         store(environment, depth, v);
@@ -37,7 +37,7 @@ fn rest(
     v: Value,
 ) -> Step
     requires { Halfway table.now environment.old depth cells.old used n v }
-    ensures { Runs (restOn table.now n (nodeIn table.now n) v (values_of depth environment.old) (values_of used cells.old)) depth environment.old environment.new result cells.old cells.new }
+    ensures { Runs (rest_on table.now n (node_in table.now n) v (values_of depth environment.old) (values_of used cells.old)) depth environment.old environment.new result cells.old cells.new }
 {
     let node = node_at(table, n as usize);
     match next_operand(node, v) {
@@ -63,7 +63,7 @@ pub fn run_node(
     n: u32,
 ) -> Parts
     requires { Ready table.now environment.old depth cells.old used n }
-    ensures { Runs (eval (treeIn table.now n) (values_of depth environment.old) (values_of used cells.old)) depth environment.old environment.new (whole_of result) cells.old cells.new }
+    ensures { Runs (eval (tree_in table.now n) (values_of depth environment.old) (values_of used cells.old)) depth environment.old environment.new (whole_of result) cells.old cells.new }
 {
     let node = node_at(table, n as usize);
     if node.kind < LEAVES {

@@ -2,9 +2,9 @@
 use Rattle.std.specs.Prelude.{cond, List, ℕ, ◌+◌, ◌-◌, ltb, length, take, drop}
 use Rattle.trial.specs.declared.Number.{Number}
 use Rattle.trial.specs.declared.Number.TheVariants as number
-use Rattle.trial.specs.Given.{bytesLine}
-use Rattle.trial.specs.Places.{textEnd}
-use Rattle.runs.specs.Outcome.{cellsAfter}
+use Rattle.trial.specs.Given.{bytes_line}
+use Rattle.trial.specs.Places.{text_end}
+use Rattle.runs.specs.Outcome.{cells_after}
 pub mod Laws
 
 pub record Left : Type 0 where
@@ -18,22 +18,22 @@ left r values before cells = record { next = r; values = values; before = before
 
 module _ (input : List ℕ) (used : ℕ) where
   -- the text at `from`, up to an empty line, is run; without an empty line there is no run
-  abbrev pub textGiven : ℕ → ℕ → List ℕ → List ℕ → List ℕ → Left
-  textGiven from count values before cells =
-      cond (ltb (textEnd input from) (length input))
-      (left (textEnd input from + 1) values before (cellsAfter (take (textEnd input from - from) (drop from input)) (take count values) cells used))
+  abbrev pub text_given : ℕ → ℕ → List ℕ → List ℕ → List ℕ → Left
+  text_given from count values before cells =
+      cond (ltb (text_end input from) (length input))
+      (left (text_end input from + 1) values before (cells_after (take (text_end input from - from) (drop from input)) (take count values) cells used))
       (left 0 values before cells)
 
   -- the line of the cells at `at` went into `before`; if it was one, it goes into the cells
-  abbrev pub cellsGiven : Number → ℕ → ℕ → List ℕ → List ℕ → List ℕ → Left
-  cellsGiven number.Bad at count values before cells = left 0 values before cells
-  cellsGiven (number.Is n from) at count values before cells = textGiven from count values before (bytesLine input at cells).bytes
+  abbrev pub cells_given : Number → ℕ → ℕ → List ℕ → List ℕ → List ℕ → Left
+  cells_given number.Bad at count values before cells = left 0 values before cells
+  cells_given (number.Is n from) at count values before cells = text_given from count values before (bytes_line input at cells).bytes
 
   -- the line of the values went into `values`
-  abbrev pub valuesGiven : Number → List ℕ → List ℕ → List ℕ → Left
-  valuesGiven number.Bad values before cells = left 0 values before cells
-  valuesGiven (number.Is count next) values before cells =
-      cellsGiven (bytesLine input next before).answer next count values (bytesLine input next before).bytes cells
+  abbrev pub values_given : Number → List ℕ → List ℕ → List ℕ → Left
+  values_given number.Bad values before cells = left 0 values before cells
+  values_given (number.Is count next) values before cells =
+      cells_given (bytes_line input next before).answer next count values (bytes_line input next before).bytes cells
 
-  unfoldable pub givenAt : ℕ → List ℕ → List ℕ → List ℕ → Left
-  givenAt at values before cells = valuesGiven (bytesLine input at values).answer (bytesLine input at values).bytes before cells
+  unfoldable pub given_at : ℕ → List ℕ → List ℕ → List ℕ → Left
+  given_at at values before cells = values_given (bytes_line input at values).answer (bytes_line input at values).bytes before cells

@@ -12,7 +12,7 @@
 // after the used cells is as it was before the run, else `touched`.
 // After a refusal: the name, `refused`, number, place or `-`, and `kept` if each lent byte is as it was; `unread` if the text was refused, and nothing run.
 ghost use Rattle.std.specs.Prelude.{◌≡◌};
-ghost use Rattle.runs.specs.Given.{left, givenAt};
+ghost use Rattle.runs.specs.Given.{left, given_at};
 
 mod outcome;
 
@@ -33,7 +33,7 @@ fn try_given(
     cells: &mut [u8],
     used: u32,
 ) -> usize
-    ensures { left result values.new before.new cells.new ≡ givenAt input.now used at values.old before.old cells.old }
+    ensures { left result values.new before.new cells.new ≡ given_at input.now used at values.old before.old cells.old }
 {
     let Number::Is(count, next) = bytes_line(input, at, values) else {
         return 0;

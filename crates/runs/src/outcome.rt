@@ -1,8 +1,8 @@
 // One run: the text is read, the script run, and what came of it printed.
 ghost use Rattle.std.specs.Prelude.{◌≡◌, ◌+◌, ◌*◌, ◌≤◌, ◌<◌, length};
-ghost use Rattle.rules.specs.Running.{runTable};
-ghost use Rattle.call_texts.specs.Tables.{tableAs};
-ghost use Rattle.runs.specs.Outcome.{cellsAfter};
+ghost use Rattle.rules.specs.Running.{run_table};
+ghost use Rattle.call_texts.specs.Tables.{table_as};
+ghost use Rattle.runs.specs.Outcome.{cells_after};
 
 use script::table::WIDTH;
 use script::{Ran, Reading, Script};
@@ -84,7 +84,7 @@ fn try_script(
     cells: &mut [u8],
     used: u32,
 )
-    ensures { cells.new ≡ (runTable (tableAs table.now nodes entries.now entry_count) values.now cells.old used).cells }
+    ensures { cells.new ≡ (run_table (table_as table.now nodes entries.now entry_count) values.now cells.old used).cells }
 {
     match calls::run(table, nodes, entries, entry_count, values, cells, used) {
         Ran::Gave(v, now) => {
@@ -107,7 +107,7 @@ fn try_script(
 
 // Reads a text, and runs it if it could be read. The line is left open.
 pub fn try_text(text: &[u8], values: &[u8], before: &[u8], cells: &mut [u8], used: u32)
-    ensures { cells.new ≡ cellsAfter text.now values.now cells.old used }
+    ensures { cells.new ≡ cells_after text.now values.now cells.old used }
 {
     let mut table = [0u32; WIDTH * Script::NODES];
     let mut entries = [0u32; 16];

@@ -73,26 +73,26 @@ bits_of (Location l) = l
 -- a type's code; a value's kind and bits, and the used count; the node of the error state, and the used count; how many nodes and entries were read;
 -- how many bytes were written; a refusal's number and place
 pub data Report : Type 0 where
-  typeIs : ℕ → Report
-  valueIs : ℕ → ℕ → ℕ → Report
-  errorAt : ℕ → ℕ → Report
+  type_is : ℕ → Report
+  value_is : ℕ → ℕ → ℕ → Report
+  error_at : ℕ → ℕ → Report
   table_of : ℕ → ℕ → Report
   bytes_of : ℕ → Report
-  refusedWith : ℕ → Place → Report
+  refused_with : ℕ → Place → Report
 
-abbrev pub reportOfCheck : Checked → Report
-reportOfCheck (Checked.Accepted t) = typeIs t
-reportOfCheck (Checked.Refused r) = refusedWith (number_of r) (place_of r)
+abbrev pub report_of_check : Checked → Report
+report_of_check (Checked.Accepted t) = type_is t
+report_of_check (Checked.Refused r) = refused_with (number_of r) (place_of r)
 
-abbrev pub reportOfRun : Ran → Report
-reportOfRun (Ran.Gave v used) = valueIs (kind_of v) (bits_of v) used
-reportOfRun (Ran.Failed n used) = errorAt n used
-reportOfRun (Ran.Refused r) = refusedWith (number_of r) (place_of r)
+abbrev pub report_of_run : Ran → Report
+report_of_run (Ran.Gave v used) = value_is (kind_of v) (bits_of v) used
+report_of_run (Ran.Failed n used) = error_at n used
+report_of_run (Ran.Refused r) = refused_with (number_of r) (place_of r)
 
-abbrev pub reportOfReading : Reading → Report
-reportOfReading (Reading.Read s) = table_of s.nodes s.entries
-reportOfReading (Reading.Refused r) = refusedWith (number_of r) (place_of r)
+abbrev pub report_of_reading : Reading → Report
+report_of_reading (Reading.Read s) = table_of s.nodes s.entries
+report_of_reading (Reading.Refused r) = refused_with (number_of r) (place_of r)
 
-abbrev pub reportOfWriting : Writing → Report
-reportOfWriting (Writing.Wrote n) = bytes_of n
-reportOfWriting (Writing.Refused r) = refusedWith (number_of r) (place_of r)
+abbrev pub report_of_writing : Writing → Report
+report_of_writing (Writing.Wrote n) = bytes_of n
+report_of_writing (Writing.Refused r) = refused_with (number_of r) (place_of r)

@@ -5,44 +5,44 @@ use Rattle.script.specs.declared.Script.{Script}
 use Rattle.script.specs.declared.Sized.{Sized}
 use Rattle.script.specs.declared.Sized.TheVariants.{Fits, TooLarge}
 
-abbrev pub nodeLimit : ℕ
-nodeLimit = 128
+abbrev pub node_limit : ℕ
+node_limit = 128
 
-abbrev pub entryLimit : ℕ
-entryLimit = 16
+abbrev pub entry_limit : ℕ
+entry_limit = 16
 
-abbrev pub byteLimit : ℕ
-byteLimit = 8192
+abbrev pub byte_limit : ℕ
+byte_limit = 8192
 
-abbrev pub nestingLimit : ℕ
-nestingLimit = 4
+abbrev pub nesting_limit : ℕ
+nesting_limit = 4
 
-abbrev pub variableLimit : ℕ
-variableLimit = 143
+abbrev pub variable_limit : ℕ
+variable_limit = 143
 
 -- the largest word
-abbrev pub wordLimit : ℕ
-wordLimit = 4294967295
+abbrev pub word_limit : ℕ
+word_limit = 4294967295
 
 -- the largest code of a type: 15 references to a truth
-abbrev pub typeLimit : ℕ
-typeLimit = 31
+abbrev pub type_limit : ℕ
+type_limit = 31
 
 abbrev pub size_of : ℕ → ℕ → Script
 size_of n m = record { nodes = n; entries = m }
 
-abbrev pub pickSized : Bool → Sized → Sized
-pickSized true s = s
-pickSized false s = TooLarge
+abbrev pub pick_sized : Bool → Sized → Sized
+pick_sized true s = s
+pick_sized false s = TooLarge
 
-abbrev pub countsFit : ℕ → ℕ → Bool
-countsFit n m = leb n nodeLimit && leb m entryLimit
+abbrev pub counts_fit : ℕ → ℕ → Bool
+counts_fit n m = leb n node_limit && leb m entry_limit
 
-abbrev pub scriptOf : ℕ → ℕ → Sized
-scriptOf n m = pickSized (countsFit n m) (Fits (size_of n m))
+abbrev pub script_of : ℕ → ℕ → Sized
+script_of n m = pick_sized (counts_fit n m) (Fits (size_of n m))
 
-abbrev pub withNode : Script → Sized
-withNode s = pickSized (ltb s.nodes nodeLimit) (Fits (size_of (s.nodes + 1) s.entries))
+abbrev pub with_node : Script → Sized
+with_node s = pick_sized (ltb s.nodes node_limit) (Fits (size_of (s.nodes + 1) s.entries))
 
-abbrev pub withEntry : Script → Sized
-withEntry s = pickSized (ltb s.entries entryLimit) (Fits (size_of s.nodes (s.entries + 1)))
+abbrev pub with_entry : Script → Sized
+with_entry s = pick_sized (ltb s.entries entry_limit) (Fits (size_of s.nodes (s.entries + 1)))

@@ -3,23 +3,23 @@
 use Rattle.std.specs.Prelude.{Bool, true, false, List, [], ◌∷◌, ℕ}
 use Rattle.std.proofs.Math.Option.{Option, none, some}
 use Rattle.std.proofs.Math.ListN.{get_elem?}
-use Rattle.script.specs.Limits.{variableLimit, wordLimit}
+use Rattle.script.specs.Limits.{variable_limit, word_limit}
 use Rattle.script.specs.declared.table.Takes.{Takes}
 use Rattle.script.specs.declared.table.Takes.TheVariants.{Number, Nodes}
 pub mod Kinds
 pub mod Laws
 
 pub data UnaryOp : Type 0 where
-  notOp refOp getOp : UnaryOp
+  not_op ref_op get_op : UnaryOp
 
 pub data BinaryOp : Type 0 where
-  addOp eqOp and_op setOp : BinaryOp
+  add_op eq_op and_op set_op : BinaryOp
 
 pub data Form : Type 0 where
-  intForm varForm ifForm letForm typedForm symForm : Form
-  truthForm : Bool → Form
-  unaryForm : UnaryOp → Form
-  binaryForm : BinaryOp → Form
+  int_form var_form if_form let_form typed_form sym_form : Form
+  truth_form : Bool → Form
+  unary_form : UnaryOp → Form
+  binary_form : BinaryOp → Form
 
 pub record Row : Type 0 where
   pub word : List ℕ
@@ -31,21 +31,21 @@ row w n f = record { word = w; count = n; form = f }
 
 unfoldable pub rows : List Row
 rows =
-    row (105 ∷ 110 ∷ 116 ∷ []) 1 intForm  -- int
-    ∷ row (116 ∷ 114 ∷ 117 ∷ 101 ∷ []) 0 (truthForm true)  -- true
-    ∷ row (102 ∷ 97 ∷ 108 ∷ 115 ∷ 101 ∷ []) 0 (truthForm false)  -- false
-    ∷ row (118 ∷ 97 ∷ 114 ∷ []) 1 varForm  -- var
-    ∷ row (97 ∷ 100 ∷ 100 ∷ []) 2 (binaryForm addOp)  -- add
-    ∷ row (101 ∷ 113 ∷ []) 2 (binaryForm eqOp)  -- eq
-    ∷ row (110 ∷ 111 ∷ 116 ∷ []) 1 (unaryForm notOp)  -- not
-    ∷ row (97 ∷ 110 ∷ 100 ∷ []) 2 (binaryForm and_op)  -- and
-    ∷ row (105 ∷ 102 ∷ []) 3 ifForm  -- if
-    ∷ row (108 ∷ 101 ∷ 116 ∷ []) 2 letForm  -- let
-    ∷ row (114 ∷ 101 ∷ 102 ∷ []) 1 (unaryForm refOp)  -- ref
-    ∷ row (103 ∷ 101 ∷ 116 ∷ []) 1 (unaryForm getOp)  -- get
-    ∷ row (115 ∷ 101 ∷ 116 ∷ []) 2 (binaryForm setOp)  -- set
-    ∷ row (116 ∷ 121 ∷ 112 ∷ 101 ∷ 100 ∷ []) 1 typedForm  -- typed
-    ∷ row (115 ∷ 121 ∷ 109 ∷ []) 1 symForm  -- sym
+    row (105 ∷ 110 ∷ 116 ∷ []) 1 int_form  -- int
+    ∷ row (116 ∷ 114 ∷ 117 ∷ 101 ∷ []) 0 (truth_form true)  -- true
+    ∷ row (102 ∷ 97 ∷ 108 ∷ 115 ∷ 101 ∷ []) 0 (truth_form false)  -- false
+    ∷ row (118 ∷ 97 ∷ 114 ∷ []) 1 var_form  -- var
+    ∷ row (97 ∷ 100 ∷ 100 ∷ []) 2 (binary_form add_op)  -- add
+    ∷ row (101 ∷ 113 ∷ []) 2 (binary_form eq_op)  -- eq
+    ∷ row (110 ∷ 111 ∷ 116 ∷ []) 1 (unary_form not_op)  -- not
+    ∷ row (97 ∷ 110 ∷ 100 ∷ []) 2 (binary_form and_op)  -- and
+    ∷ row (105 ∷ 102 ∷ []) 3 if_form  -- if
+    ∷ row (108 ∷ 101 ∷ 116 ∷ []) 2 let_form  -- let
+    ∷ row (114 ∷ 101 ∷ 102 ∷ []) 1 (unary_form ref_op)  -- ref
+    ∷ row (103 ∷ 101 ∷ 116 ∷ []) 1 (unary_form get_op)  -- get
+    ∷ row (115 ∷ 101 ∷ 116 ∷ []) 2 (binary_form set_op)  -- set
+    ∷ row (116 ∷ 121 ∷ 112 ∷ 101 ∷ 100 ∷ []) 1 typed_form  -- typed
+    ∷ row (115 ∷ 121 ∷ 109 ∷ []) 1 sym_form  -- sym
     ∷ []
 
 -- the row of a kind, if it has a word
@@ -53,52 +53,52 @@ unfoldable pub row_of : ℕ → Option Row
 row_of k = get_elem? rows k
 
 -- the largest number that `int` and `var` take; the operands of every other word are nodes
-abbrev pub numberUpTo : Form → Option ℕ
-numberUpTo intForm = some wordLimit
-numberUpTo varForm = some variableLimit
-numberUpTo ifForm = none
-numberUpTo letForm = none
-numberUpTo typedForm = none
-numberUpTo symForm = none
-numberUpTo (truthForm b) = none
-numberUpTo (unaryForm o) = none
-numberUpTo (binaryForm o) = none
+abbrev pub number_up_to : Form → Option ℕ
+number_up_to int_form = some word_limit
+number_up_to var_form = some variable_limit
+number_up_to if_form = none
+number_up_to let_form = none
+number_up_to typed_form = none
+number_up_to sym_form = none
+number_up_to (truth_form b) = none
+number_up_to (unary_form o) = none
+number_up_to (binary_form o) = none
 
-abbrev pub isSym : Form → Bool
-isSym intForm = false
-isSym varForm = false
-isSym ifForm = false
-isSym letForm = false
-isSym typedForm = false
-isSym symForm = true
-isSym (truthForm b) = false
-isSym (unaryForm o) = false
-isSym (binaryForm o) = false
+abbrev pub is_sym : Form → Bool
+is_sym int_form = false
+is_sym var_form = false
+is_sym if_form = false
+is_sym let_form = false
+is_sym typed_form = false
+is_sym sym_form = true
+is_sym (truth_form b) = false
+is_sym (unary_form o) = false
+is_sym (binary_form o) = false
 
-abbrev pub countBy : Option Row → ℕ
-countBy none = 0
-countBy (some r) = r.count
+abbrev pub count_by : Option Row → ℕ
+count_by none = 0
+count_by (some r) = r.count
 
 -- how many operands a kind takes; a kind that has no word takes none
-unfoldable pub operandCount : ℕ → ℕ
-operandCount k = countBy (row_of k)
+unfoldable pub operand_count : ℕ → ℕ
+operand_count k = count_by (row_of k)
 
 -- what the operands of a kind are, as the code says it
-abbrev pub takesBy : Option ℕ → Takes
-takesBy none = Nodes
-takesBy (some m) = Number m
+abbrev pub takes_by : Option ℕ → Takes
+takes_by none = Nodes
+takes_by (some m) = Number m
 
-abbrev pub takesIn : Option Row → Takes
-takesIn none = Nodes
-takesIn (some r) = takesBy (numberUpTo r.form)
+abbrev pub takes_in : Option Row → Takes
+takes_in none = Nodes
+takes_in (some r) = takes_by (number_up_to r.form)
 
-unfoldable pub takesOf : ℕ → Takes
-takesOf k = takesIn (row_of k)
+unfoldable pub takes_of : ℕ → Takes
+takes_of k = takes_in (row_of k)
 
-abbrev pub nodesOnly : Takes → ℕ → ℕ
-nodesOnly (Number m) c = 0
-nodesOnly Nodes c = c
+abbrev pub nodes_only : Takes → ℕ → ℕ
+nodes_only (Number m) c = 0
+nodes_only Nodes c = c
 
 -- how many operands of a kind are nodes
-unfoldable pub nodeOperands : ℕ → ℕ
-nodeOperands k = nodesOnly (takesOf k) (operandCount k)
+unfoldable pub node_operands : ℕ → ℕ
+node_operands k = nodes_only (takes_of k) (operand_count k)

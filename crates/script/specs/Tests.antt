@@ -17,13 +17,13 @@ module _ {A : Type 0} where
   all p (x ∷ xs) = p x && all p xs
 
 -- the lowest of the k numbers from i on that passes the test
-unfoldable pub lowestFrom : (ℕ → Bool) → ℕ → ℕ → Option ℕ
-lowestFrom p i zero = none
-lowestFrom p i (suc k) = pick (p i) (some i) (lowestFrom p (suc i) k)
+unfoldable pub lowest_from : (ℕ → Bool) → ℕ → ℕ → Option ℕ
+lowest_from p i zero = none
+lowest_from p i (suc k) = pick (p i) (some i) (lowest_from p (suc i) k)
 
 -- the lowest number below k that passes the test
 abbrev pub lowest : (ℕ → Bool) → ℕ → Option ℕ
-lowest p k = lowestFrom p 0 k
+lowest p k = lowest_from p 0 k
 
 module _ {R : Type 0} where
   -- the refusal r where the test fails, else what the later tests say
@@ -32,6 +32,6 @@ module _ {R : Type 0} where
   need false r later = some r
 
   -- the refusal of the place found, else what the later tests say
-  abbrev pub needNone : Option ℕ → (ℕ → R) → Option R → Option R
-  needNone none r later = later
-  needNone (some i) r later = some (r i)
+  abbrev pub need_none : Option ℕ → (ℕ → R) → Option R → Option R
+  need_none none r later = later
+  need_none (some i) r later = some (r i)

@@ -1,7 +1,7 @@
 // The plain data that all layers share, declared once: the node record, values, refusals and answers, and the limits of a script.
 ghost use Rattle.std.specs.Prelude.{◌≡◌};
 ghost use Rattle.script.specs.Answers.{number_of, place_of, kind_of, bits_of};
-ghost use Rattle.script.specs.Limits.{scriptOf, size_of, withNode, withEntry};
+ghost use Rattle.script.specs.Limits.{script_of, size_of, with_node, with_entry};
 
 pub mod table;
 
@@ -214,7 +214,7 @@ impl Script {
 
     // The script with these counts, if they are within the limits.
     pub fn of(nodes: usize, entries: usize) -> Sized
-        ensures { result ≡ scriptOf nodes entries }
+        ensures { result ≡ script_of nodes entries }
     {
         if nodes <= Script::NODES {
             if entries <= Script::ENTRIES {
@@ -226,7 +226,7 @@ impl Script {
 
     // One node more.
     pub fn with_node(self) -> Sized
-        ensures { result ≡ withNode self }
+        ensures { result ≡ with_node self }
     {
         let nodes = self.nodes;
         if nodes < Script::NODES {
@@ -240,7 +240,7 @@ impl Script {
 
     // One entry more.
     pub fn with_entry(self) -> Sized
-        ensures { result ≡ withEntry self }
+        ensures { result ≡ with_entry self }
     {
         let entries = self.entries;
         if entries < Script::ENTRIES {

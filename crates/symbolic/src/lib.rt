@@ -2,13 +2,12 @@
 // `terms::references` says of a reference.
 ghost use Rattle.std.specs.Prelude.{◌*◌, ◌≤◌, length};
 ghost use Rattle.script.specs.Code.Forms.{form_of};
-ghost use Rattle.script.specs.Rows.{varForm, unaryForm, binaryForm, notOp, refOp, getOp, addOp, eqOp, and_op, setOp};
-ghost use Rattle.terms.specs.References.{originBy, IsOrigin};
+ghost use Rattle.script.specs.Rows.{var_form, unary_form, binary_form, not_op, ref_op, get_op, add_op, eq_op, and_op, set_op};
+ghost use Rattle.terms.specs.References.{origin_by, IsOrigin};
 ghost use Rattle.workspace.specs.Paths.{Fresh};
 ghost use Rattle.workspace.specs.Rules.{Leaf, One, Two, After, Operable};
 ghost use Rattle.workspace.specs.State.{Room};
 
-use log::{consistent, forget, lookup, write};
 use script::table::{ADD, AND, EQ, GET, INT, NOT, REF, SET, TRUE, VAR};
 use script::{Node, Refusal};
 use terms::atoms::{equal_references, symbols_atom};
@@ -17,12 +16,13 @@ use terms::{CONJUNCTION, CONSTANT, EQUALITY, NEGATION, NUMBER, SUM, SYMBOL, TRUT
 use types::DEEPEST;
 use words::equal_words;
 use workspace::{Found, NEXT, Step};
+use write_log::{consistent, forget, lookup, write};
 
 // A fresh symbol of type t, with this origin: its place.
 pub fn fresh(space: &mut [u32], t: u32, origin: u32) -> u32
     requires room { Room space.old 1 }
     requires origin { IsOrigin origin }
-    ensures { Fresh (originBy origin) t space.old result space.new }
+    ensures { Fresh (origin_by origin) t space.old result space.new }
 {
     let symbol = space[NEXT];
     space[NEXT] = symbol + 1;
@@ -36,7 +36,7 @@ pub fn fresh(space: &mut [u32], t: u32, origin: u32) -> u32
 // `var`: the value at the place of the environment that the node names.
 fn variable(node: Node, space: &[u32], depth: usize, n: u32) -> Step
     requires { 2 * depth ≤ length space.now }
-    ensures { Leaf varForm n node depth space.now result space.now }
+    ensures { Leaf var_form n node depth space.now result space.now }
 {
     let i = node.a as usize;
     if i < depth {
@@ -63,7 +63,7 @@ pub fn leaf(node: Node, space: &mut [u32], depth: usize, n: u32) -> Step
 // `not`.
 fn negation(t: u32, q: u32, space: &mut [u32], n: u32) -> Step
     requires { Room space.old 1 }
-    ensures { One (unaryForm notOp) n t q space.old result space.new }
+    ensures { One (unary_form not_op) n t q space.old result space.new }
 {
     if t != 1 {
         return Step::Stopped(Refusal::WrongType(n));
@@ -74,7 +74,7 @@ fn negation(t: u32, q: u32, space: &mut [u32], n: u32) -> Step
 // `ref`: a fresh symbol, and its value in the log.
 fn make_cell(t: u32, q: u32, space: &mut [u32], n: u32) -> Step
     requires { Room space.old 1 }
-    ensures { One (unaryForm refOp) n t q space.old result space.new }
+    ensures { One (unary_form ref_op) n t q space.old result space.new }
 {
     if DEEPEST <= t {
         return Step::Stopped(Refusal::TooManyReferences(n));
@@ -87,7 +87,7 @@ fn make_cell(t: u32, q: u32, space: &mut [u32], n: u32) -> Step
 // `get`: what the log has, of whatever type; or else, if the log is consistent, a fresh symbol.
 fn read_cell(t: u32, q: u32, space: &mut [u32], n: u32) -> Step
     requires { Room space.old 1 }
-    ensures { One (unaryForm getOp) n t q space.old result space.new }
+    ensures { One (unary_form get_op) n t q space.old result space.new }
 {
     if t < 2 {
         return Step::Stopped(Refusal::WrongType(n));
@@ -119,7 +119,7 @@ pub fn one(kind: u32, t: u32, q: u32, space: &mut [u32], n: u32) -> Step
 // `add`.
 fn sum(t: u32, q: u32, u: u32, s: u32, space: &mut [u32], n: u32) -> Step
     requires { Room space.old 1 }
-    ensures { Two (binaryForm addOp) n t q u s space.old result space.new }
+    ensures { Two (binary_form add_op) n t q u s space.old result space.new }
 {
     if t != 0 {
         return Step::Stopped(Refusal::WrongType(n));
@@ -133,7 +133,7 @@ fn sum(t: u32, q: u32, u: u32, s: u32, space: &mut [u32], n: u32) -> Step
 // `eq`.
 fn equality(t: u32, q: u32, u: u32, s: u32, space: &mut [u32], n: u32) -> Step
     requires { Operable space.old t q u s }
-    ensures { Two (binaryForm eqOp) n t q u s space.old result space.new }
+    ensures { Two (binary_form eq_op) n t q u s space.old result space.new }
 {
     if t != u {
         return Step::Stopped(Refusal::WrongType(n));
@@ -148,7 +148,7 @@ fn equality(t: u32, q: u32, u: u32, s: u32, space: &mut [u32], n: u32) -> Step
 // `and`.
 fn conjunction(t: u32, q: u32, u: u32, s: u32, space: &mut [u32], n: u32) -> Step
     requires { Room space.old 1 }
-    ensures { Two (binaryForm and_op) n t q u s space.old result space.new }
+    ensures { Two (binary_form and_op) n t q u s space.old result space.new }
 {
     if t != 1 {
         return Step::Stopped(Refusal::WrongType(n));
@@ -162,7 +162,7 @@ fn conjunction(t: u32, q: u32, u: u32, s: u32, space: &mut [u32], n: u32) -> Ste
 // `set`: any value is logged.
 fn write_cell(t: u32, q: u32, u: u32, s: u32, space: &mut [u32], n: u32) -> Step
     requires { Room space.old 1 }
-    ensures { Two (binaryForm setOp) n t q u s space.old result space.new }
+    ensures { Two (binary_form set_op) n t q u s space.old result space.new }
 {
     if t < 2 {
         return Step::Stopped(Refusal::WrongType(n));

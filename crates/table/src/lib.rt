@@ -1,10 +1,10 @@
 // A table in its flat form: the operand counts of the kinds, a well-formed node, the unused node, and the one door to a node.
 ghost use Rattle.std.specs.Prelude.{◌≡◌, ◌*◌, eqb, get_or};
 ghost use Rattle.std.proofs.lemmas.List.Edits.{sets};
-ghost use Rattle.script.specs.Flat.{numbersOf, nodeWidth, nodesIn, HasNode};
-ghost use Rattle.script.specs.Rows.{row_of, operandCount, takesOf, nodeOperands};
-ghost use Rattle.script.specs.Table.{unused, nodeAt, fields, rightNode, isSymNode};
-ghost use Rattle.script.specs.Code.TableTests.{rightField};
+ghost use Rattle.script.specs.Flat.{numbers_of, node_width, nodes_in, HasNode};
+ghost use Rattle.script.specs.Rows.{row_of, operand_count, takes_of, node_operands};
+ghost use Rattle.script.specs.Table.{unused, node_at, fields, right_node, is_sym_node};
+ghost use Rattle.script.specs.Code.TableTests.{right_field};
 
 pub mod clearing;
 
@@ -16,7 +16,7 @@ const COUNTS: [u8; KINDS as usize] = [1, 0, 0, 1, 2, 2, 1, 2, 3, 2, 1, 1, 2, 1, 
 
 // How many operands a kind takes.
 pub fn operand_count(kind: u32) -> u32
-    ensures { result ≡ operandCount kind }
+    ensures { result ≡ operand_count kind }
 {
     if kind < KINDS {
         return COUNTS[kind as usize] as u32;
@@ -26,7 +26,7 @@ pub fn operand_count(kind: u32) -> u32
 
 // What the operands of a kind are.
 pub fn kind_takes(kind: u32) -> Takes
-    ensures { result ≡ takesOf kind }
+    ensures { result ≡ takes_of kind }
 {
     match kind {
         INT => Takes::Number(Script::WORD),
@@ -37,7 +37,7 @@ pub fn kind_takes(kind: u32) -> Takes
 
 // How many operands of a kind are nodes: none of a leaf, else all.
 pub fn node_operands(kind: u32) -> u32
-    ensures { result ≡ nodeOperands kind }
+    ensures { result ≡ node_operands kind }
 {
     if kind < LEAVES {
         return 0;
@@ -47,7 +47,7 @@ pub fn node_operands(kind: u32) -> u32
 
 // A node of this kind has one operand that is a node.
 pub fn has_one(kind: u32) -> bool
-    ensures { result ≡ eqb (nodeOperands kind) 1 }
+    ensures { result ≡ eqb (node_operands kind) 1 }
 {
     match kind {
         NOT => true,
@@ -73,7 +73,7 @@ pub fn operand_at(n: Node, k: u32) -> u32
 
 // The node is a `sym`.
 pub fn is_sym(n: Node) -> bool
-    ensures { result ≡ isSymNode n }
+    ensures { result ≡ is_sym_node n }
 {
     n.kind == SYM
 }
@@ -81,8 +81,8 @@ pub fn is_sym(n: Node) -> bool
 // The operand o at place k of a node with number i, whose kind takes `count` operands: an earlier node or a number in its range where the kind
 // takes it, else 0.
 fn right_field(kind: u32, count: u32, k: u32, o: u32, i: usize) -> bool
-    requires { count ≡ operandCount kind }
-    ensures { result ≡ rightField (row_of kind) k o i }
+    requires { count ≡ operand_count kind }
+    ensures { result ≡ right_field (row_of kind) k o i }
 {
     if kind < KINDS {
         if k < count {
@@ -98,7 +98,7 @@ fn right_field(kind: u32, count: u32, k: u32, o: u32, i: usize) -> bool
 
 // Node i is well formed: 4.
 pub fn well_formed(n: Node, i: usize) -> bool
-    ensures { result ≡ rightNode (row_of n.kind) i n }
+    ensures { result ≡ right_node (row_of n.kind) i n }
 {
     let count = operand_count(n.kind);
     if right_field(n.kind, count, 0, n.a, i) {
@@ -124,7 +124,7 @@ pub fn unused() -> Node
 // The node at place i of a table.
 pub fn node_at(table: &[u32], i: usize) -> Node
     requires { HasNode table.now i }
-    ensures { result ≡ nodeAt (nodesIn table.now) i }
+    ensures { result ≡ node_at (nodes_in table.now) i }
 {
     let at = WIDTH * i;
     Node {
@@ -138,7 +138,7 @@ pub fn node_at(table: &[u32], i: usize) -> Node
 // A table with this node at place i.
 pub fn put_node(table: &mut [u32], i: usize, n: Node)
     requires { HasNode table.old i }
-    ensures { table.new ≡ sets table.old (nodeWidth * i) (numbersOf n) }
+    ensures { table.new ≡ sets table.old (node_width * i) (numbers_of n) }
 {
     let at = WIDTH * i;
     table[at] = n.kind;

@@ -7,31 +7,31 @@ use Rattle.rules.specs.Symbolic.{Origin, made, initial, other, apart}
 abbrev pub origins : ℕ
 origins = 4
 
-abbrev pub originNumber : Origin → ℕ
-originNumber other = 1
-originNumber initial = 2
-originNumber made = 3
+abbrev pub origin_number : Origin → ℕ
+origin_number other = 1
+origin_number initial = 2
+origin_number made = 3
 
-abbrev pub originBy : ℕ → Origin
-originBy zero = other
-originBy (suc zero) = other
-originBy (suc (suc zero)) = initial
-originBy (suc (suc (suc n))) = made
+abbrev pub origin_by : ℕ → Origin
+origin_by zero = other
+origin_by (suc zero) = other
+origin_by (suc (suc zero)) = initial
+origin_by (suc (suc (suc n))) = made
 
 -- the number of an origin
 abbrev pub IsOrigin : ℕ → Type 0
-IsOrigin n = n ≡ originNumber (originBy n)
+IsOrigin n = n ≡ origin_number (origin_by n)
 
 -- the place of a reference, and its symbol and origin by its place
-abbrev pub referenceAt : Origin → ℕ → ℕ
-referenceAt o s = origins * s + originNumber o
+abbrev pub reference_at : Origin → ℕ → ℕ
+reference_at o s = origins * s + origin_number o
 
 abbrev pub symbol_at : ℕ → ℕ
 symbol_at q = q / origins
 
-abbrev pub originAt : ℕ → Origin
-originAt q = originBy (q % origins)
+abbrev pub origin_at : ℕ → Origin
+origin_at q = origin_by (q % origins)
 
 -- the references at two places are certainly different cells
-unfoldable pub apartAt : ℕ → ℕ → Bool
-apartAt p q = apart (originAt p) (symbol_at p) (originAt q) (symbol_at q)
+unfoldable pub apart_at : ℕ → ℕ → Bool
+apart_at p q = apart (origin_at p) (symbol_at p) (origin_at q) (symbol_at q)

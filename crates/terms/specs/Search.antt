@@ -33,17 +33,17 @@ module _ (p : ℕ → Bool) (n : ℕ) where
   unfolding nowhere
   nowhere-here i l h t = sym (ap is_none (look-found p n i l h t))
 
-  pub nowhere-end : (i : ℕ) → Looked p n i → n ≤ i → true ≡ nowhere p n
+  pub nowhere_end : (i : ℕ) → Looked p n i → n ≤ i → true ≡ nowhere p n
   unfolding nowhere
-  nowhere-end i l h = sym (ap is_none (look_none p n i l h))
+  nowhere_end i l h = sym (ap is_none (look_none p n i l h))
 
   pub first-here : (i : ℕ) → Looked p n i → i < n → p i ≡ true → i ≡ first_or p n
   unfolding first_or
   first-here i l h t = sym (ap (λ (o : Option ℕ). or_else o n) (look-found p n i l h t))
 
-  pub first-end : (i : ℕ) → Looked p n i → n ≤ i → n ≡ first_or p n
+  pub first_end : (i : ℕ) → Looked p n i → n ≤ i → n ≡ first_or p n
   unfolding first_or
-  first-end i l h = sym (ap (λ (o : Option ℕ). or_else o n) (look_none p n i l h))
+  first_end i l h = sym (ap (λ (o : Option ℕ). or_else o n) (look_none p n i l h))
 
   -- ---- what the answers tell
 

@@ -1,7 +1,7 @@
 // The atoms of symbols: truth symbols and pairs of reference symbols, each with one row. And the equality of references.
 ghost use Rattle.std.specs.Prelude.{◌≡◌};
 ghost use Rattle.terms.specs.Terms.{Space};
-ghost use Rattle.terms.specs.Atoms.{holds, isAtom, atomRowOf, atomLeft, referencesRow, referencesLeft};
+ghost use Rattle.terms.specs.Atoms.{holds, is_atom, atom_row_of, atom_left, references_row, references_left};
 
 use crate::references::{apart, symbol_of};
 use crate::{CONSTANT, COUNT, PAIR, Row, push, row_at};
@@ -18,7 +18,7 @@ fn holds(row: Row, a: u32, b: u32) -> bool
 
 // The row has this operator and these operands, in either order.
 fn is_atom(row: Row, op: u32, a: u32, b: u32) -> bool
-    ensures { result ≡ isAtom op a b row }
+    ensures { result ≡ is_atom op a b row }
 {
     if row.op != op {
         return false;
@@ -32,7 +32,7 @@ fn is_atom(row: Row, op: u32, a: u32, b: u32) -> bool
 // The row that has this operator and these operands, in either order, or else the count.
 fn find_atom(space: &[u32], op: u32, a: u32, b: u32) -> u32
     requires { Space space.now 1 }
-    ensures { result ≡ atomRowOf space.now op a b }
+    ensures { result ≡ atom_row_of space.now op a b }
 {
     let n = space[COUNT];
     let mut i = 0;
@@ -48,8 +48,8 @@ fn find_atom(space: &[u32], op: u32, a: u32, b: u32) -> u32
 // The row of an atom of symbols: a truth symbol, which is both operands, or a pair of reference symbols. It is found again, in either order, or made.
 pub fn symbols_atom(space: &mut [u32], op: u32, a: u32, b: u32) -> u32
     requires { Space space.old 1 }
-    ensures value { result ≡ atomRowOf space.old op a b }
-    ensures space_after { space.new ≡ atomLeft space.old op a b }
+    ensures value { result ≡ atom_row_of space.old op a b }
+    ensures space_after { space.new ≡ atom_left space.old op a b }
 {
     let i = find_atom(space, op, a, b);
     if i < space[COUNT] {
@@ -61,8 +61,8 @@ pub fn symbols_atom(space: &mut [u32], op: u32, a: u32, b: u32) -> u32
 // The row of the equality of two references, by their places.
 pub fn equal_references(space: &mut [u32], r: u32, s: u32) -> u32
     requires { Space space.old 1 }
-    ensures value { result ≡ referencesRow space.old r s }
-    ensures space_after { space.new ≡ referencesLeft space.old r s }
+    ensures value { result ≡ references_row space.old r s }
+    ensures space_after { space.new ≡ references_left space.old r s }
 {
     let a = symbol_of(r);
     let b = symbol_of(s);

@@ -3,7 +3,7 @@
 // keeps of a path.
 ghost use Rattle.std.specs.Prelude.{◌≡◌, ◌+◌, ◌*◌, ◌<◌, length};
 ghost use Rattle.terms.specs.Places.{row_at};
-ghost use Rattle.terms.specs.Terms.{row_in, Space, pushed, countIn};
+ghost use Rattle.terms.specs.Terms.{row_in, Space, pushed, count_in};
 
 pub mod atoms;
 pub mod references;
@@ -83,7 +83,7 @@ pub fn row_at(space: &[u32], i: usize) -> Row
 // One row more; answers its number.
 pub fn push(space: &mut [u32], op: u32, a: u32, b: u32) -> u32
     requires { Space space.old 1 }
-    ensures value { result ≡ countIn space.old }
+    ensures value { result ≡ count_in space.old }
     ensures space_after { space.new ≡ pushed space.old op a b }
 {
     let n = space[COUNT];

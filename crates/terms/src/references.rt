@@ -1,7 +1,7 @@
 // References by their places: a place is a symbol and its origin in one number.
 ghost use Rattle.std.specs.Prelude.{◌≡◌, ◌<◌};
-ghost use Rattle.terms.specs.Places.{symbolLimit};
-ghost use Rattle.terms.specs.References.{originBy, IsOrigin, referenceAt, symbol_at, apartAt};
+ghost use Rattle.terms.specs.Places.{symbol_limit};
+ghost use Rattle.terms.specs.References.{origin_by, IsOrigin, reference_at, symbol_at, apart_at};
 
 // How many numbers a place has room for as its origin's: a power of two, so that a shift takes it off.
 const ORIGINS: u32 = 4;
@@ -17,9 +17,9 @@ const TWO_VARIABLES: u32 = INITIAL + INITIAL;
 
 // The place of a reference.
 pub fn reference(symbol: u32, origin: u32) -> u32
-    requires symbol_lt_symbol_limit { symbol < symbolLimit }
+    requires symbol_lt_symbol_limit { symbol < symbol_limit }
     requires origin { IsOrigin origin }
-    ensures { result ≡ referenceAt (originBy origin) symbol }
+    ensures { result ≡ reference_at (origin_by origin) symbol }
 {
     ORIGINS * symbol + origin
 }
@@ -34,7 +34,7 @@ pub fn symbol_of(place: u32) -> u32
 // The references at two places are certainly different cells: different symbols, of which `ref` made one on this path, and the other too or it was a
 // variable's when the path began. No other two origins add up to more than those of two variables.
 pub fn apart(q: u32, s: u32) -> bool
-    ensures { result ≡ apartAt q s }
+    ensures { result ≡ apart_at q s }
 {
     if q % ORIGINS + s % ORIGINS <= TWO_VARIABLES {
         return false;

@@ -6,17 +6,17 @@ use Rattle.std.proofs.Common.{sym, ◌∙◌, add-one, arith, length-set, length
 use Rattle.std.proofs.Math.Path.{ap}
 use Rattle.std.proofs.Math.Decide.{ℕ_discrete}
 use Rattle.std.proofs.Math.Seq.{take-length, drop-length}
-use Rattle.script.specs.Flat.{nodesIn}
-use Rattle.script.specs.Limits.{nodeLimit, wordLimit}
-use Rattle.script.specs.Rows.{nodeOperands}
+use Rattle.script.specs.Flat.{nodes_in}
+use Rattle.script.specs.Limits.{node_limit, word_limit}
+use Rattle.script.specs.Rows.{node_operands}
 use Rattle.script.specs.Rows.Laws.{node-operands-most}
-use Rattle.script.specs.Table.{nodeAt, fields, wellFormed, isSymNode, operands, timesIn, uses, symsAround, tooDeep}
+use Rattle.script.specs.Table.{node_at, fields, well_formed, is_sym_node, operands, times_in, uses, syms_around, too_deep}
 use Rattle.script.specs.Table.Laws.{operand-earlier, uses-suc}
-use Rattle.script.specs.Table.Uses.{length-operands, operand_at, timesIn-suc, timesIn-most, timesIn-none, uses-none, uses-most, around-none, around-step, around-most, around-from-first}
-use Rattle.script.specs.Code.TableTests.{Lent, Zeros, Within, Small, Counted, Spread, UseCounts, Nestings, usesTest, depthsTest, countsTest, nestingTest, deepAt}
+use Rattle.script.specs.Table.Uses.{length-operands, operand_at, times_in-suc, times_in-most, times_in-none, uses-none, uses-most, around-none, around-step, around-most, around-from-first}
+use Rattle.script.specs.Code.TableTests.{Lent, Zeros, Within, Small, Counted, Spread, UseCounts, Nestings, uses_test, depths_test, counts_test, nesting_test, deep_at}
 use Rattle.script.specs.Flat.{FormedNodes}
 use Rattle.script.specs.Code.TableTests.Laws.{lent_length, same-node}
-use Rattle.script.specs.Tests.{pick, needNone}
+use Rattle.script.specs.Tests.{pick, need_none}
 use Rattle.script.specs.Tests.Loops.{lowest-same}
 use Rattle.script.specs.declared.Node.{Node}
 use Rattle.script.specs.declared.Refusal.TheVariants.{NotUsedOnce, TooDeep}
@@ -29,7 +29,7 @@ pub record OperandAt (n : Node) (k o : ℕ) : Type 0 where
   pub few : length (operands n) ≤ 3
   pub is : o ≡ get_or (operands n) k 0
 
-pub operand-place : (n : Node) (m k o : ℕ) → m ≡ nodeOperands n.kind → k < m → o ≡ get_or (fields n) k 0 → OperandAt n k o
+pub operand-place : (n : Node) (m k o : ℕ) → m ≡ node_operands n.kind → k < m → o ≡ get_or (fields n) k 0 → OperandAt n k o
 operand-place n m k o e h f =
     let l = length-operands n in
     let q = node-operands-most n.kind in
@@ -39,7 +39,7 @@ pub place-within : (n : Node) (k o : ℕ) (xs ys : List ℕ) → OperandAt n k o
 place-within n k o xs ys p w e = let b = w.within k p.below in let i = p.is in omega arith
 
 -- after the last turn
-pub all-operands : (n : Node) (m k : ℕ) → m ≡ nodeOperands n.kind → m ≤ k → take k (operands n) ≡ operands n
+pub all-operands : (n : Node) (m k : ℕ) → m ≡ node_operands n.kind → m ≤ k → take k (operands n) ≡ operands n
 all-operands n m k e h = let l = length-operands n in take_all k (operands n) (omega arith)
 
 -- a place of a list after a store at o
@@ -64,7 +64,7 @@ spread-pick false t t' x y v e f = let q : t' ≡ t = omega arith in rw q f
 
 module _ (os xs : List ℕ) where
   pub counted_none : Counted (take 0 os) xs xs
-  counted_none = record { same = refl; at = λ i h. let t = timesIn-none i in omega arith }
+  counted_none = record { same = refl; at = λ i h. let t = times_in-none i in omega arith }
 
   -- by the operand o at place k
   pub counted-more : (ys : List ℕ) (k o : ℕ) → Within os xs → k < length os → o ≡ get_or os k 0 → Counted (take k os) xs ys → Counted (take (k + 1) os) xs (set ys o (get_or ys o 0 + 1))
@@ -76,22 +76,22 @@ module _ (os xs : List ℕ) where
         at = λ i h.
             let a = bumped ys o i (omega arith) in
             let d = c.at i h in
-            let t = rw (← e) at (timesIn-suc i os k l) in
+            let t = rw (← e) at (times_in-suc i os k l) in
             omega arith;
       })
 
   -- a place of the list has room for one more
-  pub counted-fits : (ys : List ℕ) (k o : ℕ) → Within os xs → Small xs → k < length os → length os ≤ 3 → o ≡ get_or os k 0 → Counted (take k os) xs ys → get_or ys o 0 + 1 ≤ wordLimit
+  pub counted-fits : (ys : List ℕ) (k o : ℕ) → Within os xs → Small xs → k < length os → length os ≤ 3 → o ≡ get_or os k 0 → Counted (take k os) xs ys → get_or ys o 0 + 1 ≤ word_limit
   counted-fits ys k o w s l m e c =
       let b = w.within k l in
       let a = c.at o (omega arith) in
-      let t = timesIn-most o (take k os) in
+      let t = times_in-most o (take k os) in
       let q = length-take k os in
       let f = s.small o (omega arith) in
       omega arith
 
   pub spread_none : (v : ℕ) → Spread (take 0 os) v xs xs
-  spread_none v = record { same = refl; at = λ i h. rw (timesIn-none i) refl }
+  spread_none v = record { same = refl; at = λ i h. rw (times_in-none i) refl }
 
   pub spread-more : (v : ℕ) (ys : List ℕ) (k o : ℕ) → Within os xs → k < length os → o ≡ get_or os k 0 → Spread (take k os) v xs ys → Spread (take (k + 1) os) v xs (set ys o v)
   spread-more v ys k o w l e c =
@@ -101,7 +101,7 @@ module _ (os xs : List ℕ) where
         same = length-set ys o v ∙ s;
         at = λ i h.
             stored ys o v i (omega arith)
-            ∙ spread-pick (eqb o i) (timesIn i (take k os)) (timesIn i (take (suc k) os)) (get_or xs i 0) (get_or ys i 0) v (rw (← e) at (timesIn-suc i os k l)) (c.at i h);
+            ∙ spread-pick (eqb o i) (times_in i (take k os)) (times_in i (take (suc k) os)) (get_or xs i 0) (get_or ys i 0) v (rw (← e) at (times_in-suc i os k l)) (c.at i h);
       })
 
 -- ---- one node more
@@ -114,17 +114,17 @@ pub record UsedBy (ns : List Node) (j room : ℕ) (ys : List ℕ) : Type 0 where
 -- how many `sym` are around each place, as far as the nodes from j on say it
 pub record NestedFrom (ns : List Node) (j room : ℕ) (ys : List ℕ) : Type 0 where
   pub same : length ys ≡ room
-  pub around : (i : ℕ) → i < room → get_or ys i 0 ≡ symsAround i j (drop j ns)
+  pub around : (i : ℕ) → i < room → get_or ys i 0 ≡ syms_around i j (drop j ns)
 
 module _ (ns : List Node) where
   pub used-none : (n : ℕ) (xs : List ℕ) → Zeros n xs → UsedBy ns 0 (length xs) xs
   used-none n xs z = record { same = refl; counts = λ i h. z.zeros i ∙ sym (uses-none i) }
 
-  pub used-more : (j room : ℕ) (ys zs : List ℕ) → j < length ns → UsedBy ns j room ys → Counted (operands (nodeAt ns j)) ys zs → UsedBy ns (j + 1) room zs
+  pub used-more : (j room : ℕ) (ys zs : List ℕ) → j < length ns → UsedBy ns j room ys → Counted (operands (node_at ns j)) ys zs → UsedBy ns (j + 1) room zs
   used-more j room ys zs l u c =
       record { same = c.same ∙ u.same; counts = λ i h. let a = c.at i (rw u.same h) in let b = u.counts i h in rw (add-one j, uses-suc ns i j l) (omega arith) }
 
-  pub used-small : (j room : ℕ) (ys : List ℕ) → j ≤ nodeLimit → UsedBy ns j room ys → Small ys
+  pub used-small : (j room : ℕ) (ys : List ℕ) → j ≤ node_limit → UsedBy ns j room ys → Small ys
   used-small j room ys h u =
       record { small = λ i l. let e = u.same in let a = u.counts i (omega arith) in let b = uses-most (take j ns) i in let q = length-take j ns in omega arith }
 
@@ -141,7 +141,7 @@ module _ (ns : List Node) where
       let q = length-drop j ns in
       omega arith
 
-  nested-step : (j room v : ℕ) (ys zs : List ℕ) → j < length ns → length ns ≤ room → NestedFrom ns (suc j) room ys → v ≡ pick (isSymNode (nodeAt ns j)) 1 0 + get_or ys j 0 → Spread (operands (nodeAt ns j)) v ys zs → NestedFrom ns j room zs
+  nested-step : (j room v : ℕ) (ys zs : List ℕ) → j < length ns → length ns ≤ room → NestedFrom ns (suc j) room ys → v ≡ pick (is_sym_node (node_at ns j)) 1 0 + get_or ys j 0 → Spread (operands (node_at ns j)) v ys zs → NestedFrom ns j room zs
   nested-step j room v ys zs l r u e s =
       record {
         same = s.same ∙ u.same;
@@ -149,13 +149,13 @@ module _ (ns : List Node) where
       }
 
   -- the turn of node j - 1
-  pub nested-more : (j room v : ℕ) (ys zs : List ℕ) → 0 < j → j ≤ length ns → length ns ≤ room → NestedFrom ns j room ys → v ≡ pick (isSymNode (nodeAt ns (j - 1))) 1 0 + get_or ys (j - 1) 0 → Spread (operands (nodeAt ns (j - 1))) v ys zs → NestedFrom ns (j - 1) room zs
+  pub nested-more : (j room v : ℕ) (ys zs : List ℕ) → 0 < j → j ≤ length ns → length ns ≤ room → NestedFrom ns j room ys → v ≡ pick (is_sym_node (node_at ns (j - 1))) 1 0 + get_or ys (j - 1) 0 → Spread (operands (node_at ns (j - 1))) v ys zs → NestedFrom ns (j - 1) room zs
   nested-more zero room v ys zs p l r u e s = absurd (omega arith)
   nested-more (suc j) room v ys zs p l r u e s =
       let q : suc j - 1 ≡ j = omega arith in
       rw q (nested-step j room v ys zs (omega arith) r u (rw q at e) (rw q at s))
 
-  pub nested-all : (room : ℕ) (ys : List ℕ) → ((j : ℕ) → j < length ns → wellFormed ns j ≡ true) → length ns ≤ room → NestedFrom ns 0 room ys → Nestings ns ys
+  pub nested-all : (room : ℕ) (ys : List ℕ) → ((j : ℕ) → j < length ns → well_formed ns j ≡ true) → length ns ≤ room → NestedFrom ns 0 room ys → Nestings ns ys
   nested-all room ys f h u =
       let e = u.same in
       record { room = omega arith; around = λ i l. u.around i (omega arith) ∙ around-from-first ns f i l }
@@ -166,51 +166,51 @@ module _ (xs : List ℕ) (n : ℕ) (f : FormedNodes xs n) where
   pub formed-lent : Lent xs n
   formed-lent = record { most = f.most; room = f.room }
 
-  pub formed-length : length (take n (nodesIn xs)) ≡ n
+  pub formed-length : length (take n (nodes_in xs)) ≡ n
   formed-length = lent_length xs n formed-lent
 
-  pub formed-all : (j : ℕ) → j < length (take n (nodesIn xs)) → wellFormed (take n (nodesIn xs)) j ≡ true
+  pub formed-all : (j : ℕ) → j < length (take n (nodes_in xs)) → well_formed (take n (nodes_in xs)) j ≡ true
   formed-all j h = f.formed j (rw formed-length at h)
 
   -- the operands of node j have places in a list with a place for each node
-  pub formed-within : (j : ℕ) (m : Node) (ys : List ℕ) → j < n → n ≤ length ys → m ≡ nodeAt (nodesIn xs) j → Within (operands m) ys
+  pub formed-within : (j : ℕ) (m : Node) (ys : List ℕ) → j < n → n ≤ length ys → m ≡ node_at (nodes_in xs) j → Within (operands m) ys
   formed-within j m ys h l e =
-      let q : m ≡ nodeAt (take n (nodesIn xs)) j = e ∙ same-node xs n j h in
-      rw q (record { within = λ k b. let o = operand-earlier (take n (nodesIn xs)) j (f.formed j h) k b in omega arith })
+      let q : m ≡ node_at (take n (nodes_in xs)) j = e ∙ same-node xs n j h in
+      rw q (record { within = λ k b. let o = operand-earlier (take n (nodes_in xs)) j (f.formed j h) k b in omega arith })
 
   -- the turns of the two loops, with the node m that the code reads
-  pub uses-turn : (room j : ℕ) (m : Node) (ys zs : List ℕ) → j < n → m ≡ nodeAt (nodesIn xs) j → UsedBy (take n (nodesIn xs)) j room ys → Counted (operands m) ys zs → UsedBy (take n (nodesIn xs)) (j + 1) room zs
+  pub uses-turn : (room j : ℕ) (m : Node) (ys zs : List ℕ) → j < n → m ≡ node_at (nodes_in xs) j → UsedBy (take n (nodes_in xs)) j room ys → Counted (operands m) ys zs → UsedBy (take n (nodes_in xs)) (j + 1) room zs
   uses-turn room j m ys zs h e u c =
       let l = formed-length in
-      used-more (take n (nodesIn xs)) j room ys zs (omega arith) u (rw (e ∙ same-node xs n j h) at c)
+      used-more (take n (nodes_in xs)) j room ys zs (omega arith) u (rw (e ∙ same-node xs n j h) at c)
 
-  pub uses-end : (room j : ℕ) (ys : List ℕ) → n ≤ room → n ≤ j → j ≤ n → UsedBy (take n (nodesIn xs)) j room ys → UseCounts (take n (nodesIn xs)) ys
-  uses-end room j ys r h g u =
+  pub uses_end : (room j : ℕ) (ys : List ℕ) → n ≤ room → n ≤ j → j ≤ n → UsedBy (take n (nodes_in xs)) j room ys → UseCounts (take n (nodes_in xs)) ys
+  uses_end room j ys r h g u =
       let l = formed-length in
-      let q : j ≡ length (take n (nodesIn xs)) = omega arith in
-      used_all (take n (nodesIn xs)) room ys (omega arith) (rw q at u)
+      let q : j ≡ length (take n (nodes_in xs)) = omega arith in
+      used_all (take n (nodes_in xs)) room ys (omega arith) (rw q at u)
 
-  pub depths-start : (ys : List ℕ) → Zeros n ys → NestedFrom (take n (nodesIn xs)) n (length ys) ys
-  depths-start ys z = rw formed-length at (nested-none (take n (nodesIn xs)) n ys z)
+  pub depths_start : (ys : List ℕ) → Zeros n ys → NestedFrom (take n (nodes_in xs)) n (length ys) ys
+  depths_start ys z = rw formed-length at (nested-none (take n (nodes_in xs)) n ys z)
 
-  pub depths-fit : (room j i : ℕ) (ys : List ℕ) → NestedFrom (take n (nodesIn xs)) j room ys → i < room → get_or ys i 0 < wordLimit
-  depths-fit room j i ys u h =
+  pub depths_fit : (room j i : ℕ) (ys : List ℕ) → NestedFrom (take n (nodes_in xs)) j room ys → i < room → get_or ys i 0 < word_limit
+  depths_fit room j i ys u h =
       let l = formed-length in
-      let b = nested-fits (take n (nodesIn xs)) j room i ys u h in
+      let b = nested-fits (take n (nodes_in xs)) j room i ys u h in
       let k = f.most in
       omega arith
 
-  pub depths-turn : (room j v : ℕ) (m : Node) (ys zs : List ℕ) → 0 < j → j ≤ n → n ≤ room → m ≡ nodeAt (nodesIn xs) (j - 1) → NestedFrom (take n (nodesIn xs)) j room ys → v ≡ pick (isSymNode m) 1 0 + get_or ys (j - 1) 0 → Spread (operands m) v ys zs → NestedFrom (take n (nodesIn xs)) (j - 1) room zs
-  depths-turn room j v m ys zs p h r e u g s =
+  pub depths_turn : (room j v : ℕ) (m : Node) (ys zs : List ℕ) → 0 < j → j ≤ n → n ≤ room → m ≡ node_at (nodes_in xs) (j - 1) → NestedFrom (take n (nodes_in xs)) j room ys → v ≡ pick (is_sym_node m) 1 0 + get_or ys (j - 1) 0 → Spread (operands m) v ys zs → NestedFrom (take n (nodes_in xs)) (j - 1) room zs
+  depths_turn room j v m ys zs p h r e u g s =
       let l = formed-length in
-      let q : m ≡ nodeAt (take n (nodesIn xs)) (j - 1) = e ∙ same-node xs n (j - 1) (omega arith) in
-      nested-more (take n (nodesIn xs)) j room v ys zs p (omega arith) (omega arith) u (rw q at g) (rw q at s)
+      let q : m ≡ node_at (take n (nodes_in xs)) (j - 1) = e ∙ same-node xs n (j - 1) (omega arith) in
+      nested-more (take n (nodes_in xs)) j room v ys zs p (omega arith) (omega arith) u (rw q at g) (rw q at s)
 
-  pub depths-end : (room j : ℕ) (ys : List ℕ) → n ≤ room → j ≤ 0 → NestedFrom (take n (nodesIn xs)) j room ys → Nestings (take n (nodesIn xs)) ys
-  depths-end room j ys r h u =
+  pub depths_end : (room j : ℕ) (ys : List ℕ) → n ≤ room → j ≤ 0 → NestedFrom (take n (nodes_in xs)) j room ys → Nestings (take n (nodes_in xs)) ys
+  depths_end room j ys r h u =
       let l = formed-length in
       let q : j ≡ 0 = omega arith in
-      nested-all (take n (nodesIn xs)) room ys formed-all (omega arith) (rw q at u)
+      nested-all (take n (nodes_in xs)) room ys formed-all (omega arith) (rw q at u)
 
 -- ---- the tests by the lists
 
@@ -219,15 +219,15 @@ pred-below j zero h = h
 pred-below j (suc n) h = omega arith
 
 module _ (ns : List Node) (xs : List ℕ) where
-  pub counts-uses : (n : ℕ) → length ns ≡ n → UseCounts ns xs → countsTest xs n ≡ usesTest ns
-  unfolding countsTest usesTest
+  pub counts-uses : (n : ℕ) → length ns ≡ n → UseCounts ns xs → counts_test xs n ≡ uses_test ns
+  unfolding counts_test uses_test
   counts-uses n e u =
       rw e
-      (ap (λ (o : Option ℕ). needNone o NotUsedOnce none)
+      (ap (λ (o : Option ℕ). need_none o NotUsedOnce none)
       (lowest-same (λ i. not (eqb (get_or xs i 0) 1)) (λ i. not (eqb (uses ns i) 1)) (pred n) (λ j h. ap (λ (x : ℕ). not (eqb x 1)) (u.counts j (rw e (pred-below j n h))))))
 
-  pub nesting-depths : Nestings ns xs → nestingTest ns xs ≡ depthsTest ns
-  unfolding nestingTest depthsTest tooDeep
-  nesting-depths u =
-      ap (λ (o : Option ℕ). needNone o TooDeep none)
-      (lowest-same (λ i. deepAt (nodeAt ns i) (get_or xs i 0)) (tooDeep ns) (length ns) (λ j h. ap (deepAt (nodeAt ns j)) (u.around j h)))
+  pub nesting_depths : Nestings ns xs → nesting_test ns xs ≡ depths_test ns
+  unfolding nesting_test depths_test too_deep
+  nesting_depths u =
+      ap (λ (o : Option ℕ). need_none o TooDeep none)
+      (lowest-same (λ i. deep_at (node_at ns i) (get_or xs i 0)) (too_deep ns) (length ns) (λ j h. ap (deep_at (node_at ns j)) (u.around j h)))

@@ -1,10 +1,10 @@
 // The tests of a table in its flat form, in their order: 32, 2, 3, 33, 4, 5, 13. Each loop passes once over the nodes.
 ghost use Rattle.std.specs.Prelude.{◌≡◌, ◌+◌, ◌<◌, ◌≤◌, leb, length, take};
-ghost use Rattle.script.specs.Flat.{nodesIn, tableIn};
-ghost use Rattle.script.specs.Limits.{nodeLimit, typeLimit, wordLimit};
-ghost use Rattle.script.specs.Table.{isSymNode, operands, treeTest, nodesTest, tableTest};
-ghost use Rattle.script.specs.Code.TableTests.{usesTest, depthsTest, usedTest, Lent, operandsTest, Zeros, Within, Small, Counted, Spread, UseCounts, Nestings, countsTest, symsIn, deepAt, nestingTest};
-ghost use Rattle.script.specs.Flat.{testedBy, FormedNodes};
+ghost use Rattle.script.specs.Flat.{nodes_in, table_in};
+ghost use Rattle.script.specs.Limits.{node_limit, type_limit, word_limit};
+ghost use Rattle.script.specs.Table.{is_sym_node, operands, tree_test, nodes_test, table_test};
+ghost use Rattle.script.specs.Code.TableTests.{uses_test, depths_test, used_test, Lent, operands_test, Zeros, Within, Small, Counted, Spread, UseCounts, Nestings, counts_test, syms_in, deep_at, nesting_test};
+ghost use Rattle.script.specs.Flat.{tested_by, FormedNodes};
 ghost use Rattle.script.specs.Tests.{all, pick};
 
 use script::table::{Tested, WIDTH};
@@ -14,7 +14,7 @@ use table::{is_sym, node_at, node_operands, operand_at, well_formed};
 // All codes of the first `count` entries are types.
 fn right_codes(entries: &[u32], count: usize) -> bool
     requires { count ≤ length entries.now }
-    ensures { result ≡ all (λ c. leb c typeLimit) (take count entries.now) }
+    ensures { result ≡ all (λ c. leb c type_limit) (take count entries.now) }
 {
     let mut i = 0;
     while i < count {
@@ -29,7 +29,7 @@ fn right_codes(entries: &[u32], count: usize) -> bool
 // 4 of the first `nodes` nodes.
 fn test_operands(table: &[u32], nodes: usize) -> Tested
     requires { Lent table.now nodes }
-    ensures { result ≡ testedBy (operandsTest (take nodes (nodesIn table.now))) }
+    ensures { result ≡ tested_by (operands_test (take nodes (nodes_in table.now))) }
 {
     let mut i = 0;
     while i < nodes {
@@ -60,7 +60,7 @@ fn count_operands(counts: &mut [u32], n: Node)
 fn count_uses(table: &[u32], nodes: usize, counts: &mut [u32])
     requires formed_nodes { FormedNodes table.now nodes }
     requires zeros { Zeros nodes counts.old }
-    ensures { UseCounts (take nodes (nodesIn table.now)) counts.new }
+    ensures { UseCounts (take nodes (nodes_in table.now)) counts.new }
 {
     let mut j = 0;
     while j < nodes {
@@ -72,8 +72,8 @@ fn count_uses(table: &[u32], nodes: usize, counts: &mut [u32])
 // 5 by the counts of the first `nodes` nodes. The last node is not tested.
 fn test_counts(counts: &[u32], nodes: usize) -> Tested
     requires nodes_in_bounds { nodes ≤ length counts.now }
-    requires nodes_le_node_limit { nodes ≤ nodeLimit }
-    ensures { result ≡ testedBy (countsTest counts.now nodes) }
+    requires nodes_le_node_limit { nodes ≤ node_limit }
+    ensures { result ≡ tested_by (counts_test counts.now nodes) }
 {
     let mut i = 0;
     while i + 1 < nodes {
@@ -101,8 +101,8 @@ fn spread(depths: &mut [u32], n: Node, v: u32)
 
 // The number d, and one more for a `sym`.
 fn with_sym(n: Node, d: u32) -> u32
-    requires { d < wordLimit }
-    ensures { result ≡ pick (isSymNode n) 1 0 + d }
+    requires { d < word_limit }
+    ensures { result ≡ pick (is_sym_node n) 1 0 + d }
 {
     if is_sym(n) {
         return d + 1;
@@ -113,7 +113,7 @@ fn with_sym(n: Node, d: u32) -> u32
 // How many of the first `nodes` nodes are `sym`.
 fn count_syms(table: &[u32], nodes: usize) -> u32
     requires { Lent table.now nodes }
-    ensures { result ≡ symsIn (take nodes (nodesIn table.now)) }
+    ensures { result ≡ syms_in (take nodes (nodes_in table.now)) }
 {
     let mut count = 0;
     let mut i = 0;
@@ -128,7 +128,7 @@ fn count_syms(table: &[u32], nodes: usize) -> u32
 fn note_depths(table: &[u32], nodes: usize, depths: &mut [u32])
     requires formed_nodes { FormedNodes table.now nodes }
     requires zeros { Zeros nodes depths.old }
-    ensures { Nestings (take nodes (nodesIn table.now)) depths.new }
+    ensures { Nestings (take nodes (nodes_in table.now)) depths.new }
 {
     let mut j = nodes;
     while 0 < j {
@@ -141,7 +141,7 @@ fn note_depths(table: &[u32], nodes: usize, depths: &mut [u32])
 
 // The node is a `sym`, and d `sym` around it are too many.
 fn too_deep(n: Node, d: u32) -> bool
-    ensures { result ≡ deepAt n d }
+    ensures { result ≡ deep_at n d }
 {
     if is_sym(n) {
         return Script::NESTING <= d as usize;
@@ -153,7 +153,7 @@ fn too_deep(n: Node, d: u32) -> bool
 fn test_depths(table: &[u32], nodes: usize, depths: &[u32]) -> Tested
     requires lent { Lent table.now nodes }
     requires nodes_in_bounds { nodes ≤ length depths.now }
-    ensures { result ≡ testedBy (nestingTest (take nodes (nodesIn table.now)) depths.now) }
+    ensures { result ≡ tested_by (nesting_test (take nodes (nodes_in table.now)) depths.now) }
 {
     let mut i = 0;
     while i < nodes {
@@ -168,7 +168,7 @@ fn test_depths(table: &[u32], nodes: usize, depths: &[u32]) -> Tested
 // 5 of the first `nodes` nodes, which are well formed.
 fn test_uses(table: &[u32], nodes: usize) -> Tested
     requires { FormedNodes table.now nodes }
-    ensures { result ≡ testedBy (usesTest (take nodes (nodesIn table.now))) }
+    ensures { result ≡ tested_by (uses_test (take nodes (nodes_in table.now))) }
 {
     let mut counts = [0u32; Script::NODES];
     count_uses(table, nodes, &mut counts);
@@ -178,7 +178,7 @@ fn test_uses(table: &[u32], nodes: usize) -> Tested
 // 13 of the first `nodes` nodes, which are well formed. No more `sym` are around a node than there are.
 fn test_nesting(table: &[u32], nodes: usize) -> Tested
     requires { FormedNodes table.now nodes }
-    ensures { result ≡ testedBy (depthsTest (take nodes (nodesIn table.now))) }
+    ensures { result ≡ tested_by (depths_test (take nodes (nodes_in table.now))) }
 {
     if count_syms(table, nodes) as usize <= Script::NESTING {
         return Tested::Passed;
@@ -191,7 +191,7 @@ fn test_nesting(table: &[u32], nodes: usize) -> Tested
 // 5 and 13 of the first `nodes` nodes, which are well formed.
 pub fn test_tree(table: &[u32], nodes: usize) -> Tested
     requires { FormedNodes table.now nodes }
-    ensures { result ≡ testedBy (treeTest (take nodes (nodesIn table.now))) }
+    ensures { result ≡ tested_by (tree_test (take nodes (nodes_in table.now))) }
 {
     match test_uses(table, nodes) {
         Tested::Refused(r) => Tested::Refused(r),
@@ -202,7 +202,7 @@ pub fn test_tree(table: &[u32], nodes: usize) -> Tested
 // 4, 5 and 13 of the first `nodes` nodes.
 fn test_nodes(table: &[u32], nodes: usize) -> Tested
     requires { Lent table.now nodes }
-    ensures { result ≡ testedBy (nodesTest (take nodes (nodesIn table.now))) }
+    ensures { result ≡ tested_by (nodes_test (take nodes (nodes_in table.now))) }
 {
     match test_operands(table, nodes) {
         Tested::Refused(r) => Tested::Refused(r),
@@ -214,7 +214,7 @@ fn test_nodes(table: &[u32], nodes: usize) -> Tested
 fn test_used(table: &[u32], nodes: usize, entries: &[u32], entry_count: usize) -> Tested
     requires lent { Lent table.now nodes }
     requires entry_count_in_bounds { entry_count ≤ length entries.now }
-    ensures { result ≡ testedBy (usedTest (tableIn table.now nodes entries.now entry_count)) }
+    ensures { result ≡ tested_by (used_test (table_in table.now nodes entries.now entry_count)) }
 {
     if nodes == 0 {
         return Tested::Refused(Refusal::NoNode);
@@ -227,7 +227,7 @@ fn test_used(table: &[u32], nodes: usize, entries: &[u32], entry_count: usize) -
 
 // All tests of a table, in their order.
 pub fn test_table(table: &[u32], nodes: usize, entries: &[u32], entry_count: usize) -> Tested
-    ensures { result ≡ testedBy (tableTest (tableIn table.now nodes entries.now entry_count)) }
+    ensures { result ≡ tested_by (table_test (table_in table.now nodes entries.now entry_count)) }
 {
     if table.len() / WIDTH < Script::NODES {
         return Tested::Refused(Refusal::TableTooSmall);

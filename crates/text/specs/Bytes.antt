@@ -15,15 +15,15 @@ digit0 = 48
 abbrev pub digit9 : ℕ
 digit9 = 57
 
-abbrev pub letter-b : ℕ
-letter-b = 98
+abbrev pub letter_b : ℕ
+letter_b = 98
 
-abbrev pub letter-i : ℕ
-letter-i = 105
+abbrev pub letter_i : ℕ
+letter_i = 105
 
-abbrev pub letter-r : ℕ
-letter-r = 114
+abbrev pub letter_r : ℕ
+letter_r = 114
 
 -- entry
-abbrev pub entryWord : List ℕ
-entryWord = 101 ∷ 110 ∷ 116 ∷ 114 ∷ 121 ∷ []
+abbrev pub entry_word : List ℕ
+entry_word = 101 ∷ 110 ∷ 116 ∷ 114 ∷ 121 ∷ []

@@ -2,59 +2,59 @@
 -- 36. A refusal changes nothing lent, and bytes after the text are untouched. Assumes nothing.
 use Rattle.std.specs.Prelude.{Bool, List, [], ◌∷◌, ◌++◌, ℕ, zero, suc, ◌+◌, ◌/◌, ◌%◌, leb, ltb, length, take, drop}
 use Rattle.std.proofs.Math.Option.{Option, none, some}
-use Rattle.script.specs.Answers.{Report, reportOfWriting}
+use Rattle.script.specs.Answers.{Report, report_of_writing}
 use Rattle.script.specs.Rows.{Row, row_of}
-use Rattle.script.specs.Table.{Table, nodesOf, entriesOf, fields, tableTest}
+use Rattle.script.specs.Table.{Table, nodes_of, entries_of, fields, table_test}
 use Rattle.script.specs.Tests.{pick}
 use Rattle.script.specs.declared.Node.{Node}
 use Rattle.script.specs.declared.Refusal.{Refusal}
 use Rattle.script.specs.declared.Refusal.TheVariants.{OutputTooShort}
 use Rattle.script.specs.declared.Writing.{Writing}
-use Rattle.text.specs.Bytes.{lf, tab, digit0, letter-b, letter-i, letter-r, entryWord}
+use Rattle.text.specs.Bytes.{lf, tab, digit0, letter_b, letter_i, letter_r, entry_word}
 pub mod Laws
 
 -- ---- fields
 
 -- at most so many decimal digits
-unfoldable pub digitsIn : ℕ → ℕ → List ℕ
-digitsIn zero n = []
-digitsIn (suc k) n = pick (ltb n 10) ((digit0 + n) ∷ []) (digitsIn k (n / 10) ++ ((digit0 + n % 10) ∷ []))
+unfoldable pub digits_in : ℕ → ℕ → List ℕ
+digits_in zero n = []
+digits_in (suc k) n = pick (ltb n 10) ((digit0 + n) ∷ []) (digits_in k (n / 10) ++ ((digit0 + n % 10) ∷ []))
 
 -- ten digits are enough for every word
 abbrev pub digits : ℕ → List ℕ
-digits n = digitsIn 10 n
+digits n = digits_in 10 n
 
-unfoldable pub typeText : ℕ → List ℕ
-typeText zero = letter-i ∷ []
-typeText (suc zero) = letter-b ∷ []
-typeText (suc (suc t)) = letter-r ∷ typeText t
+unfoldable pub type_text : ℕ → List ℕ
+type_text zero = letter_i ∷ []
+type_text (suc zero) = letter_b ∷ []
+type_text (suc (suc t)) = letter_r ∷ type_text t
 
 -- ---- lines
 
-abbrev pub entryText : ℕ → List ℕ
-entryText t = entryWord ++ (tab ∷ typeText t) ++ (lf ∷ [])
+abbrev pub entry_text : ℕ → List ℕ
+entry_text t = entry_word ++ (tab ∷ type_text t) ++ (lf ∷ [])
 
-unfoldable pub operandsText : List ℕ → List ℕ
-operandsText [] = []
-operandsText (o ∷ os) = tab ∷ (digits o ++ operandsText os)
+unfoldable pub operands_text : List ℕ → List ℕ
+operands_text [] = []
+operands_text (o ∷ os) = tab ∷ (digits o ++ operands_text os)
 
-abbrev pub nodeTextBy : Option Row → Node → List ℕ
-nodeTextBy none n = []
-nodeTextBy (some r) n = r.word ++ operandsText (take r.count (fields n)) ++ (lf ∷ [])
+abbrev pub node_text_by : Option Row → Node → List ℕ
+node_text_by none n = []
+node_text_by (some r) n = r.word ++ operands_text (take r.count (fields n)) ++ (lf ∷ [])
 
-unfoldable pub nodeText : Node → List ℕ
-nodeText n = nodeTextBy (row_of n.kind) n
+unfoldable pub node_text : Node → List ℕ
+node_text n = node_text_by (row_of n.kind) n
 
-unfoldable pub entriesText : List ℕ → List ℕ
-entriesText [] = []
-entriesText (t ∷ ts) = entryText t ++ entriesText ts
+unfoldable pub entries_text : List ℕ → List ℕ
+entries_text [] = []
+entries_text (t ∷ ts) = entry_text t ++ entries_text ts
 
-unfoldable pub nodesText : List Node → List ℕ
-nodesText [] = []
-nodesText (n ∷ ns) = nodeText n ++ nodesText ns
+unfoldable pub nodes_text : List Node → List ℕ
+nodes_text [] = []
+nodes_text (n ∷ ns) = node_text n ++ nodes_text ns
 
 unfoldable pub text_of : List ℕ → List Node → List ℕ
-text_of es ns = entriesText es ++ nodesText ns
+text_of es ns = entries_text es ++ nodes_text ns
 
 -- ---- the whole answer
 
@@ -66,17 +66,17 @@ pub record Outcome : Type 0 where
 abbrev pub outcome : Writing → List ℕ → Outcome
 outcome answer bytes = record { answer = answer; bytes = bytes }
 
-unfoldable pub longEnough : List ℕ → List ℕ → Bool
-longEnough out text = leb (length text) (length out)
+unfoldable pub long_enough : List ℕ → List ℕ → Bool
+long_enough out text = leb (length text) (length out)
 
-abbrev pub outcomeOf : Option Refusal → List ℕ → List ℕ → Outcome
-outcomeOf (some r) text out = outcome (Writing.Refused r) out
-outcomeOf none text out =
-    pick (longEnough out text) (outcome (Writing.Wrote (length text)) (text ++ drop (length text) out)) (outcome (Writing.Refused OutputTooShort) out)
+abbrev pub outcome_of : Option Refusal → List ℕ → List ℕ → Outcome
+outcome_of (some r) text out = outcome (Writing.Refused r) out
+outcome_of none text out =
+    pick (long_enough out text) (outcome (Writing.Wrote (length text)) (text ++ drop (length text) out)) (outcome (Writing.Refused OutputTooShort) out)
 
 unfoldable pub writing : Table → List ℕ → Outcome
-writing t out = outcomeOf (tableTest t) (text_of (entriesOf t) (nodesOf t)) out
+writing t out = outcome_of (table_test t) (text_of (entries_of t) (nodes_of t)) out
 
 -- what it reports: how many bytes were written, or a refusal's number and place
-abbrev pub writingReport : Table → List ℕ → Report
-writingReport t out = reportOfWriting (writing t out).answer
+abbrev pub writing_report : Table → List ℕ → Report
+writing_report t out = report_of_writing (writing t out).answer

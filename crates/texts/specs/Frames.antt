@@ -5,9 +5,9 @@ use Rattle.text.specs.Reading.{reading}
 use Rattle.trial.specs.declared.Header.{Header}
 use Rattle.trial.specs.declared.Header.TheVariants as header
 use Rattle.trial.specs.Numbers.{header_at}
-use Rattle.trial.specs.Places.{nameEnd}
-use Rattle.call_texts.specs.Tables.{placeCount}
-use Rattle.texts.specs.Rounds.{outputBy, tableAfter, entriesAfter}
+use Rattle.trial.specs.Places.{name_end}
+use Rattle.call_texts.specs.Tables.{place_count}
+use Rattle.texts.specs.Rounds.{output_by, table_after, entries_after}
 pub mod Laws
 
 -- ---- frames
@@ -26,21 +26,21 @@ is_whole input room size share name stop =
 abbrev pub frame_of : List ℕ → ℕ → ℕ → ℕ → Frame
 frame_of input size share stop = record { text = take size (drop (stop + 1) input); share = share; next = stop + 1 + size + 1 }
 
-abbrev pub frameIn : List ℕ → ℕ → ℕ → ℕ → ℕ → ℕ → Option Frame
-frameIn input room size share name stop = cond (is_whole input room size share name stop) (some (frame_of input size share stop)) none
+abbrev pub frame_in : List ℕ → ℕ → ℕ → ℕ → ℕ → ℕ → Option Frame
+frame_in input room size share name stop = cond (is_whole input room size share name stop) (some (frame_of input size share stop)) none
 
-abbrev pub frameBy : List ℕ → ℕ → Header → Option Frame
-frameBy input room header.Bad = none
-frameBy input room (header.Is size share name) = frameIn input room size share name (nameEnd input name)
+abbrev pub frame_by : List ℕ → ℕ → Header → Option Frame
+frame_by input room header.Bad = none
+frame_by input room (header.Is size share name) = frame_in input room size share name (name_end input name)
 
 -- the frame at a place of the input
 unfoldable pub frame_at : List ℕ → ℕ → ℕ → Option Frame
-frame_at input room at = frameBy input room (header_at input at)
+frame_at input room at = frame_by input room (header_at input at)
 
 -- where the next one starts; 0 after a malformed one
-abbrev pub nextBy : Option Frame → ℕ
-nextBy none = 0
-nextBy (some f) = f.next
+abbrev pub next_by : Option Frame → ℕ
+next_by none = 0
+next_by (some f) = f.next
 
 -- ---- what the trials leave
 
@@ -53,26 +53,26 @@ abbrev pub lent : List ℕ → List ℕ → List ℕ → Lent
 lent table entries out = record { table = table; entries = entries; out = out }
 
 -- the output after the trial of a text
-abbrev pub outAfter : List ℕ → List ℕ → List ℕ → List ℕ → List ℕ
-outAfter text table entries out = outputBy (reading text placeCount (length entries)).answer (tableAfter text table entries) (entriesAfter text entries) out
+abbrev pub out_after : List ℕ → List ℕ → List ℕ → List ℕ → List ℕ
+out_after text table entries out = output_by (reading text place_count (length entries)).answer (table_after text table entries) (entries_after text entries) out
 
 -- of the output only the share changes; a malformed frame changes nothing
-abbrev pub afterFrame : Option Frame → Lent → Lent
-afterFrame none l = l
-afterFrame (some f) l =
-    lent (tableAfter f.text l.table l.entries) (entriesAfter f.text l.entries)
-    (outAfter f.text l.table l.entries (take f.share l.out) ++ drop f.share l.out)
+abbrev pub after_frame : Option Frame → Lent → Lent
+after_frame none l = l
+after_frame (some f) l =
+    lent (table_after f.text l.table l.entries) (entries_after f.text l.entries)
+    (out_after f.text l.table l.entries (take f.share l.out) ++ drop f.share l.out)
 
 -- a trial of a frame, or of none: where the next one starts, and what is then left in what is lent
 pub record Framed (o : Option Frame) (l : Lent) (r : ℕ) (m : Lent) : Type 0 where
-  pub next-is : r ≡ nextBy o
-  pub left_is : m ≡ afterFrame o l
+  pub next-is : r ≡ next_by o
+  pub left_is : m ≡ after_frame o l
 
-abbrev pub framesBy : Option Frame → Lent → (Frame → Lent) → Lent
-framesBy none l later = l
-framesBy (some f) l later = later f
+abbrev pub frames_by : Option Frame → Lent → (Frame → Lent) → Lent
+frames_by none l later = l
+frames_by (some f) l later = later f
 
 -- after the frames from a place on, up to a malformed one or the end, and k of them at most; an input has no more frames than bytes
-unfoldable pub afterFrames : List ℕ → ℕ → ℕ → Lent → Lent
-afterFrames input zero at l = l
-afterFrames input (suc k) at l = framesBy (frame_at input (length l.out) at) l (λ f. afterFrames input k f.next (afterFrame (some f) l))
+unfoldable pub after_frames : List ℕ → ℕ → ℕ → Lent → Lent
+after_frames input zero at l = l
+after_frames input (suc k) at l = frames_by (frame_at input (length l.out) at) l (λ f. after_frames input k f.next (after_frame (some f) l))

@@ -2,7 +2,7 @@
 use Rattle.std.specs.Prelude.{List, ◌≡◌, refl, ℕ, ◌/◌, min, length, replicate}
 use Rattle.std.proofs.Common.{sym, ap, ◌∙◌}
 use Rattle.std.proofs.lemmas.List.{length-replicate}
-use Rattle.script.specs.Flat.{nodeWidth}
+use Rattle.script.specs.Flat.{node_width}
 use Rattle.script.specs.declared.Reading.{Reading}
 use Rattle.script.specs.declared.Reading.TheVariants.{Read, Refused}
 use Rattle.script.specs.declared.Refusal.{Refusal}
@@ -13,29 +13,29 @@ use Rattle.text.specs.Reading.{reading}
 use Rattle.text.specs.Writing.{Outcome, writing}
 use Rattle.copies.specs.Copies.{copied}
 use Rattle.record_texts.specs.Texts.{Writes}
-use Rattle.call_texts.specs.Tables.{placeCount, tableAs, ReadBack}
+use Rattle.call_texts.specs.Tables.{place_count, table_as, ReadBack}
 
 -- the output after a writing onto full stops
-abbrev pub wroteBy : List ℕ → ℕ → List ℕ → ℕ → List ℕ → List ℕ
-wroteBy xs nodes es used out = (writing (tableAs xs nodes es used) (replicate (length out) 46)).bytes
+abbrev pub wrote_by : List ℕ → ℕ → List ℕ → ℕ → List ℕ → List ℕ
+wrote_by xs nodes es used out = (writing (table_as xs nodes es used) (replicate (length out) 46)).bytes
 
 -- the output after the writing of what was read; as it was, if nothing was
-abbrev pub outputBy : Reading → List ℕ → List ℕ → List ℕ → List ℕ
-outputBy (Read s) xs es out = wroteBy xs s.nodes es s.entries out
-outputBy (Refused r) xs es out = out
+abbrev pub output_by : Reading → List ℕ → List ℕ → List ℕ → List ℕ
+output_by (Read s) xs es out = wrote_by xs s.nodes es s.entries out
+output_by (Refused r) xs es out = out
 
 -- the table and the entries after the reading of a text, over sevens
-abbrev pub tableAfter : List ℕ → List ℕ → List ℕ → List ℕ
-tableAfter text table entries = copied (reading text placeCount (length entries)).lentNodes (min placeCount (length table / nodeWidth)) (replicate (length table) 7)
+abbrev pub table_after : List ℕ → List ℕ → List ℕ → List ℕ
+table_after text table entries = copied (reading text place_count (length entries)).lent_nodes (min place_count (length table / node_width)) (replicate (length table) 7)
 
-abbrev pub entriesAfter : List ℕ → List ℕ → List ℕ
-entriesAfter text entries = (reading text placeCount (length entries)).lentEntries
+abbrev pub entries_after : List ℕ → List ℕ → List ℕ
+entries_after text entries = (reading text place_count (length entries)).lent_entries
 
 -- the places and entries hold what reading leaves, and the output what writing does
 pub record Tried (text table entries out table₁ entries₁ out₁ : List ℕ) : Type 0 where
-  pub table-left : table₁ ≡ tableAfter text table entries
-  pub entries-left : entries₁ ≡ entriesAfter text entries
-  pub out-left : out₁ ≡ outputBy (reading text placeCount (length entries)).answer table₁ entries₁ out
+  pub table-left : table₁ ≡ table_after text table entries
+  pub entries-left : entries₁ ≡ entries_after text entries
+  pub out-left : out₁ ≡ output_by (reading text place_count (length entries)).answer table₁ entries₁ out
 
 -- ---- how the trial comes to it
 
@@ -48,18 +48,18 @@ module _ (table entries : List ℕ) {text filled sevens table₁ entries₁ : Li
   as_many : length sevens ≡ length entries
   as_many = ap length g ∙ length-replicate {A = ℕ} (length entries) 7
 
-  table_is : table₁ ≡ tableAfter text table entries
-  table_is = rw (as_many, f, length-replicate {A = ℕ} (length table) 7) at r.nodes-are
+  table_is : table₁ ≡ table_after text table entries
+  table_is = rw (as_many, f, length-replicate {A = ℕ} (length table) 7) at r.nodes_are
 
-  entries-are : entries₁ ≡ entriesAfter text entries
-  entries-are = rw as_many at r.entries-are
+  entries_are : entries₁ ≡ entries_after text entries
+  entries_are = rw as_many at r.entries_are
 
-  answer-is : a ≡ (reading text placeCount (length entries)).answer
+  answer-is : a ≡ (reading text place_count (length entries)).answer
   answer-is = rw as_many at r.answer-is
 
-  pub tried-read : {s : Script} {out left : List ℕ} → a ≡ Read s → left ≡ wroteBy table₁ s.nodes entries₁ s.entries out
+  pub tried_read : {s : Script} {out left : List ℕ} → a ≡ Read s → left ≡ wrote_by table₁ s.nodes entries₁ s.entries out
       → Tried text table entries out table₁ entries₁ left
-  tried-read e w = record { table-left = table_is; entries-left = entries-are; out-left = rw (sym answer-is ∙ e) w }
+  tried_read e w = record { table-left = table_is; entries-left = entries_are; out-left = rw (sym answer-is ∙ e) w }
 
   pub tried-refused : {x : Refusal} {out : List ℕ} → a ≡ Refused x → Tried text table entries out table₁ entries₁ out
-  tried-refused e = record { table-left = table_is; entries-left = entries-are; out-left = rw (sym answer-is ∙ e) refl }
+  tried-refused e = record { table-left = table_is; entries-left = entries_are; out-left = rw (sym answer-is ∙ e) refl }

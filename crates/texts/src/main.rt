@@ -2,7 +2,7 @@
 // A frame is a line `LENGTH<tab>OUT<tab>NAME`, then LENGTH bytes of text and an LF; OUT bytes are lent to the writer.
 // Names tell what is tried.
 ghost use Rattle.std.specs.Prelude.{◌≡◌, length};
-ghost use Rattle.texts.specs.Frames.{frame_at, lent, Framed, afterFrames};
+ghost use Rattle.texts.specs.Frames.{frame_at, lent, Framed, after_frames};
 
 mod rounds;
 mod slices;
@@ -54,7 +54,7 @@ fn try_frame(
 
 // Tries all frames in turn. A malformed one ends it.
 fn try_all(input: &[u8], table: &mut [u32], entries: &mut [u32], out: &mut [u8])
-    ensures { lent table.new entries.new out.new ≡ afterFrames input.now (length input.now) 0 (lent table.old entries.old out.old) }
+    ensures { lent table.new entries.new out.new ≡ after_frames input.now (length input.now) 0 (lent table.old entries.old out.old) }
 {
     let mut at = 0;
     while at < input.len() {

@@ -1,6 +1,6 @@
 // One text's trial: it is read, written again if it could be read, and what came of it is printed.
 ghost use Rattle.std.specs.Prelude.{◌≡◌};
-ghost use Rattle.texts.specs.Rounds.{wroteBy, Tried};
+ghost use Rattle.texts.specs.Rounds.{wrote_by, Tried};
 
 use crate::slices::{all_bytes, entries_clear, fill_bytes, fill_words, nodes_clear};
 use script::{Reading, Writing};
@@ -46,7 +46,7 @@ fn try_writer(
     used: usize,
     out: &mut [u8],
 )
-    ensures { out.new ≡ wroteBy table.now nodes entries.now «used» out.old }
+    ensures { out.new ≡ wrote_by table.now nodes entries.now «used» out.old }
 {
     fill_bytes(out, BLANK);
     say(b"\t");

@@ -1,8 +1,8 @@
 // Filling and comparing slices.
 ghost use Rattle.std.specs.Prelude.{◌≡◌, eqb, length, drop, replicate};
-ghost use Rattle.script.specs.Flat.{nodesIn};
+ghost use Rattle.script.specs.Flat.{nodes_in};
 ghost use Rattle.script.specs.Tests.{all};
-ghost use Rattle.texts.specs.Slices.{isUnused};
+ghost use Rattle.texts.specs.Slices.{is_unused};
 
 use script::Node;
 use script::table::{FALSE, WIDTH};
@@ -60,7 +60,7 @@ pub fn entries_clear(entries: &[u32], from: usize) -> bool
 
 // Whether this is `false`, with operands 0, which unused places hold.
 fn is_false(n: Node) -> bool
-    ensures { result ≡ isUnused n }
+    ensures { result ≡ is_unused n }
 {
     if n.kind != FALSE {
         return false;
@@ -76,7 +76,7 @@ fn is_false(n: Node) -> bool
 
 // Whether every node of the table from `from` on is `false`.
 pub fn nodes_clear(table: &[u32], from: usize) -> bool
-    ensures { result ≡ all isUnused (drop from (nodesIn table.now)) }
+    ensures { result ≡ all is_unused (drop from (nodes_in table.now)) }
 {
     let nodes = table.len() / WIDTH;
     let mut i = from;

@@ -1,10 +1,10 @@
 // Reading and writing of script text and test 5 of a table, each answered by one number, for the program `bench`, which times them from outside. Hosts have
 // no use for this library: their calls are those of `host`.
 ghost use Rattle.std.specs.Prelude.{◌≡◌};
-ghost use Rattle.script.specs.Flat.{nodesIn, tableIn};
-ghost use Rattle.text.specs.Reading.{readingIn};
+ghost use Rattle.script.specs.Flat.{nodes_in, table_in};
+ghost use Rattle.text.specs.Reading.{reading_in};
 ghost use Rattle.text.specs.Writing.{writing};
-ghost use Rattle.timing.specs.Answers.{ReadTo, WroteTo, wrongUse};
+ghost use Rattle.timing.specs.Answers.{ReadTo, WroteTo, wrong_use};
 
 use script::table::WIDTH;
 use script::{Place, Reading, Script, Writing};
@@ -13,7 +13,7 @@ use uses::walk;
 // Reads a text into a lent table and lent entries: how many nodes it has; 0 if it is refused.
 #[unsafe(no_mangle)]
 pub extern "C" fn timing_read(text: &[u8], table: &mut [u32], entries: &mut [u32]) -> u64
-    ensures { ReadTo (readingIn text.now table.old entries.old) result table.new entries.new }
+    ensures { ReadTo (reading_in text.now table.old entries.old) result table.new entries.new }
 {
     match reader::read(text, table, entries) {
         Reading::Read(script) => script.nodes as u64,
@@ -30,7 +30,7 @@ pub extern "C" fn timing_write(
     entry_count: usize,
     out: &mut [u8],
 ) -> u64
-    ensures { WroteTo (writing (tableIn table.now nodes entries.now entry_count) out.old) result out.new }
+    ensures { WroteTo (writing (table_in table.now nodes entries.now entry_count) out.old) result out.new }
 {
     match writer::write(table, nodes, entries, entry_count, out) {
         Writing::Wrote(length) => length as u64,
@@ -41,7 +41,7 @@ pub extern "C" fn timing_write(
 // Test 5 alone, of the first `nodes` nodes of a table: one more than the node that it names; 0 if it names none, or if there are not so many nodes.
 #[unsafe(no_mangle)]
 pub extern "C" fn timing_uses(table: &[u32], nodes: usize) -> u64
-    ensures { result ≡ wrongUse (nodesIn table.now) nodes }
+    ensures { result ≡ wrong_use (nodes_in table.now) nodes }
 {
     if Script::NODES < nodes {
         return 0;

@@ -1,6 +1,6 @@
 // What a stored trial gives after its header: lines of bytes.
 ghost use Rattle.std.specs.Prelude.{◌≡◌};
-ghost use Rattle.trial.specs.Given.{byte_at, line, bytesLine};
+ghost use Rattle.trial.specs.Given.{byte_at, line, bytes_line};
 
 use crate::{Number, number_until};
 
@@ -38,7 +38,7 @@ fn byte_at(input: &[u8], at: usize) -> Byte
 // Reads the line of decimal bytes at `at`, parted by blanks or none at all, into `out`: how many they are, and where the next line starts.
 // If it is not of the form or has more bytes than `out`, the bytes before that place are in `out`.
 pub fn bytes_line(input: &[u8], at: usize, out: &mut [u8]) -> Number
-    ensures { line result out.new ≡ bytesLine input.now at out.old }
+    ensures { line result out.new ≡ bytes_line input.now at out.old }
 {
     if input.len() <= at {
         return Number::Bad;

@@ -1,7 +1,7 @@
 // What the programs that try the other crates share: the headers, names and texts in their input, and what they print. `given` has lines of bytes.
 ghost use Rattle.std.specs.Prelude.{◌≡◌};
-ghost use Rattle.trial.specs.Numbers.{digitOf, number_at, header_at};
-ghost use Rattle.trial.specs.Places.{nameEnd, textEnd};
+ghost use Rattle.trial.specs.Numbers.{digit_of, number_at, header_at};
+ghost use Rattle.trial.specs.Places.{name_end, text_end};
 
 pub mod given;
 
@@ -28,7 +28,7 @@ pub enum Number {
 
 // The decimal digit that a byte spells, or 10.
 fn digit(b: u8) -> usize
-    ensures { result ≡ digitOf b }
+    ensures { result ≡ digit_of b }
 {
     if b'0' <= b {
         if b <= b'9' {
@@ -87,7 +87,7 @@ pub fn header_at(input: &[u8], at: usize) -> Header
 
 // The place of the LF after the name at `at`; `at` itself if there is no LF, no name, or a byte below the blank in it, as a tab.
 pub fn name_end(input: &[u8], at: usize) -> usize
-    ensures { result ≡ nameEnd input.now at }
+    ensures { result ≡ name_end input.now at }
 {
     let mut i = at;
     while i < input.len() {
@@ -105,7 +105,7 @@ pub fn name_end(input: &[u8], at: usize) -> usize
 
 // The end of the text at `at`: where the first empty line stands from there on, or the input's end; `at` itself if that is past the end.
 pub fn text_end(input: &[u8], at: usize) -> usize
-    ensures { result ≡ textEnd input.now at }
+    ensures { result ≡ text_end input.now at }
 {
     let mut i = at;
     let mut starts = true;

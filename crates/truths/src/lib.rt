@@ -1,7 +1,7 @@
 // The rows that a decision looks at, in order, with the numbers of the atoms among them; and their truths under 64 assignments at a time, one bit each.
 ghost use Rattle.std.specs.Prelude.{◌≡◌, ◌+◌, ◌≤◌, ◌<◌, length, get_or, take};
-ghost use Rattle.terms.specs.Places.{rowLimit, rowsEnd};
-ghost use Rattle.rows.specs.Code.{Listable, listedRow, countAfter, Lists, Rows, numberRow, seen_at, numbersTo, isNumbered, numberedTo, spread_of, patternOf, rowWord, evaluateRow, evaluatedTo, changeOf, changeRow, changedTo, changesOf};
+ghost use Rattle.terms.specs.Places.{row_limit, rows_end};
+ghost use Rattle.rows.specs.Code.{Listable, listed_row, count_after, Lists, Rows, number_row, seen_at, numbers_to, is_numbered, numbered_to, spread_of, pattern_of, row_word, evaluate_row, evaluated_to, change_of, change_row, changed_to, changes_of};
 
 use rows::{ATOMS, ONES};
 use terms::{
@@ -14,10 +14,10 @@ const STEADY: u8 = 6;
 // Row i comes next, if it has at least the mark. Answers how many rows there are then.
 fn list_row(marks: &[u8], least: u8, order: &mut [RowNumber], i: usize, count: usize) -> usize
     requires i_in_bounds { i < length marks.now }
-    requires i_lt_row_limit { i < rowLimit }
+    requires i_lt_row_limit { i < row_limit }
     requires count_in_bounds { count < length order.old }
-    ensures value { result ≡ countAfter marks.now least i count }
-    ensures order_after { order.new ≡ listedRow marks.now least order.old i count }
+    ensures value { result ≡ count_after marks.now least i count }
+    ensures order_after { order.new ≡ listed_row marks.now least order.old i count }
 {
     if marks[i] < least {
         return count;
@@ -42,10 +42,10 @@ pub fn list_rows(marks: &[u8], n: usize, least: u8, order: &mut [RowNumber]) -> 
 
 // Row i gets the next number, if it is an atom. Answers the number after.
 fn number_row(space: &[u32], numbers: &mut [u8], i: usize, seen: u8) -> u8
-    requires i_lt_row_limit { (i < rowLimit) × (rowsEnd ≤ length space.now) }
-    requires i_in_bounds { (i < length numbers.old) × (seen < rowLimit) }
+    requires i_lt_row_limit { (i < row_limit) × (rows_end ≤ length space.now) }
+    requires i_in_bounds { (i < length numbers.old) × (seen < row_limit) }
     ensures value { result ≡ seen_at space.now i seen }
-    ensures numbers_after { numbers.new ≡ numberRow space.now numbers.old i seen }
+    ensures numbers_after { numbers.new ≡ number_row space.now numbers.old i seen }
 {
     if row_at(space, i).op < FIRST_ATOM {
         return seen;
@@ -57,8 +57,8 @@ fn number_row(space: &[u32], numbers: &mut [u8], i: usize, seen: u8) -> u8
 // The atoms among the rows get numbers from 0 on.
 pub fn number_atoms(space: &[u32], order: &[RowNumber], count: usize, numbers: &mut [u8])
     requires rows { Rows space.now order.now count }
-    requires row_limit_in_bounds { rowLimit ≤ length numbers.old }
-    ensures { numbers.new ≡ numbersTo space.now order.now numbers.old count }
+    requires row_limit_in_bounds { row_limit ≤ length numbers.old }
+    ensures { numbers.new ≡ numbers_to space.now order.now numbers.old count }
 {
     let mut seen = 0;
     let mut j = 0;
@@ -70,9 +70,9 @@ pub fn number_atoms(space: &[u32], order: &[RowNumber], count: usize, numbers: &
 
 // Row i is no atom, or has a number.
 fn is_numbered(space: &[u32], numbers: &[u8], i: usize) -> bool
-    requires i_lt_row_limit { (i < rowLimit) × (rowsEnd ≤ length space.now) }
+    requires i_lt_row_limit { (i < row_limit) × (rows_end ≤ length space.now) }
     requires i_in_bounds { i < length numbers.now }
-    ensures { result ≡ isNumbered space.now numbers.now i }
+    ensures { result ≡ is_numbered space.now numbers.now i }
 {
     if row_at(space, i).op < FIRST_ATOM {
         return true;
@@ -83,8 +83,8 @@ fn is_numbered(space: &[u32], numbers: &[u8], i: usize) -> bool
 // Every atom among the rows has a number.
 pub fn all_numbered(space: &[u32], order: &[RowNumber], count: usize, numbers: &[u8]) -> bool
     requires rows { Rows space.now order.now count }
-    requires row_limit_in_bounds { rowLimit ≤ length numbers.now }
-    ensures { result ≡ numberedTo space.now order.now numbers.now count }
+    requires row_limit_in_bounds { row_limit ≤ length numbers.now }
+    ensures { result ≡ numbered_to space.now order.now numbers.now count }
 {
     let mut j = 0;
     while j < count {
@@ -109,7 +109,7 @@ fn spread(b: u32) -> u64
 
 // The truths of atom m under the assignments 64 * block, 64 * block + 1, ..: bit m of each.
 fn pattern(m: u32, block: u32) -> u64
-    ensures { result ≡ patternOf m block }
+    ensures { result ≡ pattern_of m block }
 {
     match m {
         0 => 0xAAAA_AAAA_AAAA_AAAA,
@@ -139,7 +139,7 @@ fn operand(words: &[u64], a: u32, i: usize) -> u64
 
 // The truths of a row whose operands have the truths x and y; m is its number, if it is an atom.
 fn row_word(row: Row, x: u64, y: u64, m: u32, block: u32) -> u64
-    ensures { result ≡ rowWord row x y m block }
+    ensures { result ≡ row_word row x y m block }
 {
     let op = row.op;
     if FIRST_ATOM <= op {
@@ -165,9 +165,9 @@ fn row_word(row: Row, x: u64, y: u64, m: u32, block: u32) -> u64
 
 // The truths of row i, by the words of the rows before.
 fn evaluate_row(space: &[u32], numbers: &[u8], block: u32, words: &mut [u64], i: usize)
-    requires i_lt_row_limit { (i < rowLimit) × (rowsEnd ≤ length space.now) }
+    requires i_lt_row_limit { (i < row_limit) × (rows_end ≤ length space.now) }
     requires i_in_bounds { (i < length numbers.now) × (i < length words.old) }
-    ensures { words.new ≡ evaluateRow space.now numbers.now block words.old i }
+    ensures { words.new ≡ evaluate_row space.now numbers.now block words.old i }
 {
     let row = row_at(space, i);
     words[i] = row_word(
@@ -189,8 +189,8 @@ pub fn evaluate(
     words: &mut [u64],
 )
     requires rows { Rows space.now order.now count }
-    requires row_limit_in_bounds { (rowLimit ≤ length numbers.now) × (rowLimit ≤ length words.old) }
-    ensures { words.new ≡ evaluatedTo space.now order.now numbers.now block words.old count }
+    requires row_limit_in_bounds { (row_limit ≤ length numbers.now) × (row_limit ≤ length words.old) }
+    ensures { words.new ≡ evaluated_to space.now order.now numbers.now block words.old count }
 {
     let mut j = 0;
     while j < count {
@@ -201,7 +201,7 @@ pub fn evaluate(
 
 // Whether the truths of a row may differ from block to block, where x and y say so of its operands: 0 if they do not. m is its number, if it is an atom.
 fn change_of(row: Row, m: u8, x: u8, y: u8) -> u8
-    ensures { result ≡ changeOf row m x y }
+    ensures { result ≡ change_of row m x y }
 {
     if row.op < FIRST_ATOM {
         return x | y;
@@ -226,9 +226,9 @@ fn change_at(changes: &[u8], a: u32, i: usize) -> u8
 
 // Whether the truths of row i may differ from block to block.
 fn change_row(space: &[u32], numbers: &[u8], changes: &mut [u8], i: usize)
-    requires i_lt_row_limit { (i < rowLimit) × (rowsEnd ≤ length space.now) }
+    requires i_lt_row_limit { (i < row_limit) × (rows_end ≤ length space.now) }
     requires i_in_bounds { (i < length numbers.now) × (i < length changes.old) }
-    ensures { changes.new ≡ changeRow space.now numbers.now changes.old i }
+    ensures { changes.new ≡ change_row space.now numbers.now changes.old i }
 {
     let row = row_at(space, i);
     changes[i] = change_of(
@@ -248,8 +248,8 @@ fn mark_changes(
     changes: &mut [u8],
 )
     requires rows { Rows space.now order.now count }
-    requires row_limit_in_bounds { (rowLimit ≤ length numbers.now) × (rowLimit ≤ length changes.old) }
-    ensures { changes.new ≡ changedTo space.now order.now numbers.now changes.old count }
+    requires row_limit_in_bounds { (row_limit ≤ length numbers.now) × (row_limit ≤ length changes.old) }
+    ensures { changes.new ≡ changed_to space.now order.now numbers.now changes.old count }
 {
     let mut j = 0;
     while j < count {
@@ -269,10 +269,10 @@ pub fn begin(
     later: &mut [RowNumber],
 ) -> usize
     requires rows { Rows space.now order.now count }
-    requires row_limit_in_bounds { (rowLimit ≤ length numbers.now) × (rowLimit ≤ length words.old) }
-    requires n_le_row_limit { (n ≤ rowLimit) × (n ≤ length later.old) }
-    ensures words_after { words.new ≡ evaluatedTo space.now order.now numbers.now 0 words.old count }
-    ensures lists { Lists (changesOf space.now order.now numbers.now count) n 1 later.old result later.new }
+    requires row_limit_in_bounds { (row_limit ≤ length numbers.now) × (row_limit ≤ length words.old) }
+    requires n_le_row_limit { (n ≤ row_limit) × (n ≤ length later.old) }
+    ensures words_after { words.new ≡ evaluated_to space.now order.now numbers.now 0 words.old count }
+    ensures lists { Lists (changes_of space.now order.now numbers.now count) n 1 later.old result later.new }
 {
     evaluate(space, order, count, numbers, 0, words);
     let mut changes = [0u8; ROWS];

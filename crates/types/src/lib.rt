@@ -2,14 +2,14 @@
 ghost use Rattle.std.specs.Prelude.{◌||◌, ◌≡◌, ◌*◌, ◌<◌, ◌≤◌, eqb, length};
 ghost use Rattle.std.proofs.Math.ListN.{get_elem?};
 ghost use Rattle.script.specs.Code.Forms.{form_of};
-ghost use Rattle.script.specs.Rows.{setOp};
+ghost use Rattle.script.specs.Rows.{set_op};
 ghost use Rattle.script.specs.Tests.{pick};
 ghost use Rattle.script.specs.declared.Checked.TheVariants.{Accepted};
 ghost use Rattle.rules.specs.Checking.{known};
-ghost use Rattle.rules.specs.TypedRules.{wrong, binaryType, ifType};
-ghost use Rattle.terms.specs.Places.{symbolLimit, variablesEnd};
-ghost use Rattle.workspace.specs.Rules.{leafType, oneType, twoType, BoundTypes};
-ghost use Rattle.workspace.specs.State.{typesOn};
+ghost use Rattle.rules.specs.TypedRules.{wrong, binary_type, if_type};
+ghost use Rattle.terms.specs.Places.{symbol_limit, variables_end};
+ghost use Rattle.workspace.specs.Rules.{leaf_type, one_type, two_type, BoundTypes};
+ghost use Rattle.workspace.specs.State.{types_on};
 
 use script::table::{ADD, AND, EQ, GET, INT, LET, NOT, REF, SET, VAR};
 use script::{Checked, Node, Refusal};
@@ -20,7 +20,7 @@ pub const DEEPEST: u32 = 30;
 // `var`: the type at place k of the environment.
 fn variable_type(space: &[u32], depth: usize, k: u32, n: u32) -> Checked
     requires { 2 * depth ≤ length space.now }
-    ensures { result ≡ known n (get_elem? (typesOn space.now depth) k) }
+    ensures { result ≡ known n (get_elem? (types_on space.now depth) k) }
 {
     let i = k as usize;
     if i < depth {
@@ -32,7 +32,7 @@ fn variable_type(space: &[u32], depth: usize, k: u32, n: u32) -> Checked
 // A node whose operands are no nodes.
 pub fn leaf_type(node: Node, space: &[u32], depth: usize, n: u32) -> Checked
     requires { 2 * depth ≤ length space.now }
-    ensures { result ≡ leafType (form_of node.kind) n node (typesOn space.now depth) }
+    ensures { result ≡ leaf_type (form_of node.kind) n node (types_on space.now depth) }
 {
     let kind = node.kind;
     match kind {
@@ -44,7 +44,7 @@ pub fn leaf_type(node: Node, space: &[u32], depth: usize, n: u32) -> Checked
 
 // A node with one operand that is a node, which has type t.
 pub fn one_type(kind: u32, t: u32, n: u32) -> Checked
-    ensures { result ≡ oneType (form_of kind) n t }
+    ensures { result ≡ one_type (form_of kind) n t }
 {
     match kind {
         NOT => {
@@ -71,7 +71,7 @@ pub fn one_type(kind: u32, t: u32, n: u32) -> Checked
 
 // `set`: a reference to u, and a value of type u.
 fn set_type(t: u32, u: u32, n: u32) -> Checked
-    ensures { result ≡ binaryType n setOp t u }
+    ensures { result ≡ binary_type n set_op t u }
 {
     if 2 <= t {
         if t - 2 == u {
@@ -95,7 +95,7 @@ fn both_type(t: u32, u: u32, wanted: u32, n: u32) -> Checked
 
 // A node with two operands, of types t and u.
 pub fn two_type(kind: u32, t: u32, u: u32, n: u32) -> Checked
-    ensures { result ≡ twoType (form_of kind) n t u }
+    ensures { result ≡ two_type (form_of kind) n t u }
 {
     match kind {
         ADD => both_type(t, u, 0, n),
@@ -113,7 +113,7 @@ pub fn two_type(kind: u32, t: u32, u: u32, n: u32) -> Checked
 
 // An `if`, whose condition has type t and whose branches have u and v.
 pub fn if_type(t: u32, u: u32, v: u32, n: u32) -> Checked
-    ensures { result ≡ ifType n t u v }
+    ensures { result ≡ if_type n t u v }
 {
     if t == 1 {
         if u == v {
@@ -125,8 +125,8 @@ pub fn if_type(t: u32, u: u32, v: u32, n: u32) -> Checked
 
 // The environment of the second operand of a node whose first has type t: a `let` adds it. Answers how many variables it has.
 pub fn bind_type(space: &mut [u32], depth: usize, node: Node, t: u32) -> usize
-    requires depth_lt_symbol_limit { depth < symbolLimit }
-    requires variables_end_in_bounds { variablesEnd ≤ length space.old }
+    requires depth_lt_symbol_limit { depth < symbol_limit }
+    requires variables_end_in_bounds { variables_end ≤ length space.old }
     ensures { BoundTypes node depth t space.old result space.new }
 {
     if node.kind == LET {

@@ -8,10 +8,10 @@ use Rattle.uses.specs.Walk.{half}
 -- ---- one bit
 
 -- as code reads it
-pub bit-shr : (a k : ℕ) → eqb (a / 2 ^ k % 2) 1 ≡ bit a k
+pub bit_shr : (a k : ℕ) → eqb (a / 2 ^ k % 2) 1 ≡ bit a k
 unfolding bit
-bit-shr a zero = rw (div-one a) refl
-bit-shr a (suc k) = ap (λ (x : ℕ). eqb (x % 2) 1) (sym (shr-shr a 1 k ∙ ap (λ (j : ℕ). a / 2 ^ j) (one-add k))) ∙ bit-shr (a / 2) k
+bit_shr a zero = rw (div-one a) refl
+bit_shr a (suc k) = ap (λ (x : ℕ). eqb (x % 2) 1) (sym (shr-shr a 1 k ∙ ap (λ (j : ℕ). a / 2 ^ j) (one-add k))) ∙ bit_shr (a / 2) k
 
 pub bit-least : (a k : ℕ) → bit a k ≡ true → 2 ^ k ≤ a
 unfolding bit
@@ -22,24 +22,24 @@ bit-least a (suc k) e = let h = bit-least (a / 2) k e in rw (pow-suc 2 k) (omega
 pub one_shl : (k : ℕ) → k < half → (1 * 2 ^ k) % 2 ^ half ≡ 2 ^ k
 one_shl k h = shl_exact {a = 1} 1 k half (omega arith) (omega arith) ∙ one-mul (2 ^ k)
 
-half-less : (a p : ℕ) → p ≤ a / 2 → (a - p * 2) / 2 ≡ a / 2 - p
-half-less a p h = omega arith
+half_less : (a p : ℕ) → p ≤ a / 2 → (a - p * 2) / 2 ≡ a / 2 - p
+half_less a p h = omega arith
 
-odd-less : (a p : ℕ) → p ≤ a / 2 → (a - p * 2) % 2 ≡ a % 2
-odd-less a p h = omega arith
+odd_less : (a p : ℕ) → p ≤ a / 2 → (a - p * 2) % 2 ≡ a % 2
+odd_less a p h = omega arith
 
 -- the word with a 0 at bit k: there, and elsewhere
-pub bit-gone : (a k : ℕ) → bit a k ≡ true → bit (a - 2 ^ k) k ≡ false
+pub bit_gone : (a k : ℕ) → bit a k ≡ true → bit (a - 2 ^ k) k ≡ false
 unfolding bit
-bit-gone a zero e = let f = eqb-true (a % 2) 1 e in ne_eqb ((a - 1) % 2) 1 (λ q. omega arith)
-bit-gone a (suc k) e = rw (pow-suc 2 k, half-less a (2 ^ k) (bit-least (a / 2) k e)) (bit-gone (a / 2) k e)
+bit_gone a zero e = let f = eqb-true (a % 2) 1 e in ne_eqb ((a - 1) % 2) 1 (λ q. omega arith)
+bit_gone a (suc k) e = rw (pow-suc 2 k, half_less a (2 ^ k) (bit-least (a / 2) k e)) (bit_gone (a / 2) k e)
 
 pub bit_kept : (a k j : ℕ) → bit a k ≡ true → (k ≡ j → ⊥) → bit (a - 2 ^ k) j ≡ bit a j
 unfolding bit
 bit_kept a zero zero e d = absurd (d refl)
 bit_kept a zero (suc j) e d = let f = eqb-true (a % 2) 1 e in let q : (a - 1) / 2 ≡ a / 2 = omega arith in rw q refl
-bit_kept a (suc k) zero e d = rw (pow-suc 2 k, odd-less a (2 ^ k) (bit-least (a / 2) k e)) refl
-bit_kept a (suc k) (suc j) e d = rw (pow-suc 2 k, half-less a (2 ^ k) (bit-least (a / 2) k e)) (bit_kept (a / 2) k j e (λ q. d (ap suc q)))
+bit_kept a (suc k) zero e d = rw (pow-suc 2 k, odd_less a (2 ^ k) (bit-least (a / 2) k e)) refl
+bit_kept a (suc k) (suc j) e d = rw (pow-suc 2 k, half_less a (2 ^ k) (bit-least (a / 2) k e)) (bit_kept (a / 2) k j e (λ q. d (ap suc q)))
 
 pub bit-ones : (n k : ℕ) → k < n → bit (2 ^ n - 1) k ≡ true
 bit-ones n k h = let q : 2 ^ n - 1 - 0 ≡ 2 ^ n - 1 = omega arith in rw (← q) (bit_not n 0 k h (pow_pos n) ∙ ap not (bit-zero k))

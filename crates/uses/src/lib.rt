@@ -2,11 +2,11 @@
 // state says which node, other than the last, is the lowest that is not used exactly once.
 ghost use Rattle.std.specs.Prelude.{true, ◌≡◌, ◌-◌, ◌^◌, ◌<◌, take};
 ghost use Rattle.script.specs.Code.TableTests.{Lent};
-ghost use Rattle.script.specs.Flat.{nodesIn};
-ghost use Rattle.script.specs.Limits.{nodeLimit};
+ghost use Rattle.script.specs.Flat.{nodes_in};
+ghost use Rattle.script.specs.Limits.{node_limit};
 ghost use Rattle.script.specs.Table.{operands};
 ghost use Rattle.script.specs.Tests.Bits.{bit};
-ghost use Rattle.uses.specs.Walk.{half, usedAgain, withUse, withUses, firstUnused, lowestWrong, wrongBefore, start, step, walk};
+ghost use Rattle.uses.specs.Walk.{half, used_again, with_use, with_uses, first_unused, lowest_wrong, wrong_before, start, step, walk};
 
 use script::{Node, Place, Script};
 use table::{node_at, node_operands};
@@ -53,7 +53,7 @@ fn without_bit(word: u64, k: u32) -> u64
 
 // Node o is used again.
 fn used_again(u: Uses, o: u32) -> Uses
-    ensures { result ≡ usedAgain u o }
+    ensures { result ≡ used_again u o }
 {
     if o < u.again {
         return Uses {
@@ -68,7 +68,7 @@ fn used_again(u: Uses, o: u32) -> Uses
 
 // One use more, of node o.
 fn with_use(u: Uses, o: u32) -> Uses
-    ensures { result ≡ withUse u o }
+    ensures { result ≡ with_use u o }
 {
     if o < HALF {
         if has_bit(u.low, o) {
@@ -97,7 +97,7 @@ fn with_use(u: Uses, o: u32) -> Uses
 
 // The uses by one node more.
 fn with_uses(u: Uses, n: Node) -> Uses
-    ensures { result ≡ withUses u (operands n) }
+    ensures { result ≡ with_uses u (operands n) }
 {
     let count = node_operands(n.kind);
     if count == 0 {
@@ -116,7 +116,7 @@ fn with_uses(u: Uses, n: Node) -> Uses
 
 // The lowest unused node, or 128.
 fn first_unused(u: Uses) -> u32
-    ensures { result ≡ firstUnused u }
+    ensures { result ≡ first_unused u }
 {
     let low = u64::trailing_zeros(u.low);
     if low < HALF {
@@ -127,7 +127,7 @@ fn first_unused(u: Uses) -> u32
 
 // The lowest node that is unused or used again, or 128.
 fn lowest_wrong(u: Uses) -> u32
-    ensures { result ≡ lowestWrong u }
+    ensures { result ≡ lowest_wrong u }
 {
     let unused = first_unused(u);
     if unused < u.again {
@@ -138,7 +138,7 @@ fn lowest_wrong(u: Uses) -> u32
 
 // That node, if it is before the last.
 fn wrong_before(u: Uses, last: u32) -> Place
-    ensures { result ≡ wrongBefore u last }
+    ensures { result ≡ wrong_before u last }
 {
     let lowest = lowest_wrong(u);
     if lowest < last {
@@ -164,7 +164,7 @@ pub fn start() -> State
 
 // After one node more, which is the last so far.
 pub fn step(s: State, n: Node) -> State
-    requires { s.uses.seen < nodeLimit }
+    requires { s.uses.seen < node_limit }
     ensures { result ≡ step s n }
 {
     let before = s.uses;
@@ -183,7 +183,7 @@ pub fn step(s: State, n: Node) -> State
 // After the first `nodes` nodes of a table, one by one.
 pub fn walk(table: &[u32], nodes: usize) -> State
     requires { Lent table.now nodes }
-    ensures { result ≡ walk (take nodes (nodesIn table.now)) }
+    ensures { result ≡ walk (take nodes (nodes_in table.now)) }
 {
     let mut s = start();
     let mut i = 0;

@@ -3,46 +3,46 @@ pub mod Laws
 pub mod Made
 use Rattle.std.specs.Prelude.{ℕ, ◌<◌, ◌≤◌, Bool, ◌&&◌, List, length, ◌==◌, slice_index}
 use Rattle.script.specs.Tests.{pick}
-use Rattle.terms.specs.Atoms.{foundOr}
-use Rattle.terms.specs.Places.{rowLimit, rowsEnd}
+use Rattle.terms.specs.Atoms.{found_or}
+use Rattle.terms.specs.Places.{row_limit, rows_end}
 use Rattle.terms.specs.Search.{first_or}
-use Rattle.terms.specs.Terms.{row_in, countIn, Space, pushed, bit_of, ofConstant, ofDifference}
-use Rattle.words.specs.Sums.{joins, numbersOf, constantNumbers, alike, placeCount}
+use Rattle.terms.specs.Terms.{row_in, count_in, Space, pushed, bit_of, of_constant, of_difference}
+use Rattle.words.specs.Sums.{joins, numbers_of, constant_numbers, alike, place_count}
 
 -- the difference of the rows is the wanted one or its negation
-abbrev pub isWanted : List ℕ → List ℕ → ℕ → ℕ → Bool
-isWanted ws wanted p q = alike (numbersOf ws p q) wanted
+abbrev pub is_wanted : List ℕ → List ℕ → ℕ → ℕ → Bool
+is_wanted ws wanted p q = alike (numbers_of ws p q) wanted
 
 -- row i is the atom of the wanted difference
-unfoldable pub isFound : List ℕ → List ℕ → ℕ → Bool
-isFound ws wanted i = joins (row_in ws i) ofDifference i && isWanted ws wanted (row_in ws i).a (row_in ws i).b
+unfoldable pub is_found : List ℕ → List ℕ → ℕ → Bool
+is_found ws wanted i = joins (row_in ws i) of_difference i && is_wanted ws wanted (row_in ws i).a (row_in ws i).b
 
 -- its row, or the count if it has none
-abbrev pub differenceRowOf : List ℕ → List ℕ → ℕ
-differenceRowOf ws wanted = first_or (isFound ws wanted) (countIn ws)
+abbrev pub difference_row_of : List ℕ → List ℕ → ℕ
+difference_row_of ws wanted = first_or (is_found ws wanted) (count_in ws)
 
-abbrev pub differenceLeft : List ℕ → List ℕ → ℕ → ℕ → List ℕ
-differenceLeft ws wanted p q = foundOr ws (differenceRowOf ws wanted) 10 p q
+abbrev pub difference_left : List ℕ → List ℕ → ℕ → ℕ → List ℕ
+difference_left ws wanted p q = found_or ws (difference_row_of ws wanted) 10 p q
 
 -- the row of the equality of words p and q, and the rows then
-unfoldable pub equalRow : List ℕ → ℕ → ℕ → ℕ
-equalRow ws p q = pick (constantNumbers (numbersOf ws p q)) (countIn ws) (differenceRowOf ws (numbersOf ws p q))
+unfoldable pub equal_row : List ℕ → ℕ → ℕ → ℕ
+equal_row ws p q = pick (constant_numbers (numbers_of ws p q)) (count_in ws) (difference_row_of ws (numbers_of ws p q))
 
-unfoldable pub equalLeft : List ℕ → ℕ → ℕ → List ℕ
-equalLeft ws p q =
-    pick (constantNumbers (numbersOf ws p q)) (pushed ws ofConstant (bit_of (slice_index (numbersOf ws p q) 0 == 0)) 0)
-    (differenceLeft ws (numbersOf ws p q) p q)
+unfoldable pub equal_left : List ℕ → ℕ → ℕ → List ℕ
+equal_left ws p q =
+    pick (constant_numbers (numbers_of ws p q)) (pushed ws of_constant (bit_of (slice_index (numbers_of ws p q) 0 == 0)) 0)
+    (difference_left ws (numbers_of ws p q) p q)
 
 -- ---- what the code asks
 
 -- row i is lent, and so are the numbers of a difference
 pub record Rows (ws : List ℕ) (i : ℕ) (numbers : List ℕ) : Type 0 where
-  pub lent : rowsEnd ≤ length ws
-  pub within : i < rowLimit
-  pub placed : placeCount ≤ length numbers
+  pub lent : rows_end ≤ length ws
+  pub within : i < row_limit
+  pub placed : place_count ≤ length numbers
 
 -- room for one row more, and two rows are among those lent
 pub record Words (ws : List ℕ) (p q : ℕ) : Type 0 where
   pub space : Space ws 1
-  pub first : p < rowLimit
-  pub second : q < rowLimit
+  pub first : p < row_limit
+  pub second : q < row_limit

@@ -1,8 +1,8 @@
 // Equality of words: true or false if the difference is a constant, else an atom, which is found again if the same difference or its negation has a row.
 ghost use Rattle.std.specs.Prelude.{◌≡◌, ◌≤◌, length};
 ghost use Rattle.terms.specs.Terms.{Space};
-ghost use Rattle.words.specs.Sums.{placeCount, Two};
-ghost use Rattle.words.specs.Words.{isWanted, isFound, differenceRowOf, differenceLeft, equalRow, equalLeft, Rows, Words};
+ghost use Rattle.words.specs.Sums.{place_count, Two};
+ghost use Rattle.words.specs.Words.{is_wanted, is_found, difference_row_of, difference_left, equal_row, equal_left, Rows, Words};
 
 mod sums;
 
@@ -12,8 +12,8 @@ use terms::{CONSTANT, COUNT, DIFFERENCE, Row, push, row_at};
 // The difference of the rows is the wanted one or its negation.
 fn is_wanted(space: &[u32], p: u32, q: u32, wanted: &[u32]) -> bool
     requires two { Two space.now p q }
-    requires place_count_in_bounds { placeCount ≤ length wanted.now }
-    ensures { result ≡ isWanted space.now wanted.now p q }
+    requires place_count_in_bounds { place_count ≤ length wanted.now }
+    ensures { result ≡ is_wanted space.now wanted.now p q }
 {
     let mut numbers = [0u32; PLACES];
     subtract(space, p, q, &mut numbers);
@@ -23,7 +23,7 @@ fn is_wanted(space: &[u32], p: u32, q: u32, wanted: &[u32]) -> bool
 // Row i is the atom of the wanted difference.
 fn is_found(space: &[u32], i: usize, wanted: &[u32]) -> bool
     requires { Rows space.now i wanted.now }
-    ensures { result ≡ isFound space.now wanted.now i }
+    ensures { result ≡ is_found space.now wanted.now i }
 {
     let row = row_at(space, i);
     if joins(row, DIFFERENCE, i) {
@@ -35,8 +35,8 @@ fn is_found(space: &[u32], i: usize, wanted: &[u32]) -> bool
 // The row that is the atom of the wanted difference, or else the count.
 fn find_difference(space: &[u32], wanted: &[u32]) -> u32
     requires space { Space space.now 1 }
-    requires place_count_in_bounds { placeCount ≤ length wanted.now }
-    ensures { result ≡ differenceRowOf space.now wanted.now }
+    requires place_count_in_bounds { place_count ≤ length wanted.now }
+    ensures { result ≡ difference_row_of space.now wanted.now }
 {
     let n = space[COUNT];
     let mut i = 0;
@@ -52,9 +52,9 @@ fn find_difference(space: &[u32], wanted: &[u32]) -> u32
 // The row of the atom of a difference that is no constant: found again, or made of rows p and q.
 fn difference_atom(space: &mut [u32], p: u32, q: u32, wanted: &[u32]) -> u32
     requires space { Space space.old 1 }
-    requires place_count_in_bounds { placeCount ≤ length wanted.now }
-    ensures value { result ≡ differenceRowOf space.old wanted.now }
-    ensures space_after { space.new ≡ differenceLeft space.old wanted.now p q }
+    requires place_count_in_bounds { place_count ≤ length wanted.now }
+    ensures value { result ≡ difference_row_of space.old wanted.now }
+    ensures space_after { space.new ≡ difference_left space.old wanted.now p q }
 {
     let i = find_difference(space, wanted);
     if i < space[COUNT] {
@@ -66,8 +66,8 @@ fn difference_atom(space: &mut [u32], p: u32, q: u32, wanted: &[u32]) -> u32
 // The row of the equality of words p and q.
 pub fn equal_words(space: &mut [u32], p: u32, q: u32) -> u32
     requires { Words space.old p q }
-    ensures value { result ≡ equalRow space.old p q }
-    ensures space_after { space.new ≡ equalLeft space.old p q }
+    ensures value { result ≡ equal_row space.old p q }
+    ensures space_after { space.new ≡ equal_left space.old p q }
 {
     let mut numbers = [0u32; PLACES];
     subtract(space, p, q, &mut numbers);

@@ -1,7 +1,7 @@
 // The difference of two words in numbers: its constant, and then the coefficients of its symbols, modulo 2^32. One pass from the upper word down: each row
 // has a weight, how often it counts in the difference; a sum's weight goes to its operands, the weight of a number or a symbol to its place.
 ghost use Rattle.std.specs.Prelude.{◌≡◌, ◌*◌, ◌%◌, ◌^◌, ◌<◌, ◌≤◌, length};
-ghost use Rattle.words.specs.Sums.{placeCount, added, joins, isSymbol, spread, gather, passed, rows_to, subtracted, constantNumbers, same_numbers, oppositeNumbers, alike, Two, Room, TwoNumbers};
+ghost use Rattle.words.specs.Sums.{place_count, added, joins, is_symbol, spread, gather, passed, rows_to, subtracted, constant_numbers, same_numbers, opposite_numbers, alike, Two, Room, TwoNumbers};
 
 use std::num::wrapping_add_u32;
 use terms::{NUMBER, ROWS, Row, SUM, SYMBOL, VARIABLES, row_at};
@@ -42,7 +42,7 @@ pub fn joins(row: Row, op: u32, i: usize) -> bool
 
 // The row is a symbol of a word.
 fn is_symbol(row: Row) -> bool
-    ensures { result ≡ isSymbol row }
+    ensures { result ≡ is_symbol row }
 {
     if row.op != SYMBOL {
         return false;
@@ -64,7 +64,7 @@ fn spread(weights: &mut [u32], row: Row, i: usize, w: u32)
 
 // The weight w of a row goes to its place, if it is a number or a symbol.
 fn gather(numbers: &mut [u32], row: Row, w: u32)
-    requires { placeCount ≤ length numbers.old }
+    requires { place_count ≤ length numbers.old }
     ensures { numbers.new ≡ gather numbers.old row w }
 {
     if row.op == NUMBER {
@@ -107,7 +107,7 @@ fn rows_to(p: u32, q: u32) -> usize
 // Adds the numbers of row p less row q.
 pub fn subtract(space: &[u32], p: u32, q: u32, numbers: &mut [u32])
     requires two { Two space.now p q }
-    requires place_count_in_bounds { placeCount ≤ length numbers.old }
+    requires place_count_in_bounds { place_count ≤ length numbers.old }
     ensures { numbers.new ≡ subtracted space.now p q numbers.old }
 {
     let mut weights = [0u32; ROWS];
@@ -118,8 +118,8 @@ pub fn subtract(space: &[u32], p: u32, q: u32, numbers: &mut [u32])
 
 // Every symbol's coefficient is 0.
 pub fn is_constant(numbers: &[u32]) -> bool
-    requires { placeCount ≤ length numbers.now }
-    ensures { result ≡ constantNumbers numbers.now }
+    requires { place_count ≤ length numbers.now }
+    ensures { result ≡ constant_numbers numbers.now }
 {
     let mut k = 0;
     while k < VARIABLES {
@@ -149,7 +149,7 @@ fn same(xs: &[u32], ys: &[u32]) -> bool
 // One difference is the other's negation.
 fn opposite(xs: &[u32], ys: &[u32]) -> bool
     requires { TwoNumbers xs.now ys.now }
-    ensures { result ≡ oppositeNumbers xs.now ys.now }
+    ensures { result ≡ opposite_numbers xs.now ys.now }
 {
     let mut k = 0;
     while k < PLACES {

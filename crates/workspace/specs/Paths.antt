@@ -7,26 +7,26 @@ pub mod Symbols
 use Rattle.std.specs.Prelude.{List, ◌≡◌, ℕ, ◌+◌, ◌≤◌, ◌<◌, length, get_or, set}
 use Rattle.rules.specs.Paths.{Path, taken, start}
 use Rattle.rules.specs.Symbolic.{Origin, symbol, symbols}
-use Rattle.terms.specs.Terms.{countIn, pushed, Distinct}
-use Rattle.workspace.specs.Numbers.{freshPlace, freshLeft}
-use Rattle.workspace.specs.Places.{base_at, conditionAt, known_at, spaceSize}
+use Rattle.terms.specs.Terms.{count_in, pushed, Distinct}
+use Rattle.workspace.specs.Numbers.{fresh_place, fresh_left}
+use Rattle.workspace.specs.Places.{base_at, condition_at, known_at, space_size}
 use Rattle.workspace.specs.Rules.{Ruled}
-use Rattle.workspace.specs.State.{nextIn, conditionIn, writesIn, typesOn, Means, Variables, PathIn}
+use Rattle.workspace.specs.State.{next_in, condition_in, writes_in, types_on, Means, Variables, PathIn}
 
 -- a fresh symbol of type t, with this origin
 pub record Fresh (o : Origin) (t : ℕ) (ws : List ℕ) (q : ℕ) (left : List ℕ) : Type 0 where
   pub ruled : Ruled ws left
-  pub means : Distinct ws → Means left t q (symbol o t (nextIn ws))
+  pub means : Distinct ws → Means left t q (symbol o t (next_in ws))
   pub path : (p : Path) → PathIn ws p → PathIn left (taken p)
-  pub condition : conditionIn left ≡ conditionIn ws
-  pub writes : writesIn left ≡ writesIn ws
-  pub most : countIn left ≤ countIn ws + 1
-  pub place_is : q ≡ freshPlace o t ws
-  pub left_is : left ≡ freshLeft t ws
+  pub condition : condition_in left ≡ condition_in ws
+  pub writes : writes_in left ≡ writes_in ws
+  pub most : count_in left ≤ count_in ws + 1
+  pub place_is : q ≡ fresh_place o t ws
+  pub left_is : left ≡ fresh_left t ws
 
 -- the condition joined by a guard, with this operator
 abbrev pub assumed : List ℕ → ℕ → ℕ → List ℕ
-assumed ws op guard = set (pushed ws op (conditionIn ws) guard) conditionAt (countIn ws)
+assumed ws op guard = set (pushed ws op (condition_in ws) guard) condition_at (count_in ws)
 
 -- nothing is known of the condition any more
 abbrev pub forgotten : List ℕ → List ℕ
@@ -41,17 +41,17 @@ pub record Learns (ws left : List ℕ) : Type 0 where
 
 -- a workspace that holds nothing yet
 pub record Blank (ws : List ℕ) : Type 0 where
-  pub lent : spaceSize ≤ length ws
+  pub lent : space_size ≤ length ws
   pub zeros : (k : ℕ) → get_or ws k 0 ≡ 0
 
 -- the first i variables are symbols
 pub record Starting (types ws : List ℕ) (i : ℕ) : Type 0 where
-  pub lent : spaceSize ≤ length ws
-  pub rows : countIn ws ≤ 1 + i
-  pub first : 1 ≤ countIn ws
-  pub next : nextIn ws ≡ i
-  pub condition : conditionIn ws ≡ 0
-  pub writes : writesIn ws ≡ 0
+  pub lent : space_size ≤ length ws
+  pub rows : count_in ws ≤ 1 + i
+  pub first : 1 ≤ count_in ws
+  pub next : next_in ws ≡ i
+  pub condition : condition_in ws ≡ 0
+  pub writes : writes_in ws ≡ 0
   pub bare : (k : ℕ) → base_at ≤ k → k < known_at → get_or ws k 0 ≡ 0
   pub path : PathIn ws (start i)
-  pub variables : Variables ws i (symbols 0 (typesOn types i))
+  pub variables : Variables ws i (symbols 0 (types_on types i))

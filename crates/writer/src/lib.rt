@@ -1,11 +1,11 @@
 // The writer: from a table in flat form to lent bytes.
 ghost use Rattle.std.proofs.Math.Option.{none};
 ghost use Rattle.std.specs.Prelude.{◌≡◌, ℕ, ◌+◌, ◌*◌, ◌^◌, ◌≤◌, ◌<◌, length, take};
-ghost use Rattle.script.specs.Flat.{nodeWidth, nodesIn, tableIn};
-ghost use Rattle.script.specs.Rows.Kinds.{kindCount};
-ghost use Rattle.script.specs.Table.{nodeAt, tableTest};
-ghost use Rattle.text.specs.Code.Output.{Put, operandIf, textIn};
-ghost use Rattle.text.specs.Writing.{outcome, entryText, nodeText, entriesText, nodesText, longEnough, writing};
+ghost use Rattle.script.specs.Flat.{node_width, nodes_in, table_in};
+ghost use Rattle.script.specs.Rows.Kinds.{kind_count};
+ghost use Rattle.script.specs.Table.{node_at, table_test};
+ghost use Rattle.text.specs.Code.Output.{Put, operand_if, text_in};
+ghost use Rattle.text.specs.Writing.{outcome, entry_text, node_text, entries_text, nodes_text, long_enough, writing};
 
 use fields::{LF, TAB};
 use output::{put, put_bytes, put_number, put_type, put_word};
@@ -16,8 +16,8 @@ use tests::test_table;
 
 // An entry line.
 fn put_entry(out: &mut [u8], at: usize, t: u32) -> usize
-    requires { at + length (entryText t) < 2 ^ 64 }
-    ensures { Put (entryText t) at out.old result out.new }
+    requires { at + length (entry_text t) < 2 ^ 64 }
+    ensures { Put (entry_text t) at out.old result out.new }
 {
     let after_word = put_bytes(out, at, b"entry\t");
     let after_type = put_type(out, after_word, t);
@@ -27,8 +27,8 @@ fn put_entry(out: &mut [u8], at: usize, t: u32) -> usize
 
 // An operand after a tab, where it is wanted.
 fn put_operand(out: &mut [u8], at: usize, o: u32, wanted: bool) -> usize
-    requires { at + length (operandIf wanted o) < 2 ^ 64 }
-    ensures { Put (operandIf wanted o) at out.old result out.new }
+    requires { at + length (operand_if wanted o) < 2 ^ 64 }
+    ensures { Put (operand_if wanted o) at out.old result out.new }
 {
     if wanted {
         put(out, at, TAB);
@@ -39,9 +39,9 @@ fn put_operand(out: &mut [u8], at: usize, o: u32, wanted: bool) -> usize
 
 // A node line.
 fn put_node_line(out: &mut [u8], at: usize, n: Node) -> usize
-    requires kind_lt_kind_count { n.kind < kindCount }
-    requires n_bound { at + length (nodeText n) < 2 ^ 64 }
-    ensures { Put (nodeText n) at out.old result out.new }
+    requires kind_lt_kind_count { n.kind < kind_count }
+    requires n_bound { at + length (node_text n) < 2 ^ 64 }
+    ensures { Put (node_text n) at out.old result out.new }
 {
     let kind = n.kind;
     let count = operand_count(kind);
@@ -56,8 +56,8 @@ fn put_node_line(out: &mut [u8], at: usize, n: Node) -> usize
 // The lines of the first `count` entries.
 fn put_entries(out: &mut [u8], entries: &[u32], count: usize) -> usize
     requires count_in_bounds { count ≤ length entries.now }
-    requires entries_len_bound { length (entriesText (take count entries.now)) < 2 ^ 64 }
-    ensures { Put (entriesText (take count entries.now)) 0 out.old result out.new }
+    requires entries_len_bound { length (entries_text (take count entries.now)) < 2 ^ 64 }
+    ensures { Put (entries_text (take count entries.now)) 0 out.old result out.new }
 {
     let mut at = 0;
     let mut i = 0;
@@ -70,10 +70,10 @@ fn put_entries(out: &mut [u8], entries: &[u32], count: usize) -> usize
 
 // The lines of the first `count` nodes, from place `from` on.
 fn put_nodes(out: &mut [u8], from: usize, table: &[u32], count: usize) -> usize
-    requires count_in_bounds { nodeWidth * count ≤ length table.now }
-    requires by_index { (i : ℕ) → i < count → (nodeAt (nodesIn table.now) i).kind < kindCount }
-    requires table_bound { from + length (nodesText (take count (nodesIn table.now))) < 2 ^ 64 }
-    ensures { Put (nodesText (take count (nodesIn table.now))) from out.old result out.new }
+    requires count_in_bounds { node_width * count ≤ length table.now }
+    requires by_index { (i : ℕ) → i < count → (node_at (nodes_in table.now) i).kind < kind_count }
+    requires table_bound { from + length (nodes_text (take count (nodes_in table.now))) < 2 ^ 64 }
+    ensures { Put (nodes_text (take count (nodes_in table.now))) from out.old result out.new }
 {
     let mut at = from;
     let mut i = 0;
@@ -93,8 +93,8 @@ fn put_text(
     entries: &[u32],
     entry_count: usize,
 ) -> usize
-    requires { tableTest (tableIn table.now nodes entries.now entry_count) ≡ none }
-    ensures { Put (textIn (tableIn table.now nodes entries.now entry_count)) 0 out.old result out.new }
+    requires { table_test (table_in table.now nodes entries.now entry_count) ≡ none }
+    ensures { Put (text_in (table_in table.now nodes entries.now entry_count)) 0 out.old result out.new }
 {
     let after_entries = put_entries(out, entries, entry_count);
     put_nodes(out, after_entries, table, nodes)
@@ -102,8 +102,8 @@ fn put_text(
 
 // Whether the text fits. No text is longer than the limit; in a shorter output it is measured, by writing it into no bytes.
 fn fits(out: &mut [u8], table: &[u32], nodes: usize, entries: &[u32], entry_count: usize) -> bool
-    requires { tableTest (tableIn table.now nodes entries.now entry_count) ≡ none }
-    ensures value { result ≡ longEnough out.old (textIn (tableIn table.now nodes entries.now entry_count)) }
+    requires { table_test (table_in table.now nodes entries.now entry_count) ≡ none }
+    ensures value { result ≡ long_enough out.old (text_in (table_in table.now nodes entries.now entry_count)) }
     ensures out_unchanged { out.new ≡ out.old }
 {
     if Script::BYTES <= out.len() {
@@ -121,8 +121,8 @@ fn write_passed(
     entries: &[u32],
     entry_count: usize,
 ) -> Writing
-    requires { tableTest (tableIn table.now nodes entries.now entry_count) ≡ none }
-    ensures { outcome result out.new ≡ writing (tableIn table.now nodes entries.now entry_count) out.old }
+    requires { table_test (table_in table.now nodes entries.now entry_count) ≡ none }
+    ensures { outcome result out.new ≡ writing (table_in table.now nodes entries.now entry_count) out.old }
 {
     if fits(out, table, nodes, entries, entry_count) {
         let length = put_text(out, table, nodes, entries, entry_count);
@@ -139,7 +139,7 @@ pub fn write(
     entry_count: usize,
     out: &mut [u8],
 ) -> Writing
-    ensures { outcome result out.new ≡ writing (tableIn table.now nodes entries.now entry_count) out.old }
+    ensures { outcome result out.new ≡ writing (table_in table.now nodes entries.now entry_count) out.old }
 {
     match test_table(table, nodes, entries, entry_count) {
         Tested::Passed => write_passed(out, table, nodes, entries, entry_count),

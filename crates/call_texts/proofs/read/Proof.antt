@@ -34,7 +34,7 @@ use denote.Triple.Spec.{Meets, triple_of}
 use denote.Triple.Statement.{Contract, Triple}
 use denote.Triple.Table.{entered, cited}
 use denote.Triple.Walked.{says}
-use Rattle.script.specs.Flat.{nodeWidth}
+use Rattle.script.specs.Flat.{node_width}
 use Rattle.script.specs.declared.Node.{Node}
 use Rattle.script.specs.declared.Reading.{Reading}
 use Rattle.script.specs.contracts.Node as T
@@ -56,7 +56,7 @@ use Rattle.record_texts.specs.contracts.read as callee
 use Rattle.record_texts.proofs.read.Symbol as callee-def
 use Rattle.record_texts.proofs.read.Symbol.{name as #record-texts·read}
 use Rattle.record_texts.proofs.read.Met as callee-thm
-use Rattle.call_texts.specs.Tables.{placeCount, ReadBack}
+use Rattle.call_texts.specs.Tables.{place_count, ReadBack}
 use Rattle.call_texts.proofs.Filled.{begins}
 use Rattle.call_texts.specs.contracts.read.Key.{name as #call-texts·read}
 use Rattle.call_texts.specs.contracts.read as read
@@ -66,17 +66,17 @@ use Rattle.call_texts.proofs.read.Code as code
 abbrev spells : (κs : Lfts 3) → Spells (types_at (read.signature).params κs)
 spells κs = (shr_slice_vals, (shr_slice_vals, (shr_slice_vals, tt)))
 
-room : Room T.the_row placeCount
+room : Room T.the_row place_count
 room = (lit< tt, lit< tt)
 
 -- of what is read into n places ns, k nodes are copied
-told_back : (n : ℕ) → n ≡ placeCount → (text xs : List ℕ) (m : ℕ) (r : Reading) (ns : List Node) (es : List ℕ) (k : ℕ) (left : List ℕ) → length ns ≡ n → Reads text n m r ns es
+told_back : (n : ℕ) → n ≡ place_count → (text xs : List ℕ) (m : ℕ) (r : Reading) (ns : List Node) (es : List ℕ) (k : ℕ) (left : List ℕ) → length ns ≡ n → Reads text n m r ns es
     → CopiedOut ns xs k left → ReadBack text xs m r left es
 told_back n many text xs m r ns es k left len told c =
     let e = subst (λ (l : ℕ). Reads text l m r ns es) many told in record {
       answer-is = ap (λ (o : Read.Outcome). o.answer) e;
-      nodes-are = c.1 ∙ ap (λ (i : ℕ). copied ns i xs) (c.0 ∙ ap (λ (l : ℕ). min l (length xs / nodeWidth)) (len ∙ many)) ∙ ap (λ (o : Read.Outcome). copied o.lentNodes (min placeCount (length xs / nodeWidth)) xs) e;
-      entries-are = ap (λ (o : Read.Outcome). o.lentEntries) e;
+      nodes_are = c.1 ∙ ap (λ (i : ℕ). copied ns i xs) (c.0 ∙ ap (λ (l : ℕ). min l (length xs / node_width)) (len ∙ many)) ∙ ap (λ (o : Read.Outcome). copied o.lent_nodes (min place_count (length xs / node_width)) xs) e;
+      entries_are = ap (λ (o : Read.Outcome). o.lent_entries) e;
     }
 
 module _ {M : Type 1} {𝓤 : Ura M} (𝓛 : Logic 𝓤) (mem : Memory → SProp 𝓤) (run : Routine → Fun 𝓤) where
@@ -95,10 +95,10 @@ module _ {M : Type 1} {𝓤 : Ura M} (𝓛 : Logic 𝓤) (mem : Memory → SProp
 
       -- what the calls are given: the table ns at l, lent for α under the name γ, and the text and the entries, or the flat table
       abbrev to_read : List Node → ℕ → ℕ → GName → Callee.Ghost
-      to_read ns l α γ = (((κs.0, (α ∷ [], κs.1.1)), (qs.0, (full_share, qs.1.1)), tt, (a.0, (ref_at l 0 γ ns, a.1.1)), (vals.0, (slice_val (l, 0) placeCount ∷ [], vals.1.1))), tt)
+      to_read ns l α γ = (((κs.0, (α ∷ [], κs.1.1)), (qs.0, (full_share, qs.1.1)), tt, (a.0, (ref_at l 0 γ ns, a.1.1)), (vals.0, (slice_val (l, 0) place_count ∷ [], vals.1.1))), tt)
 
       abbrev to-copy : List Node → ℕ → ℕ → GName → (CopyOut 𝓛 mem run).Ghost
-      to-copy ns l α γ = (((α ∷ [], (κs.1.0, tt)), (full_share, (qs.1.0, tt)), tt, (ref_at l 0 γ ns, (a.1.0, tt)), (slice_val (l, 0) placeCount ∷ [], (vals.1.0, tt))), tt)
+      to-copy ns l α γ = (((α ∷ [], (κs.1.0, tt)), (full_share, (qs.1.0, tt)), tt, (ref_at l 0 γ ns, (a.1.0, tt)), (slice_val (l, 0) place_count ∷ [], (vals.1.0, tt))), tt)
 
       walk : Walk 𝓛 read.ended (read.clauses 𝓛 mem run) spells κs qs tt a tt code.function 𝓣
       walk are =
@@ -110,7 +110,7 @@ module _ {M : Type 1} {𝓤 : Ura M} (𝓛 : Logic 𝓤) (mem : Memory → SProp
           pass1 ! (init ! 28 refl (tt, (tt, (record { fits = are.0.0.1.0 }, tt)))) $ pass1 ! (init ! 26 refl (tt, (tt, (record { fits = are.1.0.0.1.0 }, tt)))) $
           pass1 ! (init ! 24 refl (tt, (tt, (record { fits = are.1.1.0.0.1.0 }, tt)))) $ pass0 ! $
           -- [_15; …; _0; …; text's token; flat's; the entries'; what text owns; what flat owns; what the entries own]
-          move ! (22 ∷ 16 ∷ 14 ∷ 18 ∷ []) $ begins ! placeCount room refl refl refl refl (λ ns len α γ.
+          move ! (22 ∷ 16 ∷ 14 ∷ 18 ∷ []) $ begins ! place_count room refl refl refl refl (λ ns len α γ.
           -- [the table's slice; its token; the lender's part; _7; _8; _6; room for each of _15 to _9, and the right to free it; that of _8, _7 and _6; room for _5; …; that of _4; _3; …; _2; …;
           -- _1; …; room for _0; …; the tokens; what the parameters own]
           move ! (18 ∷ 16 ∷ 26 ∷ []) $ again ! are.1.1.0.0.1.0 refl refl refl $ nothing ! $ nothing ! $ move ! (36 ∷ 6 ∷ 38 ∷ 0 ∷ 39 ∷ 5 ∷ 41 ∷ 1 ∷ []) $
@@ -121,7 +121,7 @@ module _ {M : Type 1} {𝓤 : Ura M} (𝓛 : Logic 𝓤) (mem : Memory → SProp
           -- [text's token; the table's; the entries'; true; what the answer owns; what says the last lists; _9; _10; _3; the lender's part; _7; _8; _6; …]
           land ! (from ! (stop !)) (init ! 28 refl (typed r w is)) $ move ! (5 ∷ []) $ fsplit ! $ drop ! $ fsplit ! $ fsplit ! $ move ! (1 ∷ []) $ feq_l ! (λ len'. move ! (1 ∷ []) $ fsplit ! $
           -- [what says the entries' last list; true; the table's last list; text's token; the table's; the entries'; true; what the answer owns; _9; …]. The table is back, and lent again
-          move ! (4 ∷ 11 ∷ 2 ∷ []) $ back-mut ! tt T.the_row placeCount ws.1.0 l₄ 0 $ move ! (0 ∷ 19 ∷ 17 ∷ []) $ sliced-shr ! T.the_row placeCount room ws.1.0 refl refl refl (λ β δ.
+          move ! (4 ∷ 11 ∷ 2 ∷ []) $ back-mut ! tt T.the_row place_count ws.1.0 l₄ 0 $ move ! (0 ∷ 19 ∷ 17 ∷ []) $ sliced-shr ! T.the_row place_count room ws.1.0 refl refl refl (λ β δ.
           -- [the slice; its token; the lender's part; _12; _13; what says the entries' last list; true; text's token; the entries'; true; what the answer owns; _9; _10; _3; _7; _8; _6; …]
           move ! (19 ∷ 17 ∷ 34 ∷ []) $ again ! are.1.0.0.1.0 refl refl refl $ move ! (4 ∷ 40 ∷ 12 ∷ 3 ∷ 41 ∷ 9 ∷ []) $
           called ! (fm_of 𝓤 H 𝓛.laws 𝓣) copy-out.ended (copy-out.clauses 𝓛 mem run) known-copy (to-copy ws.1.0 l₄ β δ)
@@ -130,10 +130,10 @@ module _ {M : Type 1} {𝓤 : Ura M} (𝓛 : Logic 𝓤) (mem : Memory → SProp
           heard ! (CopiedOut ws.1.0 a.1.0.now k zs.1.0) (λ c.
           -- [the slice's token; flat's; true; what the count owns; what says the last list; _14; _15; _2; the lender's part; _12; _13; …]
           land ! (from ! (stop !)) (init ! 25 refl ((uint_Lawful 𝓛 w64).typed k _ fits).0) $ move ! (4 ∷ []) $ fsplit ! $ drop ! $ fsplit ! $
-          move ! (5 ∷ 2 ∷ 9 ∷ []) $ drop ! $ back_shr ! tt T.the_row placeCount ws.1.0 l₄ 0 $
+          move ! (5 ∷ 2 ∷ 9 ∷ []) $ drop ! $ back_shr ! tt T.the_row place_count ws.1.0 l₄ 0 $
           -- [the table; what says flat's last list; true; flat's token; true; _14; _15; _2; _12; _13; what says the entries' last list; text's token; the entries'; what the answer owns; _9; _10; _3;
           -- _7; _8; _6; the right to free each of _15 to _12; _11; …; that of _10 to _6; _5; …; that of _4 to _2; _1; …; room for _0; …]
-          assigns ! (of_opd ! (var ! 31 refl)) (from ! (stop !)) (init ! 38 refl (typed r w is)) $ returns ! (look ! 38 refl) $ let_go ! T.the_row placeCount ws.1.0 l₄ 0 $
+          assigns ! (of_opd ! (var ! 31 refl)) (from ! (stop !)) (init ! 38 refl (typed r w is)) $ returns ! (look ! 38 refl) $ let_go ! T.the_row place_count ws.1.0 l₄ 0 $
           move ! (38 ∷ 39 ∷ 36 ∷ 37 ∷ 7 ∷ 35 ∷ 16 ∷ 34 ∷ 0 ∷ 33 ∷ 31 ∷ 32 ∷ 19 ∷ 30 ∷ 17 ∷ 29 ∷ 18 ∷ 28 ∷ 14 ∷ 27 ∷ 15 ∷ 26 ∷ 24 ∷ 25 ∷ 8 ∷ 23 ∷ 9 ∷ 22 ∷ 5 ∷ 21 ∷ 6 ∷ 20 ∷ []) $
           freed ! $ freed ! $ freed ! $ freed ! $ free1 ! $ freed ! $ freed ! $ freed ! $ freed ! $ freed ! $ freed ! $ freed ! $ freed ! $ freed ! $ freed ! $ freed ! $ free0 ! $
           -- [what says flat's last list; true; flat's token; true; what says the entries' last list; text's token; the entries'; what the answer owns]

@@ -49,7 +49,7 @@ use Rattle.record_texts.specs.contracts.write as callee
 use Rattle.record_texts.proofs.write.Symbol as callee-def
 use Rattle.record_texts.proofs.write.Symbol.{name as #record-texts·write}
 use Rattle.record_texts.proofs.write.Met as callee-thm
-use Rattle.call_texts.specs.Tables.{placeCount, tableAs}
+use Rattle.call_texts.specs.Tables.{place_count, table_as}
 use Rattle.call_texts.proofs.Filled.{CopyIn, fills}
 use Rattle.call_texts.specs.contracts.write.Key.{name as #call-texts·write}
 use Rattle.call_texts.specs.contracts.write as write
@@ -72,7 +72,7 @@ module _ {M : Type 1} {𝓤 : Ura M} (𝓛 : Logic 𝓤) (mem : Memory → SProp
 
       -- what the call of `write` is given: the table, filled, at l, lent for α under the name γ, and the rest as it was passed
       abbrev to-callee : ℕ → ℕ → GName → Callee.Ghost
-      to-callee l α γ = (((α ∷ [], κs.1), (full_share, qs.1), tt, (ref_at l 0 γ (places placeCount a.0.now), a.1), (slice_val (l, 0) placeCount ∷ [], vals.1)), tt)
+      to-callee l α γ = (((α ∷ [], κs.1), (full_share, qs.1), tt, (ref_at l 0 γ (places place_count a.0.now), a.1), (slice_val (l, 0) place_count ∷ [], vals.1)), tt)
 
       walk : Walk 𝓛 write.ended (write.clauses 𝓛 mem run) spells κs qs tt a tt code.function 𝓣
       walk are =
@@ -84,14 +84,14 @@ module _ {M : Type 1} {𝓤 : Ura M} (𝓛 : Logic 𝓤) (mem : Memory → SProp
           pass1 ! (init ! 22 refl (tt, (tt, (record { fits = are.1.1.0.0.1.0 }, tt)))) $ pass1 ! (init ! 20 refl (tt, record { fits = are.1.1.1.0.1 })) $
           pass1 ! (init ! 18 refl (tt, (tt, (record { fits = are.1.1.1.1.0.0.1.0 }, tt)))) $ pass0 ! $
           -- [_14; …; _0; …; flat's token; what flat owns; the other tokens; what the other parameters own]
-          move ! (16 ∷ 10 ∷ 8 ∷ 14 ∷ 12 ∷ 6 ∷ 4 ∷ 26 ∷ 30 ∷ 31 ∷ []) $ fills ! mem run (fm_of 𝓤 H 𝓛.laws 𝓣) known-copy a.0 placeCount (lit< tt, lit< tt) refl refl refl refl refl refl refl refl (λ α γ.
+          move ! (16 ∷ 10 ∷ 8 ∷ 14 ∷ 12 ∷ 6 ∷ 4 ∷ 26 ∷ 30 ∷ 31 ∷ []) $ fills ! mem run (fm_of 𝓤 H 𝓛.laws 𝓣) known-copy a.0 place_count (lit< tt, lit< tt) refl refl refl refl refl refl refl refl (λ α γ.
           -- [the table's slice; its token; the lender's part; _11; _12; flat's token; _9; _10; _7; _8; _1; room for _14; …; room for _13; …; the right to free each of _12 to _6; _5; …; _4; …; _3; …;
           -- _2; …; that of _1; room for _0; …; the other tokens; what the other parameters own]
           move ! (13 ∷ 11 ∷ 22 ∷ []) $ again ! are.1.1.1.1.0.0.1.0 refl refl refl $ move ! (4 ∷ 33 ∷ 3 ∷ 34 ∷ 5 ∷ 31 ∷ []) $
           answers ! (fm_of 𝓤 H 𝓛.laws 𝓣) callee.ended (callee.clauses 𝓛 mem run) known (to-callee l₆ α γ) (Toks 2 κs.1 qs.1) (_ ∷ _ ∷ []) (id⊢ 𝓤 _) (id⊢ 𝓤 _) (id⊢ 𝓤 _)
-          T.the_row placeCount (places placeCount a.0.now) (λ r w is. ((EL.lawful Z.the_type Z'.the_laws 𝓛 tt).typed r _ is).0) refl
+          T.the_row place_count (places place_count a.0.now) (λ r w is. ((EL.lawful Z.the_type Z'.the_laws 𝓛 tt).typed r _ is).0) refl
           (and_then ! (var ! 7 refl) (and_then ! (var ! 28 refl) (and_then ! (var ! 26 refl) (and_then ! (var ! 24 refl) (and_then ! (var ! 4 refl) (no_more !)))))) (λ w r ws.
-          heard ! (Writes (tableAs a.0.now a.1.0 a.1.1.0.now a.1.1.1.0) a.1.1.1.1.0.now r ws.1.1.1.1.0) (λ told.
+          heard ! (Writes (table_as a.0.now a.1.0 a.1.1.0.now a.1.1.1.0) a.1.1.1.1.0.now r ws.1.1.1.1.0) (λ told.
           -- [room for _6; the other tokens; what the answer owns; what says the last values; _0; _13; _14; _5; _11; _12; flat's token; _9; _10; _7; _8; _1; the right to free each of _14 to _5; _4; …;
           -- _3; …; _2; …; that of _1; that of _0]
           move ! (4 ∷ 33 ∷ 15 ∷ 32 ∷ 30 ∷ 31 ∷ 28 ∷ 29 ∷ 26 ∷ 27 ∷ 7 ∷ 25 ∷ 0 ∷ 24 ∷ 13 ∷ 23 ∷ 14 ∷ 22 ∷ 11 ∷ 21 ∷ 12 ∷ 20 ∷ 8 ∷ 19 ∷ 9 ∷ 18 ∷ 5 ∷ 17 ∷ 6 ∷ 16 ∷ []) $

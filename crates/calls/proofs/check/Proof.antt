@@ -48,7 +48,7 @@ use Rattle.records.specs.contracts.check as callee
 use Rattle.records.proofs.check.Symbol as callee-def
 use Rattle.records.proofs.check.Symbol.{name as #records·check}
 use Rattle.records.proofs.check.Met as callee-thm
-use Rattle.call_texts.specs.Tables.{placeCount, tableAs}
+use Rattle.call_texts.specs.Tables.{place_count, table_as}
 use Rattle.call_texts.proofs.Filled.{CopyIn, fills}
 use Rattle.calls.specs.contracts.check.Key.{name as #calls·check}
 use Rattle.calls.specs.contracts.check as check
@@ -71,7 +71,7 @@ module _ {M : Type 1} {𝓤 : Ura M} (𝓛 : Logic 𝓤) (mem : Memory → SProp
 
       -- what the call of `check` is given: the table, filled, at l, lent for α under the name γ, and the rest as it was passed
       abbrev to-callee : ℕ → ℕ → GName → Callee.Ghost
-      to-callee l α γ = (((α ∷ [], κs.1), (full_share, qs.1), tt, (ref_at l 0 γ (places placeCount a.0.now), a.1), (slice_val (l, 0) placeCount ∷ [], vals.1)), tt)
+      to-callee l α γ = (((α ∷ [], κs.1), (full_share, qs.1), tt, (ref_at l 0 γ (places place_count a.0.now), a.1), (slice_val (l, 0) place_count ∷ [], vals.1)), tt)
 
       walk : Walk 𝓛 check.ended (check.clauses 𝓛 mem run) spells κs qs tt a tt code.function 𝓣
       walk are =
@@ -82,14 +82,14 @@ module _ {M : Type 1} {𝓤 : Ura M} (𝓛 : Logic 𝓤) (mem : Memory → SProp
           pass1 ! (init ! 20 refl (tt, (tt, (record { fits = are.0.0.1.0 }, tt)))) $ pass1 ! (init ! 18 refl (tt, record { fits = are.1.0.1 })) $
           pass1 ! (init ! 16 refl (tt, (tt, (record { fits = are.1.1.0.0.1.0 }, tt)))) $ pass1 ! (init ! 14 refl (tt, record { fits = are.1.1.1.0.1 })) $ pass0 ! $
           -- [_11; …; _0; …; flat's token; what flat owns; the other tokens; what the other parameters own]
-          move ! (12 ∷ 6 ∷ 4 ∷ 10 ∷ 8 ∷ 2 ∷ 0 ∷ 20 ∷ 24 ∷ 25 ∷ []) $ fills ! mem run (fm_of 𝓤 H 𝓛.laws 𝓣) known-copy a.0 placeCount (lit< tt, lit< tt) refl refl refl refl refl refl refl refl (λ α γ.
+          move ! (12 ∷ 6 ∷ 4 ∷ 10 ∷ 8 ∷ 2 ∷ 0 ∷ 20 ∷ 24 ∷ 25 ∷ []) $ fills ! mem run (fm_of 𝓤 H 𝓛.laws 𝓣) known-copy a.0 place_count (lit< tt, lit< tt) refl refl refl refl refl refl refl refl (λ α γ.
           -- [the table's slice; its token; the lender's part; _10; _11; flat's token; _8; _9; _6; _7; _1; the right to free each of _11 to _5; _4; …; _3; …; _2; …; that of _1; room for _0; …;
           -- the other tokens; what the other parameters own]
           move ! (1 ∷ 27 ∷ 0 ∷ 28 ∷ 2 ∷ 25 ∷ []) $
           answers ! (fm_of 𝓤 H 𝓛.laws 𝓣) callee.ended (callee.clauses 𝓛 mem run) known (to-callee l₅ α γ) (Toks 1 κs.1 qs.1) (_ ∷ _ ∷ []) (id⊢ 𝓤 _) (id⊢ 𝓤 _) (id⊢ 𝓤 _)
-          T.the_row placeCount (places placeCount a.0.now) (λ r w is. ((EL.lawful Z.the_type Z'.the_laws 𝓛 tt).typed r _ is).0) refl
+          T.the_row place_count (places place_count a.0.now) (λ r w is. ((EL.lawful Z.the_type Z'.the_laws 𝓛 tt).typed r _ is).0) refl
           (and_then ! (var ! 4 refl) (and_then ! (var ! 22 refl) (and_then ! (var ! 20 refl) (and_then ! (var ! 18 refl) (no_more !))))) (λ w r ws.
-          heard ! (Checks (tableAs a.0.now a.1.0 a.1.1.0.now a.1.1.1.0) r) (λ told.
+          heard ! (Checks (table_as a.0.now a.1.0 a.1.1.0.now a.1.1.1.0) r) (λ told.
           -- [room for _5; the other tokens; what the answer owns; what says the last values; _0; _10; _11; flat's token; _8; _9; _6; _7; _1; the right to free each of _11 to _5; _4; …; _3; …; _2; …;
           -- that of _1; that of _0]
           move ! (4 ∷ 27 ∷ 12 ∷ 26 ∷ 24 ∷ 25 ∷ 22 ∷ 23 ∷ 20 ∷ 21 ∷ 0 ∷ 19 ∷ 10 ∷ 18 ∷ 11 ∷ 17 ∷ 8 ∷ 16 ∷ 9 ∷ 15 ∷ 5 ∷ 14 ∷ 6 ∷ 13 ∷ []) $

@@ -49,7 +49,7 @@ use Rattle.records.specs.contracts.run as callee
 use Rattle.records.proofs.run.Symbol as callee-def
 use Rattle.records.proofs.run.Symbol.{name as #records·run}
 use Rattle.records.proofs.run.Met as callee-thm
-use Rattle.call_texts.specs.Tables.{placeCount, tableAs}
+use Rattle.call_texts.specs.Tables.{place_count, table_as}
 use Rattle.call_texts.proofs.Filled.{CopyIn, fills}
 use Rattle.calls.specs.contracts.run.Key.{name as #calls·run}
 use Rattle.calls.specs.contracts.run as run
@@ -72,7 +72,7 @@ module _ {M : Type 1} {𝓤 : Ura M} (𝓛 : Logic 𝓤) (mem : Memory → SProp
 
       -- what the call of `run` is given: the table, filled, at l, lent for α under the name γ, and the rest as it was passed
       abbrev to-callee : ℕ → ℕ → GName → Callee.Ghost
-      to-callee l α γ = (((α ∷ [], κs.1), (full_share, qs.1), tt, (ref_at l 0 γ (places placeCount a.0.now), a.1), (slice_val (l, 0) placeCount ∷ [], vals.1)), tt)
+      to-callee l α γ = (((α ∷ [], κs.1), (full_share, qs.1), tt, (ref_at l 0 γ (places place_count a.0.now), a.1), (slice_val (l, 0) place_count ∷ [], vals.1)), tt)
 
       walk : Walk 𝓛 run.ended (run.clauses 𝓛 mem go) spells κs qs tt a tt code.function 𝓣
       walk are =
@@ -85,15 +85,15 @@ module _ {M : Type 1} {𝓤 : Ura M} (𝓛 : Logic 𝓤) (mem : Memory → SProp
           pass1 ! (init ! 22 refl (tt, (tt, (record { fits = are.1.1.1.1.0.0.1.0 }, tt)))) $ pass1 ! (init ! 20 refl (tt, (tt, (record { fits = are.1.1.1.1.1.0.0.1.0 }, tt)))) $
           pass1 ! (init ! 18 refl (tt, record { fits = are.1.1.1.1.1.1.0.1 })) $ pass0 ! $
           -- [_16; …; _0; …; flat's token; what flat owns; the other tokens; what the other parameters own]
-          move ! (16 ∷ 10 ∷ 8 ∷ 14 ∷ 12 ∷ 6 ∷ 4 ∷ 30 ∷ 34 ∷ 35 ∷ []) $ fills ! mem go (fm_of 𝓤 H 𝓛.laws 𝓣) known-copy a.0 placeCount (lit< tt, lit< tt) refl refl refl refl refl refl refl refl (λ α γ.
+          move ! (16 ∷ 10 ∷ 8 ∷ 14 ∷ 12 ∷ 6 ∷ 4 ∷ 30 ∷ 34 ∷ 35 ∷ []) $ fills ! mem go (fm_of 𝓤 H 𝓛.laws 𝓣) known-copy a.0 place_count (lit< tt, lit< tt) refl refl refl refl refl refl refl refl (λ α γ.
           -- [the table's slice; its token; the lender's part; _13; _14; flat's token; _11; _12; _9; _10; _1; room for _16; …; room for _15; …; the right to free each of _14 to _8; _7; …; _6; …; _5; …;
           -- _4; …; _3; …; _2; …; that of _1; room for _0; …; the other tokens; what the other parameters own]
           move ! (13 ∷ 11 ∷ 24 ∷ []) $ again ! are.1.1.1.1.1.0.0.1.0 refl refl refl $ move ! (4 ∷ 37 ∷ 3 ∷ 38 ∷ 5 ∷ 35 ∷ []) $
           answers ! (fm_of 𝓤 H 𝓛.laws 𝓣) callee.ended (callee.clauses 𝓛 mem go) known (to-callee l₈ α γ) (Toks 3 κs.1 qs.1) (_ ∷ _ ∷ []) (id⊢ 𝓤 _) (id⊢ 𝓤 _) (id⊢ 𝓤 _)
-          T.the_row placeCount (places placeCount a.0.now) (λ r w is. ((EL.lawful Z.the_type Z'.the_laws 𝓛 tt).typed r _ is).0) refl
+          T.the_row place_count (places place_count a.0.now) (λ r w is. ((EL.lawful Z.the_type Z'.the_laws 𝓛 tt).typed r _ is).0) refl
           (and_then ! (var ! 7 refl) (and_then ! (var ! 32 refl) (and_then ! (var ! 30 refl) (and_then ! (var ! 28 refl)
           (and_then ! (var ! 26 refl) (and_then ! (var ! 4 refl) (and_then ! (var ! 23 refl) (no_more !)))))))) (λ w r ws.
-          heard ! (Runs (tableAs a.0.now a.1.0 a.1.1.0.now a.1.1.1.0) a.1.1.1.1.0.now a.1.1.1.1.1.0.now a.1.1.1.1.1.1.0 r ws.1.1.1.1.1.0) (λ told.
+          heard ! (Runs (table_as a.0.now a.1.0 a.1.1.0.now a.1.1.1.0) a.1.1.1.1.0.now a.1.1.1.1.1.0.now a.1.1.1.1.1.1.0 r ws.1.1.1.1.1.0) (λ told.
           -- [room for _8; the other tokens; what the answer owns; what says the last values; _0; _15; _16; _6; _13; _14; flat's token; _11; _12; _9; _10; _1; the right to free each of _16 to _8; _7; …;
           -- that of _6; _5; …; _4; …; _3; …; _2; …; that of _1; that of _0]
           move ! (4 ∷ 37 ∷ 15 ∷ 36 ∷ 34 ∷ 35 ∷ 32 ∷ 33 ∷ 30 ∷ 31 ∷ 28 ∷ 29 ∷ 7 ∷ 27 ∷ 25 ∷ 26 ∷ 0 ∷ 24 ∷ 13 ∷ 23 ∷ 14 ∷ 22 ∷ 11 ∷ 21 ∷ 12 ∷ 20 ∷ 8 ∷ 19 ∷ 9 ∷ 18 ∷ 5 ∷ 17 ∷ 6 ∷ 16 ∷ []) $

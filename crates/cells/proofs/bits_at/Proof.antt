@@ -2,7 +2,7 @@
 use borrow.Author.Rules.{rules}
 use Prim.Native.Nat.{◌+◌, ◌*◌}
 use native.Mathlib.Omega.{arith}
-use Rattle.cells.specs.Values.{bits-read}
+use Rattle.cells.specs.Values.{bits_read}
 use Rattle.cells.proofs.bits_at.Statement.{statement}
 use Rattle.cells.proofs.bits_at.Tie as tie
 
@@ -60,7 +60,7 @@ add-result-3 c =
 returns : tie.Need-returns
 returns c =
     let a = c.before.before.before.before.before.before.before.before.before.args in
-    bits-read a.bytes.now a.i _ _ _ _
+    bits_read a.bytes.now a.i _ _ _ _
     c.before.before.before.before.before.before.wide.ensures
     c.before.before.before.before.wide2.ensures
     c.before.before.wide3.ensures

@@ -1,7 +1,7 @@
 -- `cells::load` meets its contract: the value by its kind, with the bits behind it. Assumes nothing.
 use borrow.Author.Rules.{rules}
 use mathlib.Core.Path.{◌∙◌}
-use Rattle.cells.specs.Values.{word-kind, truth-kind, location-kind, value_read}
+use Rattle.cells.specs.Values.{word-kind, truth-kind, location_kind, value_read}
 use Rattle.cells.proofs.load.Statement.{statement}
 use Rattle.cells.proofs.load.Tie as tie
 
@@ -18,7 +18,7 @@ returns-2 c =
 returns-3 : tie.Need-returns-3
 returns-3 c =
     let a = c.before.before.before.before.args in
-    location-kind _ _ c.match.rest.0.1 c.match.rest.1
+    location_kind _ _ c.match.rest.0.1 c.match.rest.1
     ∙ value_read a.bytes.now a.i c.before.before.bits_at.ensures
 
 pub load_spec : {M : Type 1} → statement M

@@ -3,7 +3,7 @@ use borrow.Author.Rules.{rules}
 use Prim.Native.Nat.{◌*◌}
 use native.Mathlib.Omega.{arith}
 use lib.ListN.{length-set}
-use Rattle.cells.specs.Values.{kind-small, value-stores}
+use Rattle.cells.specs.Values.{kind-small, value_stores}
 use Rattle.cells.proofs.store.Statement.{statement}
 use Rattle.cells.proofs.store.Tie as tie
 
@@ -13,7 +13,7 @@ cast-bytes c = omega (arith, c.kind.ensures, kind-small c.before.before.before.a
 returns : tie.Need-returns
 returns c =
     let a = c.before.before.before.args in
-    rw (c.kind.ensures, c.before.bits.ensures) (value-stores a.bytes.now (5 * a.i) _ _ _ _ _)
+    rw (c.kind.ensures, c.before.bits.ensures) (value_stores a.bytes.now (5 * a.i) _ _ _ _ _)
 
 pub store_spec : {M : Type 1} → statement M
 store_spec =

@@ -13,29 +13,29 @@ pub mod Rewinding
 pub mod Steps
 pub mod Walking
 use Rattle.std.specs.Prelude.{Bool, true, List, [], ◌∷◌, ◌++◌, ◌≡◌, ℕ, suc, ◌+◌, ◌*◌, ◌-◌, ◌≤◌, ◌<◌, length, get_or, set}
-use Rattle.script.specs.Code.Forms.{form_of, nodeIn, treeIn}
+use Rattle.script.specs.Code.Forms.{form_of, node_in, tree_in}
 use Rattle.script.specs.Flat.{FormedNodes}
-use Rattle.script.specs.Rows.{letForm, nodeOperands}
-use Rattle.script.specs.Rows.Kinds.{kindFor, leafKinds}
+use Rattle.script.specs.Rows.{let_form, node_operands}
+use Rattle.script.specs.Rows.Kinds.{kind_for, leaf_kinds}
 use Rattle.script.specs.Tests.{pick}
 use Rattle.script.specs.Tree.{size}
 use Rattle.script.specs.declared.Checked.TheVariants.{Accepted, Refused}
 use Rattle.script.specs.declared.Refusal.{Refusal}
-use Rattle.script.specs.Limits.{nodeLimit}
+use Rattle.script.specs.Limits.{node_limit}
 use Rattle.rules.specs.Checking.{exec}
 use Rattle.rules.specs.Paths.{Path, Paths, ends, bind, Leaf, stopped, leaves}
 use Rattle.rules.specs.Satisfiable.{satisfiable}
-use Rattle.rules.specs.Symbolic.{Formula, Symbolic, aTruth}
-use Rattle.rules.specs.SymbolicRules.{firstType, judge}
-use Rattle.terms.specs.Places.{symbolLimit, variablesEnd}
-use Rattle.terms.specs.Terms.{Grown, ofConjunction}
-use Rattle.workspace.specs.Forks.{forkedIn, Forked, Forks}
-use Rattle.workspace.specs.Frames.{frameIn, topIn, waiterOf, upOf, first_of, second_of, Waits, up_to, forBody, forFirst, forNext}
-use Rattle.workspace.specs.Notes.{baseIn, Kept}
+use Rattle.rules.specs.Symbolic.{Formula, Symbolic, a_truth}
+use Rattle.rules.specs.SymbolicRules.{first_type, judge}
+use Rattle.terms.specs.Places.{symbol_limit, variables_end}
+use Rattle.terms.specs.Terms.{Grown, of_conjunction}
+use Rattle.workspace.specs.Forks.{forked_in, Forked, Forks}
+use Rattle.workspace.specs.Frames.{frame_in, top_in, waiter_of, up_of, first_of, second_of, Waits, up_to, for_body, for_first, for_next}
+use Rattle.workspace.specs.Notes.{base_in, Kept}
 use Rattle.workspace.specs.Paths.{assumed, forgotten}
-use Rattle.workspace.specs.Places.{depthAt, forkAt, frameWidth, framesEnd, framesSize, log_at, spaceSize, writeAt}
-use Rattle.workspace.specs.Rules.{oneExec, twoExec, restExec, restSize, withoutGuard, Two, Chooses, Operable}
-use Rattle.workspace.specs.State.{writesIn, depthIn, Means, Variables, State, Room}
+use Rattle.workspace.specs.Places.{depth_at, fork_at, frame_width, frames_end, frames_size, log_at, space_size, write_at}
+use Rattle.workspace.specs.Rules.{one_exec, two_exec, rest_exec, rest_size, without_guard, Two, Chooses, Operable}
+use Rattle.workspace.specs.State.{writes_in, depth_in, Means, Variables, State, Room}
 use Rattle.workspace.specs.declared.Step.{Step}
 use Rattle.workspace.specs.declared.Step.TheVariants.{Gave}
 use Rattle.workspace.specs.declared.Step.TheVariants as step
@@ -54,37 +54,37 @@ pub data Later : Type 0 where
   second : ℕ → Symbolic → Later
 
 -- what is still to come of a path that has a value for what waits
-unfoldable pub goOn : ℕ → List ℕ → List Later → Symbolic → Path → Paths
-goOn limit table [] v p = ends v p
-goOn limit table (only n ∷ ks) v p = bind (oneExec (form_of (nodeIn table n).kind) n v p) (goOn limit table ks)
-goOn limit table (first n env ∷ ks) v p =
-    bind (restExec (nodeIn table n) limit n (treeIn table (nodeIn table n).b) (treeIn table (nodeIn table n).c) v env p)
-    (goOn limit table ks)
-goOn limit table (second n w ∷ ks) v p = bind (twoExec (form_of (nodeIn table n).kind) n w v p) (goOn limit table ks)
+unfoldable pub go_on : ℕ → List ℕ → List Later → Symbolic → Path → Paths
+go_on limit table [] v p = ends v p
+go_on limit table (only n ∷ ks) v p = bind (one_exec (form_of (node_in table n).kind) n v p) (go_on limit table ks)
+go_on limit table (first n env ∷ ks) v p =
+    bind (rest_exec (node_in table n) limit n (tree_in table (node_in table n).b) (tree_in table (node_in table n).c) v env p)
+    (go_on limit table ks)
+go_on limit table (second n w ∷ ks) v p = bind (two_exec (form_of (node_in table n).kind) n w v p) (go_on limit table ks)
 
 -- ---- frames
 
 -- in frame f node n waits, for its first operand, the next one or the body of a `let`; its value goes to frame g
 pub record Slot (fs : List ℕ) (f n g awaits : ℕ) : Type 0 where
-  pub node : waiterOf fs f ≡ n
-  pub up : upOf fs f ≡ up_to g awaits
+  pub node : waiter_of fs f ≡ n
+  pub up : up_of fs f ≡ up_to g awaits
   pub earlier : g < f
 
 -- what waits from frame f on, where there are so many variables, with room for so many nodes that it takes and frames that it makes; `ground` are the
 -- variables at the start
 pub data Awaits (table : List ℕ) (bound base : ℕ) (ground : List Symbolic) (ws fs : List ℕ) : ℕ → ℕ → List Symbolic → List Later → ℕ → ℕ → Type 0 where
-  no-frame : Awaits table bound base ground ws fs 0 base ground [] 0 0
-  for-only : {f g n depth owed frames : ℕ} {env : List Symbolic} {ks : List Later} → Slot fs f n g forFirst → n < bound → nodeOperands (nodeIn table n).kind ≡ 1
+  no_frame : Awaits table bound base ground ws fs 0 base ground [] 0 0
+  for_only : {f g n depth owed frames : ℕ} {env : List Symbolic} {ks : List Later} → Slot fs f n g for_first → n < bound → node_operands (node_in table n).kind ≡ 1
       → Awaits table bound base ground ws fs g depth env ks owed frames → Awaits table bound base ground ws fs f depth env (only n ∷ ks) (suc owed) frames
-  for-first : {f g n depth owed frames rest : ℕ} {env : List Symbolic} {ks : List Later} → Slot fs f n g forFirst → n < bound
-      → 2 ≤ nodeOperands (nodeIn table n).kind → restSize table n ≡ suc rest → depth + suc rest ≤ symbolLimit
+  for_first_lem : {f g n depth owed frames rest : ℕ} {env : List Symbolic} {ks : List Later} → Slot fs f n g for_first → n < bound
+      → 2 ≤ node_operands (node_in table n).kind → rest_size table n ≡ suc rest → depth + suc rest ≤ symbol_limit
       → Awaits table bound base ground ws fs g depth env ks owed frames
       → Awaits table bound base ground ws fs f depth env (first n env ∷ ks) (suc rest + owed) (rest + frames)
-  for-second : {f g n depth owed frames : ℕ} {env : List Symbolic} {ks : List Later} {v : Symbolic} → Slot fs f n g forNext → n < bound
+  for_second : {f g n depth owed frames : ℕ} {env : List Symbolic} {ks : List Later} {v : Symbolic} → Slot fs f n g for_next → n < bound
       → Means ws (first_of fs f) (second_of fs f) v → Awaits table bound base ground ws fs g depth env ks owed frames
       → Awaits table bound base ground ws fs f depth env (second n v ∷ ks) (suc owed) frames
-  for-body : {f g n depth owed frames : ℕ} {env : List Symbolic} {ks : List Later} {v : Symbolic} → Slot fs f n g forBody → n < bound
-      → (nodeIn table n).kind ≡ kindFor letForm → Means ws (first_of fs f) (second_of fs f) v → Awaits table bound base ground ws fs g depth env ks owed frames
+  for_body_lem : {f g n depth owed frames : ℕ} {env : List Symbolic} {ks : List Later} {v : Symbolic} → Slot fs f n g for_body → n < bound
+      → (node_in table n).kind ≡ kind_for let_form → Means ws (first_of fs f) (second_of fs f) v → Awaits table bound base ground ws fs g depth env ks owed frames
       → Awaits table bound base ground ws fs f (suc depth) (env ++ (v ∷ [])) (second n v ∷ ks) (suc owed) frames
 
 -- ---- forks
@@ -95,12 +95,12 @@ pub record Onward (base : ℕ) (xs gs ws fs : List ℕ) : Type 0 where
   pub framed : length fs ≡ length gs
   pub first : (k : ℕ) → k < 2 * base → get_or ws k 0 ≡ get_or xs k 0
   pub grown : Grown xs ws
-  pub logged : writesIn xs ≤ writesIn ws
-  pub log : (k : ℕ) → log_at ≤ k → k < writeAt (writesIn xs) → get_or ws k 0 ≡ get_or xs k 0
-  pub tops : topIn gs ≤ topIn fs
-  pub frames : (k : ℕ) → frameWidth ≤ k → k < frameWidth + frameWidth * topIn gs → get_or fs k 0 ≡ get_or gs k 0
-  pub forked : forkedIn gs ≤ forkedIn fs
-  pub forks : (k : ℕ) → framesEnd ≤ k → k < forkAt (forkedIn gs) → get_or fs k 0 ≡ get_or gs k 0
+  pub logged : writes_in xs ≤ writes_in ws
+  pub log : (k : ℕ) → log_at ≤ k → k < write_at (writes_in xs) → get_or ws k 0 ≡ get_or xs k 0
+  pub tops : top_in gs ≤ top_in fs
+  pub frames : (k : ℕ) → frame_width ≤ k → k < frame_width + frame_width * top_in gs → get_or fs k 0 ≡ get_or gs k 0
+  pub forked : forked_in gs ≤ forked_in fs
+  pub forks : (k : ℕ) → frames_end ≤ k → k < fork_at (forked_in gs) → get_or fs k 0 ≡ get_or gs k 0
 
 -- a path at an `if` whose branches can both be taken, before a branch is: what its false branch comes to
 pub record Forking (limit : ℕ) (table : List ℕ) (bound base : ℕ) (ground : List Symbolic) (xs gs : List ℕ) (ls : List Leaf) : Type 0 where
@@ -110,28 +110,28 @@ pub record Forking (limit : ℕ) (table : List ℕ) (bound base : ℕ) (ground :
   pub later : List Later
   pub owed : ℕ
   pub frames : ℕ
-  pub lent : spaceSize ≤ length xs
-  pub framed : framesSize ≤ length gs
-  pub state : State xs (depthIn xs) environment path
+  pub lent : space_size ≤ length xs
+  pub framed : frames_size ≤ length gs
+  pub state : State xs (depth_in xs) environment path
   pub ground-is : Variables xs base ground
-  pub awaits : Awaits table bound base ground xs gs (frameIn gs) (depthIn xs) environment later owed frames
-  pub newest : frameIn gs ≡ topIn gs
-  pub means : Means xs 1 (second_of gs (frameIn gs)) (aTruth guard)
-  pub allowed : satisfiable (withoutGuard guard path).condition ≡ true
-  pub low : waiterOf gs (frameIn gs) < bound
-  pub branch : (nodeIn table (waiterOf gs (frameIn gs))).c < bound
-  pub room : Room xs (suc (size (treeIn table (nodeIn table (waiterOf gs (frameIn gs))).c) + owed))
-  pub tops : topIn gs + forkedIn gs + size (treeIn table (nodeIn table (waiterOf gs (frameIn gs))).c) + frames ≤ nodeLimit
-  pub variables : depthIn xs + size (treeIn table (nodeIn table (waiterOf gs (frameIn gs))).c) ≤ symbolLimit
-  pub few : suc (forkedIn gs) ≤ topIn gs
+  pub awaits : Awaits table bound base ground xs gs (frame_in gs) (depth_in xs) environment later owed frames
+  pub newest : frame_in gs ≡ top_in gs
+  pub means : Means xs 1 (second_of gs (frame_in gs)) (a_truth guard)
+  pub allowed : satisfiable (without_guard guard path).condition ≡ true
+  pub low : waiter_of gs (frame_in gs) < bound
+  pub branch : (node_in table (waiter_of gs (frame_in gs))).c < bound
+  pub room : Room xs (suc (size (tree_in table (node_in table (waiter_of gs (frame_in gs))).c) + owed))
+  pub tops : top_in gs + forked_in gs + size (tree_in table (node_in table (waiter_of gs (frame_in gs))).c) + frames ≤ node_limit
+  pub variables : depth_in xs + size (tree_in table (node_in table (waiter_of gs (frame_in gs))).c) ≤ symbol_limit
+  pub few : suc (forked_in gs) ≤ top_in gs
   pub is : ls
       ≡ leaves
-      (bind (exec limit (treeIn table (nodeIn table (waiterOf gs (frameIn gs))).c) environment (withoutGuard guard path)) (goOn limit table later))
+      (bind (exec limit (tree_in table (node_in table (waiter_of gs (frame_in gs))).c) environment (without_guard guard path)) (go_on limit table later))
 
 -- the forks that are left, the last in front, and the leaves that they come to
 pub data Left (limit : ℕ) (table : List ℕ) (bound base : ℕ) (ground : List Symbolic) : List ℕ → List ℕ → ℕ → List Leaf → Type 0 where
   none_left : {ws fs : List ℕ} → Left limit table bound base ground ws fs 0 []
-  one_left : {xs gs ws fs : List ℕ} {ls ms : List Leaf} (j : ℕ) → forkedIn gs ≡ j → Forking limit table bound base ground xs gs ls
+  one_left : {xs gs ws fs : List ℕ} {ls ms : List Leaf} (j : ℕ) → forked_in gs ≡ j → Forking limit table bound base ground xs gs ls
       → Left limit table bound base ground xs gs j ms → Onward base xs gs ws fs → Forked xs gs j fs
       → Left limit table bound base ground ws fs (suc j) (ls ++ ms)
 
@@ -141,17 +141,17 @@ pub data Left (limit : ℕ) (table : List ℕ) (bound base : ℕ) (ground : List
 pub record Stands (limit : ℕ) (table : List ℕ) (bound base : ℕ) (ground : List Symbolic) (ws fs : List ℕ)
     (env : List Symbolic) (p : Path) (ks : List Later) (owed frames : ℕ) (ls : List Leaf) : Type 0 where
   pub formed : FormedNodes table bound
-  pub lent : spaceSize ≤ length ws
-  pub framed : framesSize ≤ length fs
-  pub narrow : depthIn ws ≤ symbolLimit
-  pub state : State ws (depthIn ws) env p
+  pub lent : space_size ≤ length ws
+  pub framed : frames_size ≤ length fs
+  pub narrow : depth_in ws ≤ symbol_limit
+  pub state : State ws (depth_in ws) env p
   pub ground-is : Variables ws base ground
-  pub based : baseIn ws ≡ base
+  pub based : base_in ws ≡ base
   pub notes : Kept limit table ws
-  pub awaits : Awaits table bound base ground ws fs (frameIn fs) (depthIn ws) env ks owed frames
-  pub inside : frameIn fs ≤ topIn fs
-  pub left : Left limit table bound base ground ws fs (forkedIn fs) ls
-  pub few : forkedIn fs ≤ topIn fs
+  pub awaits : Awaits table bound base ground ws fs (frame_in fs) (depth_in ws) env ks owed frames
+  pub inside : frame_in fs ≤ top_in fs
+  pub left : Left limit table bound base ground ws fs (forked_in fs) ls
+  pub few : forked_in fs ≤ top_in fs
 
 -- node m is next, and these leaves are still to come
 pub record Entering (limit : ℕ) (table : List ℕ) (bound base : ℕ) (ground : List Symbolic) (ws fs : List ℕ) (m : ℕ) (ls : List Leaf) : Type 0 where
@@ -163,10 +163,10 @@ pub record Entering (limit : ℕ) (table : List ℕ) (bound base : ℕ) (ground 
   pub others : List Leaf
   pub stands : Stands limit table bound base ground ws fs environment path later owed frames others
   pub low : m < bound
-  pub room : Room ws (size (treeIn table m) + owed)
-  pub tops : topIn fs + forkedIn fs + size (treeIn table m) + frames ≤ nodeLimit
-  pub variables : depthIn ws + size (treeIn table m) ≤ symbolLimit
-  pub is : ls ≡ leaves (bind (exec limit (treeIn table m) environment path) (goOn limit table later)) ++ others
+  pub room : Room ws (size (tree_in table m) + owed)
+  pub tops : top_in fs + forked_in fs + size (tree_in table m) + frames ≤ node_limit
+  pub variables : depth_in ws + size (tree_in table m) ≤ symbol_limit
+  pub is : ls ≡ leaves (bind (exec limit (tree_in table m) environment path) (go_on limit table later)) ++ others
 
 -- a value goes up, and these leaves are still to come
 pub record Returning (limit : ℕ) (table : List ℕ) (bound base : ℕ) (ground : List Symbolic) (ws fs : List ℕ) (t q : ℕ) (ls : List Leaf) : Type 0 where
@@ -180,45 +180,45 @@ pub record Returning (limit : ℕ) (table : List ℕ) (bound base : ℕ) (ground
   pub stands : Stands limit table bound base ground ws fs environment path later owed frames others
   pub means : Means ws t q value
   pub room : Room ws owed
-  pub tops : topIn fs + forkedIn fs + suc frames ≤ nodeLimit
-  pub is : ls ≡ leaves (goOn limit table later value path) ++ others
+  pub tops : top_in fs + forked_in fs + suc frames ≤ node_limit
+  pub is : ls ≡ leaves (go_on limit table later value path) ++ others
 
 -- ---- single steps
 
 -- a value becomes a variable, and the last variable is none any more
-abbrev pub boundTo : List ℕ → ℕ → ℕ → List ℕ
-boundTo ws t q = set (set (set ws (2 * depthIn ws) t) (2 * depthIn ws + 1) q) depthAt (depthIn ws + 1)
+abbrev pub bound_to : List ℕ → ℕ → ℕ → List ℕ
+bound_to ws t q = set (set (set ws (2 * depth_in ws) t) (2 * depth_in ws + 1) q) depth_at (depth_in ws + 1)
 
 abbrev pub unbound : List ℕ → List ℕ
-unbound ws = set ws depthAt (depthIn ws - 1)
+unbound ws = set ws depth_at (depth_in ws - 1)
 
 -- the step of a rule
-abbrev pub movedBy : Step → Move
-movedBy (Gave t q) = Value t q
-movedBy (step.Stopped x) = Stopped x
+abbrev pub moved_by : Step → Move
+moved_by (Gave t q) = Value t q
+moved_by (step.Stopped x) = Stopped x
 
 -- at an `if`, which waits for a branch
 pub data Branched (b c n t q : ℕ) (ws fs left gs : List ℕ) : Move → Type 0 where
-  to-first : Waits n forNext t q fs gs → Chooses n t q ws First left → Branched b c n t q ws fs left gs (Operand b)
-  to-second : Waits n forNext t q fs gs → Chooses n t q ws Second left → Branched b c n t q ws fs left gs (Operand c)
-  to_both : {between hs : List ℕ} → Waits n forNext t q fs hs → Chooses n t q ws Both between → Forks between hs gs
-      → left ≡ assumed (forgotten between) ofConjunction q → Branched b c n t q ws fs left gs (Operand b)
-  to_none : {x : Refusal} → Waits n forNext t q fs gs → Chooses n t q ws (Neither x) left → Branched b c n t q ws fs left gs (Stopped x)
+  to_first : Waits n for_next t q fs gs → Chooses n t q ws First left → Branched b c n t q ws fs left gs (Operand b)
+  to_second : Waits n for_next t q fs gs → Chooses n t q ws Second left → Branched b c n t q ws fs left gs (Operand c)
+  to_both : {between hs : List ℕ} → Waits n for_next t q fs hs → Chooses n t q ws Both between → Forks between hs gs
+      → left ≡ assumed (forgotten between) of_conjunction q → Branched b c n t q ws fs left gs (Operand b)
+  to_none : {x : Refusal} → Waits n for_next t q fs gs → Chooses n t q ws (Neither x) left → Branched b c n t q ws fs left gs (Stopped x)
 
 -- node n after its last operand: the body of a `let`, or another one
 pub record Lasts (kind awaits n t q u s : ℕ) (ws : List ℕ) (r : Move) (left : List ℕ) : Type 0 where
-  pub body : awaits ≡ forBody → (r ≡ Value u s) × (left ≡ unbound ws)
-  pub other : (awaits ≡ forBody → ⊥) → (a : Step) × (r ≡ movedBy a) × Two (form_of kind) n t q u s ws a left
+  pub body : awaits ≡ for_body → (r ≡ Value u s) × (left ≡ unbound ws)
+  pub other : (awaits ≡ for_body → ⊥) → (a : Step) × (r ≡ moved_by a) × Two (form_of kind) n t q u s ws a left
 
 pub record Lastable (awaits : ℕ) (ws : List ℕ) (t q u s : ℕ) : Type 0 where
   pub operable : Operable ws t q u s
-  pub variable : awaits ≡ forBody → 1 ≤ depthIn ws
+  pub variable : awaits ≡ for_body → 1 ≤ depth_in ws
 
 pub record Restorable (ws fs : List ℕ) : Type 0 where
-  pub lent : spaceSize ≤ length ws
-  pub framed : framesSize ≤ length fs
-  pub narrow : depthIn ws ≤ symbolLimit
-  pub inside : frameIn fs < nodeLimit
+  pub lent : space_size ≤ length ws
+  pub framed : frames_size ≤ length fs
+  pub narrow : depth_in ws ≤ symbol_limit
+  pub inside : frame_in fs < node_limit
   pub table : List ℕ
   pub bound : ℕ
   pub ground : List Symbolic
@@ -226,15 +226,15 @@ pub record Restorable (ws fs : List ℕ) : Type 0 where
   pub later : List Later
   pub owed : ℕ
   pub frames : ℕ
-  pub awaits : Awaits table bound (baseIn ws) ground ws fs (frameIn fs) (depthIn ws) environment later owed frames
+  pub awaits : Awaits table bound (base_in ws) ground ws fs (frame_in fs) (depth_in ws) environment later owed frames
 
 -- the variables are those that the frames have
 pub record Restores (ws fs left : List ℕ) : Type 0 where
   pub same : length left ≡ length ws
-  pub first : (k : ℕ) → k < 2 * baseIn ws → get_or left k 0 ≡ get_or ws k 0
-  pub beyond : (k : ℕ) → variablesEnd ≤ k → get_or left k 0 ≡ get_or ws k 0
-  pub variables : (table : List ℕ) (bound : ℕ) (ground env : List Symbolic) (ks : List Later) (owed frames : ℕ) → Variables ws (baseIn ws) ground
-      → Awaits table bound (baseIn ws) ground ws fs (frameIn fs) (depthIn ws) env ks owed frames → Variables left (depthIn ws) env
+  pub first : (k : ℕ) → k < 2 * base_in ws → get_or left k 0 ≡ get_or ws k 0
+  pub beyond : (k : ℕ) → variables_end ≤ k → get_or left k 0 ≡ get_or ws k 0
+  pub variables : (table : List ℕ) (bound : ℕ) (ground env : List Symbolic) (ks : List Later) (owed frames : ℕ) → Variables ws (base_in ws) ground
+      → Awaits table bound (base_in ws) ground ws fs (frame_in fs) (depth_in ws) env ks owed frames → Variables left (depth_in ws) env
 
 -- ---- what the functions ask and promise
 
@@ -243,8 +243,8 @@ pub record Enterable (limit : ℕ) (table ws fs : List ℕ) (m : ℕ) : Type 0 w
   pub bound : ℕ
   pub base : ℕ
   pub ground : List Symbolic
-  pub to-come : List Leaf
-  pub entering : Entering limit table bound base ground ws fs m to-come
+  pub to_come : List Leaf
+  pub entering : Entering limit table bound base ground ws fs m to_come
 
 -- a value can go up
 pub record Returnable (table ws fs : List ℕ) (t q : ℕ) : Type 0 where
@@ -252,8 +252,8 @@ pub record Returnable (table ws fs : List ℕ) (t q : ℕ) : Type 0 where
   pub bound : ℕ
   pub base : ℕ
   pub ground : List Symbolic
-  pub to-come : List Leaf
-  pub returning : Returning limit table bound base ground ws fs t q to-come
+  pub to_come : List Leaf
+  pub returning : Returning limit table bound base ground ws fs t q to_come
 
 -- what became of the leaves to come
 pub data Came (limit : ℕ) (table : List ℕ) (bound base : ℕ) (ground : List Symbolic) (left gs : List ℕ) (ls : List Leaf) : Move → Type 0 where
@@ -265,27 +265,27 @@ pub data Came (limit : ℕ) (table : List ℕ) (bound base : ℕ) (ground : List
 pub record Backs (table : List ℕ) (t q : ℕ) (ws fs : List ℕ) (r : Move) (left gs : List ℕ) : Type 0 where
   pub came : (limit bound base : ℕ) (ground : List Symbolic) (ls : List Leaf) → Returning limit table bound base ground ws fs t q ls
       → Came limit table bound base ground left gs ls r
-  pub falls : {u s : ℕ} → r ≡ Value u s → frameIn gs < frameIn fs
-  pub rises : {m : ℕ} → r ≡ Operand m → topIn fs < topIn gs
-  pub tops : topIn fs ≤ topIn gs
+  pub falls : {u s : ℕ} → r ≡ Value u s → frame_in gs < frame_in fs
+  pub rises : {m : ℕ} → r ≡ Operand m → top_in fs < top_in gs
+  pub tops : top_in fs ≤ top_in gs
 
 -- one that goes up until an operand is next or no frame is left
 pub record Climbs (table : List ℕ) (t q : ℕ) (ws fs : List ℕ) (r : Move) (left gs : List ℕ) : Type 0 where
   pub came : (limit bound base : ℕ) (ground : List Symbolic) (ls : List Leaf) → Returning limit table bound base ground ws fs t q ls
       → Came limit table bound base ground left gs ls r
-  pub ended : {u s : ℕ} → r ≡ Value u s → frameIn gs ≡ 0
-  pub rises : {m : ℕ} → r ≡ Operand m → topIn fs < topIn gs
+  pub ended : {u s : ℕ} → r ≡ Value u s → frame_in gs ≡ 0
+  pub rises : {m : ℕ} → r ≡ Operand m → top_in fs < top_in gs
 
 -- a node that waits for no operand, and where its value went
 pub record Arrives (limit : ℕ) (table : List ℕ) (n : ℕ) (ws fs : List ℕ) (r : Move) (left gs : List ℕ) : Type 0 where
   pub came : (bound base : ℕ) (ground : List Symbolic) (ls : List Leaf) → Entering limit table bound base ground ws fs n ls
       → Came limit table bound base ground left gs ls r
-  pub ended : {u s : ℕ} → r ≡ Value u s → frameIn gs ≡ 0
-  pub rises : {m : ℕ} → r ≡ Operand m → topIn fs < topIn gs
+  pub ended : {u s : ℕ} → r ≡ Value u s → frame_in gs ≡ 0
+  pub rises : {m : ℕ} → r ≡ Operand m → top_in fs < top_in gs
 
 -- a leaf can, whatever the limit of paths
 pub record Leafable (table ws fs : List ℕ) (n : ℕ) : Type 0 where
-  pub leaf : (nodeIn table n).kind < leafKinds
+  pub leaf : (node_in table n).kind < leaf_kinds
   pub limit : ℕ
   pub enterable : Enterable limit table ws fs n
 
@@ -301,18 +301,18 @@ pub data WalkOf (limit : ℕ) (table : List ℕ) (bound base : ℕ) (ground : Li
 
 -- a path at its end, with a value of this type
 pub record AtEnd (table ws fs : List ℕ) (t : ℕ) : Type 0 where
-  pub none : frameIn fs ≡ 0
+  pub none : frame_in fs ≡ 0
   pub place : ℕ
   pub returnable : Returnable table ws fs t place
 
-pub record PathEnds (table : List ℕ) (n t : ℕ) (isFirst : Bool) (wanted : ℕ) (ws fs : List ℕ) (r : Walked) (left gs : List ℕ) : Type 0 where
+pub record PathEnds (table : List ℕ) (n t : ℕ) (is_first : Bool) (wanted : ℕ) (ws fs : List ℕ) (r : Walked) (left gs : List ℕ) : Type 0 where
   pub ends : (limit bound base q : ℕ) (ground : List Symbolic) (ls : List Leaf) → Returning limit table bound base ground ws fs t q ls
-      → WalkOf limit table bound base ground n (pick isFirst (firstType ls) wanted) left gs ls r
+      → WalkOf limit table bound base ground n (pick is_first (first_type ls) wanted) left gs ls r
 
 -- a path from node m on
-pub record Walks (limit : ℕ) (table : List ℕ) (n m : ℕ) (isFirst : Bool) (wanted : ℕ) (ws fs : List ℕ) (r : Walked) (left gs : List ℕ) : Type 0 where
+pub record Walks (limit : ℕ) (table : List ℕ) (n m : ℕ) (is_first : Bool) (wanted : ℕ) (ws fs : List ℕ) (r : Walked) (left gs : List ℕ) : Type 0 where
   pub walked : (bound base : ℕ) (ground : List Symbolic) (ls : List Leaf) → Entering limit table bound base ground ws fs m ls
-      → WalkOf limit table bound base ground n (pick isFirst (firstType ls) wanted) left gs ls r
+      → WalkOf limit table bound base ground n (pick is_first (first_type ls) wanted) left gs ls r
 
 pub record Walkable (limit : ℕ) (table ws fs : List ℕ) (n m : ℕ) : Type 0 where
   pub can : Enterable limit table ws fs m
@@ -320,7 +320,7 @@ pub record Walkable (limit : ℕ) (table ws fs : List ℕ) (n m : ℕ) : Type 0 
 
 -- a fork can be gone back to, from a path at its end
 pub record Resumable (table ws fs : List ℕ) : Type 0 where
-  pub some : 1 ≤ forkedIn fs
+  pub some : 1 ≤ forked_in fs
   pub limit : ℕ
   pub bound : ℕ
   pub base : ℕ
@@ -330,9 +330,9 @@ pub record Resumable (table ws fs : List ℕ) : Type 0 where
   pub later : List Later
   pub owed : ℕ
   pub frames : ℕ
-  pub to-come : List Leaf
-  pub few : topIn fs + forkedIn fs < nodeLimit
-  pub stands : Stands limit table bound base ground ws fs environment path later owed frames to-come
+  pub to_come : List Leaf
+  pub few : top_in fs + forked_in fs < node_limit
+  pub stands : Stands limit table bound base ground ws fs environment path later owed frames to_come
 
 -- the last fork's false branch is next
 pub record Resumes (table ws fs : List ℕ) (r : ℕ) (left gs : List ℕ) : Type 0 where

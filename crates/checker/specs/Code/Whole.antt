@@ -4,18 +4,18 @@ use Rattle.std.specs.Prelude.{List, [], ◌∷◌, ◌++◌, ◌≡◌, ℕ, suc
 use Rattle.std.proofs.Math.Option.{none, some}
 use Rattle.std.proofs.Math.Path.{refl, ap₂}
 use Rattle.std.proofs.Common.{sym, ap, ◌∙◌, add-one, arith, length-set, take-suc, get_or-set_same, get_or-set_other}
-use Rattle.script.specs.Code.Forms.{treeIn}
+use Rattle.script.specs.Code.Forms.{tree_in}
 use Rattle.script.specs.Code.Root.{rooted, root-formed, root-tree, root-size}
-use Rattle.script.specs.Flat.{tableIn}
-use Rattle.script.specs.Table.{tableTest}
+use Rattle.script.specs.Flat.{table_in}
+use Rattle.script.specs.Table.{table_test}
 use Rattle.script.specs.Table.Laws.{passes}
 use Rattle.script.specs.Tree.{tree_of}
 use Rattle.script.specs.declared.Checked.{Checked}
 use Rattle.script.specs.declared.Refusal.{Refusal}
-use Rattle.rules.specs.Checking.{check, checkTable, CheckedBy}
-use Rattle.terms.specs.Places.{variablesEnd}
+use Rattle.rules.specs.Checking.{check, check_table, CheckedBy}
+use Rattle.terms.specs.Places.{variables_end}
 use Rattle.workspace.specs.Rules.{Checkable, Judged}
-use Rattle.workspace.specs.State.{typesOn}
+use Rattle.workspace.specs.State.{types_on}
 use Rattle.workspace.specs.State.Laws.{types-kept}
 
 -- ---- the entries' types
@@ -23,15 +23,15 @@ use Rattle.workspace.specs.State.Laws.{types-kept}
 -- the types of the first i entries stand in the environment
 pub record Placed (entries before : List ℕ) (i : ℕ) (space : List ℕ) : Type 0 where
   pub same : length space ≡ length before
-  pub types : typesOn space i ≡ take i entries
+  pub types : types_on space i ≡ take i entries
 
 pub placed-none : (entries before : List ℕ) → Placed entries before 0 before
-unfolding typesOn
+unfolding types_on
 placed-none entries before = record { same = refl; types = refl }
 
 pub placed-more : (entries before : List ℕ) (i : ℕ) (space : List ℕ) → i < length entries → 2 * i < length space → Placed entries before i space
     → Placed entries before (i + 1) (set space (2 * i) (get_or entries i 0))
-unfolding typesOn
+unfolding types_on
 placed-more entries before i space h l p =
     let left = set space (2 * i) (get_or entries i 0) in
     rw (add-one i)
@@ -47,16 +47,16 @@ placed-more entries before i space h l p =
 -- ---- the ways through the call
 
 module _ (table : List ℕ) (nodes : ℕ) (es : List ℕ) (entries : ℕ) where
-  pub table-refused : (limit : ℕ) {e : Refusal} → tableTest (tableIn table nodes es entries) ≡ some e
+  pub table-refused : (limit : ℕ) {e : Refusal} → table_test (table_in table nodes es entries) ≡ some e
       → CheckedBy limit table nodes es entries (Checked.Refused e)
-  unfolding checkTable
+  unfolding check_table
   table-refused limit p = rw p refl
 
-  module _ (p : tableTest (tableIn table nodes es entries) ≡ none) (m : ℕ) (last : suc m ≡ nodes) (space : List ℕ) where
-    pub root-checkable : variablesEnd ≤ length space → Checkable table space entries m
-    root-checkable l =
+  module _ (p : table_test (table_in table nodes es entries) ≡ none) (m : ℕ) (last : suc m ≡ nodes) (space : List ℕ) where
+    pub root_checkable : variables_end ≤ length space → Checkable table space entries m
+    root_checkable l =
         let q = rooted table nodes es entries p in
-        let few = (passes (tableIn table nodes es entries) p).entriesMost in
+        let few = (passes (table_in table nodes es entries) p).entries_most in
         record {
           formed = root-formed q m last;
           lent = l;
@@ -64,9 +64,9 @@ module _ (table : List ℕ) (nodes : ℕ) (es : List ℕ) (entries : ℕ) where
           small = omega (arith, root-size q m last, q.formed.most);
         }
 
-    pub root-judged : (limit : ℕ) {r : Checked} {left : List ℕ} → typesOn space entries ≡ take entries es
-        → Judged (check limit (treeIn table m) (typesOn space entries)) entries space r left → CheckedBy limit table nodes es entries r
-    unfolding checkTable tree_of
-    root-judged limit e j =
+    pub root_judged : (limit : ℕ) {r : Checked} {left : List ℕ} → types_on space entries ≡ take entries es
+        → Judged (check limit (tree_in table m) (types_on space entries)) entries space r left → CheckedBy limit table nodes es entries r
+    unfolding check_table tree_of
+    root_judged limit e j =
         let q = rooted table nodes es entries p in
         rw p (j.answer ∙ ap₂ (check limit) (root-tree q m last) e)

@@ -1,17 +1,17 @@
 -- `checks::try_script` is safe and ends: a name that was found ends in the input, and so does a text. Assumes nothing.
 use borrow.Author.Rules.{rules}
 use native.Mathlib.Omega.{arith}
-use Rattle.trial.specs.Places.Laws.{name-within, text-after}
+use Rattle.trial.specs.Places.Laws.{name_within, text-after}
 use Rattle.checks.proofs.try_script.Statement.{statement}
 use Rattle.checks.proofs.try_script.Tie as tie
 
 add-from : tie.Need-overflow-add-from
-add-from c = let h = name-within _ _ c.before.name-end.ensures c.if1.false in omega arith
+add-from c = let h = name_within _ _ c.before.name-end.ensures c.if1.false in omega arith
 
 part-say-end : tie.Need-slice-bounds-say-end
 part-say-end c =
     let named = c.before.before in
-    let h = name-within _ _ named.before.name-end.ensures named.if1.false in
+    let h = name_within _ _ named.before.name-end.ensures named.if1.false in
     omega arith
 
 sub-try-text : tie.Need-overflow-sub-try-text

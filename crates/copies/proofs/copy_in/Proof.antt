@@ -42,8 +42,8 @@ use denote.Triple.Walked.{says, Stays, stay_none_slice, stay_slice, walk_of, Goe
 use denote.Exit.{yes}
 use denote.Signature.{plain}
 use Rattle.script.specs.declared.Node.{Node}
-use Rattle.script.specs.Flat.{nodesIn}
-use Rattle.script.specs.Table.{nodeAt}
+use Rattle.script.specs.Flat.{nodes_in}
+use Rattle.script.specs.Table.{node_at}
 use Rattle.script.specs.contracts.Node as T
 use Rattle.script.proofs.Node.TheLaws as T'
 use Rattle.copies.specs.Copies.{placed}
@@ -125,7 +125,7 @@ module _ {M : Type 1} {𝓤 : Ura M} (𝓛 : Logic 𝓤) (mem : Memory → SProp
 
   -- what turn i places
   abbrev node : ℕ → Node
-  node i = nodeAt (nodesIn xs) i
+  node i = node_at (nodes_in xs) i
 
   exits : ent 𝓤 (⋆ 𝓛 (Flat ∷ Table n ∷ [])) (Post vunit)
   exits =

@@ -45,9 +45,9 @@ use denote.Triple.Table.{entered, cited}
 use denote.Triple.Walked.{says, Stays, stay_none_slice, stay_slice, walk_of, Goes-none_slice, Goes-slice, Walks, ends_at, walked, walk_Meets}
 use denote.Exit.{yes}
 use denote.Signature.{plain}
-use Rattle.script.specs.Flat.{numbersOf, nodeWidth, HasNode}
+use Rattle.script.specs.Flat.{numbers_of, node_width, HasNode}
 use Rattle.script.specs.declared.Node.{Node}
-use Rattle.script.specs.Table.{nodeAt}
+use Rattle.script.specs.Table.{node_at}
 use Rattle.script.specs.contracts.Node as T
 use Rattle.script.proofs.Node.TheLaws as T'
 use Rattle.table.specs.contracts.put_node as put-node
@@ -107,7 +107,7 @@ module _ {M : Type 1} {𝓤 : Ura M} (𝓛 : Logic 𝓤) (mem : Memory → SProp
   ns = x.now
 
   abbrev n : ℕ
-  n = min (length ns) (length xs / nodeWidth)
+  n = min (length ns) (length xs / node_width)
 
   abbrev s : Val
   s = slice_val x.ptr (length ns)
@@ -136,7 +136,7 @@ module _ {M : Type 1} {𝓤 : Ura M} (𝓛 : Logic 𝓤) (mem : Memory → SProp
 
   -- what turn i copies
   abbrev node : ℕ → Node
-  node i = nodeAt ns i
+  node i = node_at ns i
 
   keeps-length : (i : ℕ) → i ≤ n → length (copied ns i xs) ≡ length xs
   keeps-length i h = length-copied ns xs i (omega (arith, h)) (omega (arith, h))
@@ -151,22 +151,22 @@ module _ {M : Type 1} {𝓤 : Ura M} (𝓛 : Logic 𝓤) (mem : Memory → SProp
 
   -- the call of `lesser`
   abbrev to-lesser : (Lesser 𝓛 mem run).Ghost
-  to-lesser = ((tt, tt, tt, (length ns, (length xs / nodeWidth, tt)), (vint w64 (length ns) ∷ [], (vint w64 (length xs / nodeWidth) ∷ [], tt))), tt)
+  to-lesser = ((tt, tt, tt, (length ns, (length xs / node_width, tt)), (vint w64 (length ns) ∷ [], (vint w64 (length xs / node_width) ∷ [], tt))), tt)
 
   abbrev Least : Val → Item 𝓤
   Least w = later (given ((w ≡ vint w64 n) × (n < 2 ^ 64)) (‵ ftrue))
 
   least : (f : Fun 𝓤) → FmF 𝓤 f → Triple 𝓤 f (Lesser 𝓛 mem run) → length ns < 2 ^ 64 → length xs < 2 ^ 64
-      → ent 𝓤 (emp 𝓤) (f (vint w64 (length ns) ∷ vint w64 (length xs / nodeWidth) ∷ []) (λ w. mean 𝓛 (Least w)))
+      → ent 𝓤 (emp 𝓤) (f (vint w64 (length ns) ∷ vint w64 (length xs / node_width) ∷ []) (λ w. mean 𝓛 (Least w)))
   least f fm met a-fits b-fits =
       via 𝓤 ((Lesser 𝓛 mem run).pre to-lesser)
-      (qed 𝓛 [] ∵ nothing ! $ nothing ! $ owned ! usize (Is usize) (uint_Makes 𝓛 w64) (length xs / nodeWidth) _ (refl, omega (arith, b-fits)) $ fjoin ! $
+      (qed 𝓛 [] ∵ nothing ! $ nothing ! $ owned ! usize (Is usize) (uint_Makes 𝓛 w64) (length xs / node_width) _ (refl, omega (arith, b-fits)) $ fjoin ! $
       owned ! usize (Is usize) (uint_Makes 𝓛 w64) (length ns) _ (refl, a-fits) $ fjoin ! $ nothing ! $ join ! $ done !)
       (via 𝓤 _ (met to-lesser) (fm→mono 𝓤 (f _) (fm _) ((Lesser 𝓛 mem run).post to-lesser) (λ w. mean 𝓛 (Least w)) (λ w.
       qed 𝓛 (raw ((Lesser 𝓛 mem run).post to-lesser w) ∷ []) ∵ updating ! $
-      use1 𝓛 (later (some (λ (r : ℕ). (‵ ftrue ⊛ ‵ (usize.own_val r (w ∷ []))) ⊛ raw (ensured 𝓛 lesser.ended (lesser.clauses 𝓛 mem run) tt (length ns, (length xs / nodeWidth, tt)) tt r)))) (id⊢ 𝓤 _) $
+      use1 𝓛 (later (some (λ (r : ℕ). (‵ ftrue ⊛ ‵ (usize.own_val r (w ∷ []))) ⊛ raw (ensured 𝓛 lesser.ended (lesser.clauses 𝓛 mem run) tt (length ns, (length xs / node_width, tt)) tt r)))) (id⊢ 𝓤 _) $
       await ! tt $ pick ! (λ r.
-      split ! $ move ! (1 ∷ []) $ use1 𝓛 (raw (fact 𝓤 (r ≡ n))) (ex_e 𝓤 _ (λ ws. snd∗ 𝓤 (sem 𝓛 (lasts lesser.ended tt (length ns, (length xs / nodeWidth, tt)) ws)) (fact 𝓤 (r ≡ n)))) $
+      split ! $ move ! (1 ∷ []) $ use1 𝓛 (raw (fact 𝓤 (r ≡ n))) (ex_e 𝓤 _ (λ ws. snd∗ 𝓤 (sem 𝓛 (lasts lesser.ended tt (length ns, (length xs / node_width, tt)) ws)) (fact 𝓤 (r ≡ n)))) $
       heard ! (r ≡ n) (λ e. split ! $ move ! (1 ∷ []) $
       facts ! usize (Is usize) (shows 𝓛 usize) r (w ∷ []) (λ is. at_once ! $ check ! (ap only is.0 ∙ ap (vint w64) e, subst (λ (m : ℕ). m < 2 ^ 64) e is.1) $ done !))))))
 
@@ -206,8 +206,8 @@ module _ {M : Type 1} {𝓤 : Ura M} (𝓛 : Logic 𝓤) (mem : Memory → SProp
       put u is = puts 𝓛 u32 (𝓣.C #table·put-node) (fm #table·put-node) κ' q' i i-fits (put-node.clauses 𝓛 mem run) b o γ (node i) u is (copied ns i xs)
           (copied ns (suc i) xs) (λ ν δ. tt)
           (length xs) (keeps-length i (omega (arith, small))) known-put
-          (λ ν δ. fact_i 𝓤 (HasNode (copied ns i xs) i) (emp 𝓤) (subst (λ (m : ℕ). nodeWidth * suc i ≤ m) (sym (keeps-length i (omega (arith, small)))) (omega (arith, small))))
-          (λ ν δ e. fact_mono 𝓤 (e.0.now ≡ sets (copied ns i xs) (nodeWidth * i) (numbersOf (node i))) (e.0.now ≡ copied ns (suc i) xs)
+          (λ ν δ. fact_i 𝓤 (HasNode (copied ns i xs) i) (emp 𝓤) (subst (λ (m : ℕ). node_width * suc i ≤ m) (sym (keeps-length i (omega (arith, small)))) (omega (arith, small))))
+          (λ ν δ e. fact_mono 𝓤 (e.0.now ≡ sets (copied ns i xs) (node_width * i) (numbers_of (node i))) (e.0.now ≡ copied ns (suc i) xs)
           (λ p. p ∙ copied_next ns xs i (omega (arith, small)) (omega (arith, small))))
 
     more : (i : ℕ) (X : SProp 𝓤) → i < n → ent 𝓤 (⋆ 𝓛 (At (suc i))) X → ent 𝓤 (⋆ 𝓛 (At i)) (Wp 𝓤 H 𝓣.C 𝓣.Λ E Mir'.turn-1 (after_turn 𝓤 H X Left))
@@ -261,7 +261,7 @@ module _ {M : Type 1} {𝓤 : Ura M} (𝓛 : Logic 𝓤) (mem : Memory → SProp
       assigns ! (of_opd ! (load ! (from ! (fld ! refl (stop !))) (look_in ! 22 (sub ! 1 refl (whole !))))) (from ! (stop !)) (init ! 14 refl (tt, record { fits = room.0 })) $
       assigns ! (of_opd ! (load ! (from ! (fld ! refl (stop !))) (look_in ! 20 (sub ! 1 refl (whole !))))) (from ! (stop !)) (init ! 12 refl (tt, record { fits = room'.0 })) $
       assigns ! (bin ! (load ! (from ! (stop !)) (look ! 12 refl)) (lit ! tt) (lit< tt)) (from ! (stop !)) (init ! 10 refl (tt, record { fits = nodes-fit room'.0 })) $
-      use0 𝓛 (raw (𝓣.C #copies·lesser (vint w64 (length ns) ∷ vint w64 (length xs / nodeWidth) ∷ []) (λ w. mean 𝓛 (Least w)))) (least (𝓣.C #copies·lesser)
+      use0 𝓛 (raw (𝓣.C #copies·lesser (vint w64 (length ns) ∷ vint w64 (length xs / node_width) ∷ []) (λ w. mean 𝓛 (Least w)))) (least (𝓣.C #copies·lesser)
       (fm_of 𝓤 H 𝓛.laws 𝓣 #copies·lesser) known-less room.0 room'.0) $
       calls ! (fm_of 𝓤 H 𝓛.laws 𝓣) Least (and_then ! (load ! (from ! (stop !)) (look ! 15 refl)) (and_then ! (load ! (from ! (stop !)) (look ! 11 refl)) (no_more !))) (λ w. await ! tt $
       learn ! (λ e. drop ! $
@@ -274,7 +274,7 @@ module _ {M : Type 1} {𝓤 : Ura M} (𝓛 : Logic 𝓤) (mem : Memory → SProp
       keep ! (20 ∷ 0 ∷ 1 ∷ 12 ∷ 10 ∷ 8 ∷ 6 ∷ 4 ∷ 26 ∷ 24 ∷ 22 ∷ 28 ∷ 18 ∷ 16 ∷ 14 ∷ 29 ∷ 27 ∷ 25 ∷ 23 ∷ 21 ∷ 19 ∷ 17 ∷ 15 ∷ 13 ∷ 11 ∷ 9 ∷ 7 ∷ 5 ∷ []) $
       by ! (loops 𝓣 known_at_lem known-put room'.0 e.1 l₀ l₁ l₂ l₃ l₄ l₅ l₆ l₇ l₈ l₉ l₁₀ l₁₁ l₁₂))))))))))))))))
     where
-      nodes-fit : length xs < 2 ^ 64 → length xs / nodeWidth < 2 ^ 64
+      nodes-fit : length xs < 2 ^ 64 → length xs / node_width < 2 ^ 64
       nodes-fit h = omega (arith, h)
 
 module _ {M : Type 1} {𝓤 : Ura M} (𝓛 : Logic 𝓤) (mem : Memory → SProp 𝓤) (run : Routine → Fun 𝓤) (𝓣 : Tables 𝓤 𝓛.H)

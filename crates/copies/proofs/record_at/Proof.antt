@@ -34,7 +34,7 @@ use denote.Triple.Spec.{Meets, triple_of}
 use denote.Triple.Table.{entered}
 use denote.Triple.Walked.{says, needs, Stays, stay_none_slice, stay_none, walk_of, AllGo, Goes-none_slice, Goes-none, Walks, ends_at, walked, walk_Meets}
 use denote.Exit.{yes}
-use Rattle.script.specs.Table.{nodeAt, unused}
+use Rattle.script.specs.Table.{node_at, unused}
 use Rattle.script.specs.declared.Node.{Node}
 use Rattle.script.specs.contracts.Node as T
 use Rattle.script.proofs.Node.TheLaws as T'
@@ -61,7 +61,7 @@ module _ {M : Type 1} {𝓤 : Ura M} (𝓛 : Logic 𝓤) (mem : Memory → SProp
   at = (slice_val (b, o) (length ys) ∷ [], (vint w64 i ∷ [], tt))
 
   abbrev elem : Node
-  elem = nodeAt ys i
+  elem = node_at ys i
 
   abbrev Post : Val → SProp 𝓤
   Post = (walk_of 𝓛 record-at.ended stayed (record-at.clauses 𝓛 mem run)).post (((κ, tt), (q, tt), tt, x, at), tt)

@@ -4,7 +4,7 @@ use borrow.Author.Rules.{rules}
 use native.Mathlib.Omega.{arith}
 use Rattle.rows.specs.Code.{recalled, recalls}
 use Rattle.decision.specs.Whole.{decided-unknown, decided-known, decided-other, unknown, not-recalled, numbers-known, recalls-is, guard-long, guard-rows}
-use Rattle.decision.specs.Promised.{anew-promised, known-promised}
+use Rattle.decision.specs.Promised.{anew_promised, known_promised}
 use Rattle.decision.proofs.decide.Statement.{statement}
 use Rattle.decision.proofs.decide.Tie as tie
 
@@ -35,7 +35,7 @@ returns c =
     let at-if1 = at-decide-anew.before.before in
     let at-start = at-if1.before.before.before in
     let a = at-start.args in
-    anew-promised
+    anew_promised
     (decided-unknown a.space.now a.at a.condition a.guard at-decide-anew.decide-anew.result at-if1.if1.true
     at-decide-anew.decide-anew.ensures.0)
     at-start.requires (unknown a.space.now a.at a.guard at-if1.if1.true) at-decide-anew.decide-anew.ensures.0
@@ -84,7 +84,7 @@ returns-2 c =
     let n = numbers after-number-known in
     let t = sym (known after-all-numbered) ∙ at-if2.if2.true in
     let e = rw n at c.compare.ensures in
-    known-promised (decided-known a.space.now a.at a.condition a.guard c.compare.result at-if1.if1.false t e) at-start.requires
+    known_promised (decided-known a.space.now a.at a.condition a.guard c.compare.result at-if1.if1.false t e) at-start.requires
     at-if1.if1.false t e
 
 returns-3 : tie.Need-returns-3
@@ -95,7 +95,7 @@ returns-3 c =
     let at-if1 = after-all-numbered.before.before.before.before.before.before.before.before.before.before.before.before in
     let at-start = at-if1.before.before.before in
     let a = at-start.args in
-    anew-promised
+    anew_promised
     (decided-other a.space.now a.at a.condition a.guard at-decide-anew2.decide-anew2.result at-if1.if1.false
     (sym (known after-all-numbered) ∙ at-if2.if2.false) at-decide-anew2.decide-anew2.ensures.0)
     at-start.requires (not-recalled a.space.now a.at a.guard (sym (known after-all-numbered) ∙ at-if2.if2.false))

@@ -2,9 +2,9 @@
 use mathlib.Core.Path.{◌≡◌, refl}
 use borrow.Author.Rules.{rules}
 use native.Mathlib.Omega.{arith}
-use Rattle.rows.specs.Code.{Room, decidedAnew, left-same, left-none}
-use Rattle.rows.specs.Known.{blocks-most}
-use Rattle.decision.specs.Whole.{Prepared, room-start, room-marked, room-guard, decided-many, decided-alone, decided-with, decided-without, decided-both, aside-alone, aside-with, aside-without, aside-not, keepable, left_after, left_alone}
+use Rattle.rows.specs.Code.{Room, decided_anew, left-same, left-none}
+use Rattle.rows.specs.Known.{blocks_most}
+use Rattle.decision.specs.Whole.{Prepared, room-start, room-marked, room-guard, decided-many, decided-alone, decided_with, decided-without, decided-both, aside-alone, aside_with, aside-without, aside-not, keepable, left_after, left_alone}
 use Rattle.decision.proofs.decide_anew.Statement.{statement}
 use Rattle.decision.proofs.decide_anew.Tie as tie
 
@@ -39,14 +39,14 @@ search-requires c κs =
         low = p.high;
         high = p.high;
         room = room-guard a.condition a.guard (room c.before.before.before.before.before.before.before.before.before) c.before.before.before.before.before.before.before.before.before.before.before.before.above.ensures;
-        few = rw c.before.blocks-of.ensures (blocks-most _);
+        few = rw c.before.blocks-of.ensures (blocks_most _);
       },
       omega arith,
     )
 
 -- the guard alone
 alone : (c : tie.After-search)
-    → c.search.result ≡ decidedAnew
+    → c.search.result ≡ decided_anew
     c.before.before.before.before.before.before.before.before.before.before.before.before.before.before.before.args.space.now
     c.before.before.before.before.before.before.before.before.before.before.before.before.before.before.before.args.condition
     c.before.before.before.before.before.before.before.before.before.before.before.before.before.before.before.args.guard
@@ -92,10 +92,10 @@ returns-3 c =
     let after-mark-all = at-if1.before.before.before in
     let at-start = after-mark-all.before.before.before.before.before in
     let a = at-start.args in (
-      decided-with a.space.now a.condition a.guard (parts after-mark-all) at-conjunct.conjunct.result at-if1.if1.false at-if2.if2.false
+      decided_with a.space.now a.condition a.guard (parts after-mark-all) at-conjunct.conjunct.result at-if1.if1.false at-if2.if2.false
           at-conjunct.conjunct.ensures at-if3.if3.true,
       left-none refl
-          (aside-with a.space.now a.condition a.guard (parts after-mark-all) at-conjunct.conjunct.result at-if2.if2.false
+          (aside_with a.space.now a.condition a.guard (parts after-mark-all) at-conjunct.conjunct.result at-if2.if2.false
           at-conjunct.conjunct.ensures at-if3.if3.true)
           at_forget.forget.ensures,
     )
@@ -130,13 +130,13 @@ search-requires-2 c κs =
     let at-start = at_above.before.before in
     let p = at-start.requires in (
       record
-          { low = p.low; high = p.high; room = rw at_above.above.ensures at (room after-mark-all); few = rw at-blocks-of2.blocks-of2.ensures (blocks-most _) },
+          { low = p.low; high = p.high; room = rw at_above.above.ensures at (room after-mark-all); few = rw at-blocks-of2.blocks-of2.ensures (blocks_most _) },
       omega arith,
     )
 
 -- the two together
 together : (c : tie.After-search2)
-    → c.search2.result ≡ decidedAnew
+    → c.search2.result ≡ decided_anew
     c.before.before.before.before.before.before.before.before.before.before.before.before.before.before.before.before.before.before.before.args.space.now
     c.before.before.before.before.before.before.before.before.before.before.before.before.before.before.before.before.before.before.before.args.condition
     c.before.before.before.before.before.before.before.before.before.before.before.before.before.before.before.before.before.before.before.args.guard
@@ -164,7 +164,7 @@ keep-after-requires c κs =
     let a = at-start.args in
     let p = at-start.requires in (
       keepable a.space.now a.condition a.guard (parts after-mark-all) a.at p.behind p.lent p.low p.high at-if1.if1.false,
-      (rw at-blocks-of2.blocks-of2.ensures (blocks-most _), omega (arith, at-search2.search2.ensures.same)),
+      (rw at-blocks-of2.blocks-of2.ensures (blocks_most _), omega (arith, at-search2.search2.ensures.same)),
     )
 
 returns-5 : tie.Need-returns-5

@@ -5,8 +5,8 @@ use borrow.Author.Rules.{rules}
 use Prim.Native.Nat.{◌-◌}
 use native.Mathlib.Omega.{arith}
 use lib.ListN.{length-set}
-use Rattle.rows.specs.Code.{Rows, changesOf}
-use Rattle.known.specs.Searching.{rows-listed, order-long, Looking, looking, Prepared, looking-on, looking-both, looking-end}
+use Rattle.rows.specs.Code.{Rows, changes_of}
+use Rattle.known.specs.Searching.{rows-listed, order_long, Looking, looking, Prepared, looking_on, looking-both, looking_end}
 use Rattle.decision.proofs.search.Statement.{statement}
 use Rattle.decision.proofs.search.Tie as tie
 
@@ -26,7 +26,7 @@ rows c =
     let r = c.before.before.before.before.before.before.requires.0.room in
     let l = c.list-rows.ensures in
     rows-listed a.space.now a.marks.now a.least c.before.before.above.result c.list-rows.new.1.1.1.0 c.list-rows.result r.lent (omega (arith, r.few))
-    (order-long a.marks.now a.least c.before.before.above.result c.list-rows.result c.list-rows.new.1.1.1.0 (omega (arith, r.few)) l.many l.same) l.many l.rows
+    (order_long a.marks.now a.least c.before.before.above.result c.list-rows.result c.list-rows.new.1.1.1.0 (omega (arith, r.few)) l.many l.same) l.many l.rows
 
 -- what is listed
 prepared : (c : tie.After-number-atoms invariant-loop decreases-loop)
@@ -94,9 +94,9 @@ evaluate-requires c κs =
     let e = at_above.above.ensures in
     let r = at-start.requires.0.room in
     let l = at-begin.begin.ensures.1 in
-    let s = changesOf a.space.now at-list-rows.list-rows.new.1.1.1.0 at-number-atoms.number-atoms.new.1.1.1.0
+    let s = changes_of a.space.now at-list-rows.list-rows.new.1.1.1.0 at-number-atoms.number-atoms.new.1.1.1.0
     at-list-rows.list-rows.result in
-    let f = order-long s 1 at_above.above.result at-begin.begin.result at-begin.begin.new.1.1.1.1.1.1.0 (omega (arith, r.few))
+    let f = order_long s 1 at_above.above.result at-begin.begin.result at-begin.begin.new.1.1.1.1.1.1.0 (omega (arith, r.few))
     l.many l.same in (
       rows-listed a.space.now s 1 at_above.above.result at-begin.begin.new.1.1.1.1.1.1.0 at-begin.begin.result r.lent
           (omega (arith, r.few)) f l.many l.rows,
@@ -153,7 +153,7 @@ returns c =
     let at-begin = at-loop.before.before.before in
     let after-number-atoms = at-begin.before.before.before.before.before.before in
     let at-start = after-number-atoms.before.before.before.before.before.before.before.before.before.before in
-    let k = looking-on (prepared after-number-atoms) at-start.requires.0 at-begin.begin.new.1.1.1.1.1.1.0 at-begin.begin.result
+    let k = looking_on (prepared after-number-atoms) at-start.requires.0 at-begin.begin.new.1.1.1.1.1.1.0 at-begin.begin.result
     at-begin.begin.ensures.1.many at-begin.begin.ensures.1.rows at-loop.loop.invariant at-start.requires.1 at-loop-test.loop-test.true
     at-evaluate.evaluate.ensures at-condition-word.condition-word.ensures refl in
     looking-both k at-both-found.both_found.result at-both-found.both_found.ensures c.if1.true
@@ -176,7 +176,7 @@ loop-again c =
     let at-begin = at-loop.before.before.before in
     let after-number-atoms = at-begin.before.before.before.before.before.before in
     let at-start = after-number-atoms.before.before.before.before.before.before.before.before.before.before in
-    looking-on (prepared after-number-atoms) at-start.requires.0 at-begin.begin.new.1.1.1.1.1.1.0 at-begin.begin.result
+    looking_on (prepared after-number-atoms) at-start.requires.0 at-begin.begin.new.1.1.1.1.1.1.0 at-begin.begin.result
     at-begin.begin.ensures.1.many at-begin.begin.ensures.1.rows at-loop.loop.invariant at-start.requires.1 at-loop-test.loop-test.true
     at-evaluate.evaluate.ensures at-condition-word.condition-word.ensures refl
 
@@ -184,7 +184,7 @@ same-length-2 : tie.Need-same-length-2 invariant-loop decreases-loop
 same-length-2 c = c.before.before.loop.invariant.same
 
 returns-2 : tie.Need-returns-2 invariant-loop decreases-loop
-returns-2 c = looking-end c.before.before.loop.invariant c.branches-of.result c.before.loop-test.false c.branches-of.ensures
+returns-2 c = looking_end c.before.before.loop.invariant c.branches_of_lem.result c.before.loop-test.false c.branches_of_lem.ensures
 
 pub search-spec : {M : Type 1} → statement M
 search-spec =

@@ -6,13 +6,13 @@ use Prim.Native.Nat.{◌≤◌, ◌+◌, ◌-◌}
 use native.Mathlib.Omega.{arith}
 use native.Mathlib.Numerals.{add-one}
 use lib.ListN.{length, drop}
-use Rattle.text.specs.Code.Scan.{fieldIn}
+use Rattle.text.specs.Code.Scan.{field_in}
 use Rattle.text.specs.Code.Scan.Laws.{field-here, field_next, field-last}
 use Rattle.fields.proofs.field_end.Statement.{statement}
 use Rattle.fields.proofs.field_end.Tie as tie
 
 abbrev invariant-loop : tie.invariant-loop
-invariant-loop text from e₀ e = (e ≤ length text) × (e + length (fieldIn (drop e text)) ≡ from + length (fieldIn (drop from text)))
+invariant-loop text from e₀ e = (e ≤ length text) × (e + length (field_in (drop e text)) ≡ from + length (field_in (drop from text)))
 
 abbrev decreases-loop : tie.decreases-loop
 decreases-loop text from e₀ e = length text - e

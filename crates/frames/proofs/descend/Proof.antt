@@ -7,15 +7,15 @@ use mathlib.Core.Path.{◌≡◌, refl, sym, ◌∙◌}
 use Prim.Native.Nat.{ℕ}
 use native.Mathlib.Omega.{arith}
 use lib.ListN.{length}
-use Rattle.script.specs.Code.Forms.{nodeIn}
-use Rattle.workspace.specs.Frames.{waits_for, Descends, down_to, down-from, Descendable}
-use Rattle.workspace.specs.Frames.Laws.{down-earlier, down-waitable, down-next}
+use Rattle.script.specs.Code.Forms.{node_in}
+use Rattle.workspace.specs.Frames.{waits_for, Descends, down_to, down_from, Descendable}
+use Rattle.workspace.specs.Frames.Laws.{down_earlier, down_waitable, down_next}
 use Rattle.frames.proofs.descend.Statement.{statement}
 use Rattle.frames.proofs.descend.Tie as tie
 
 abbrev invariant-loop : tie.invariant-loop
 invariant-loop table frames₀ m n₀ node₀ frames n node =
-    (node ≡ nodeIn table n)
+    (node ≡ node_in table n)
     × Descendable table frames n
     × (length frames ≡ length frames₀)
     × ((r : ℕ) (left : List ℕ) → Descends table frames n r left → Descends table frames₀ m r left)
@@ -30,35 +30,35 @@ loop-holds : tie.Need-loop-init invariant-loop decreases-loop
 loop-holds c = (c.Node-at.ensures, c.before.before.before.requires, refl, λ r left d. d)
 
 -- what a turn knows: the node that waits is the one at n
-waiting : (c : tie.After-wait-arg invariant-loop decreases-loop) → waits_for (nodeIn c.before.before.before.before.before.before.before.args.table.now c.before.before.before.loop.n).kind ≡ true
+waiting : (c : tie.After-wait-arg invariant-loop decreases-loop) → waits_for (node_in c.before.before.before.before.before.before.before.args.table.now c.before.before.before.loop.n).kind ≡ true
 waiting c = rw (sym c.before.before.before.loop.invariant.0) (sym c.before.before.waits.ensures ∙ c.before.if1.true)
 
 wait-requires : tie.Need-wait-requires invariant-loop decreases-loop
-wait-requires c κs = (down-waitable c.before.before.before.loop.invariant.1 (waiting c), omega arith)
+wait-requires c κs = (down_waitable c.before.before.before.loop.invariant.1 (waiting c), omega arith)
 
 cast-node-at-2 : tie.Need-overflow-cast-node-at-2 invariant-loop decreases-loop
 cast-node-at-2 c =
-    let e = down-earlier c.before.before.before.before.before.before.loop.invariant.1 (waiting c.before.before.before) in
+    let e = down_earlier c.before.before.before.before.before.before.loop.invariant.1 (waiting c.before.before.before) in
     let f = c.before.before.before.before.before.before.loop.invariant.1.formed.most in
     record { fits = rw c.before.before.before.before.before.before.loop.invariant.0 (omega arith) }
 
 node-at-requires-2 : tie.Need-node-at-requires-2 invariant-loop decreases-loop
 node-at-requires-2 c κs =
-    let e = down-earlier c.before.before.before.before.before.before.loop.invariant.1 (waiting c.before.before.before) in
+    let e = down_earlier c.before.before.before.before.before.before.loop.invariant.1 (waiting c.before.before.before) in
     let f = c.before.before.before.before.before.before.loop.invariant.1.formed.room in
     rw c.before.before.before.before.before.before.loop.invariant.0 (omega arith)
 
 loop-less : tie.Need-loop-smaller invariant-loop decreases-loop
-loop-less c = rw c.before.before.before.before.before.before.before.loop.invariant.0 (down-earlier c.before.before.before.before.before.before.before.loop.invariant.1 (waiting c.before.before.before.before))
+loop-less c = rw c.before.before.before.before.before.before.before.loop.invariant.0 (down_earlier c.before.before.before.before.before.before.before.loop.invariant.1 (waiting c.before.before.before.before))
 
 loop-again : tie.Need-loop-preserved invariant-loop decreases-loop
 loop-again c =
     let w = waiting c.before.before.before.before in
     let s = c.before.before.before.wait.ensures in (
       c.node-at2.ensures,
-      rw c.before.before.before.before.before.before.before.loop.invariant.0 (down-next c.before.before.before.before.before.before.before.loop.invariant.1 w s),
+      rw c.before.before.before.before.before.before.before.loop.invariant.0 (down_next c.before.before.before.before.before.before.before.loop.invariant.1 w s),
       s.same ∙ c.before.before.before.before.before.before.before.loop.invariant.2,
-      λ r left d. c.before.before.before.before.before.before.before.loop.invariant.3 r left (down-from w s (rw c.before.before.before.before.before.before.before.loop.invariant.0 at d)),
+      λ r left d. c.before.before.before.before.before.before.before.loop.invariant.3 r left (down_from w s (rw c.before.before.before.before.before.before.before.loop.invariant.0 at d)),
     )
 
 same_length : tie.Need-same-length invariant-loop decreases-loop

@@ -3,7 +3,7 @@ use borrow.Author.Rules.{rules}
 use native.Mathlib.Numerals.{add-one}
 use native.Mathlib.Omega.{arith}
 use lib.ListN.{length-set}
-use Rattle.workspace.specs.Frames.Laws.{new-frame}
+use Rattle.workspace.specs.Frames.Laws.{new_frame}
 use Rattle.frames.proofs.wait.Statement.{statement}
 use Rattle.frames.proofs.wait.Tie as tie
 
@@ -25,7 +25,7 @@ slice-write-frames-6 c = simp length-set (omega arith)
 returns : tie.Need-returns
 returns c =
     let a = c.before.before.args in
-    new-frame a.n a.awaits a.x a.y a.frames.now c.before.before.requires.0 _ (add-one _)
+    new_frame a.n a.awaits a.x a.y a.frames.now c.before.before.requires.0 _ (add-one _)
 
 pub wait_spec : {M : Type 1} → statement M
 wait_spec =

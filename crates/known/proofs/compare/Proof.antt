@@ -4,22 +4,22 @@ use borrow.Author.Rules.{rules}
 use Prim.Native.Nat.{◌+◌, ◌-◌}
 use native.Mathlib.Omega.{arith}
 use lib.ListN.{get_or}
-use Rattle.rows.specs.Code.{changesOf}
-use Rattle.known.specs.Searching.{rows-listed, order-long, Comparing, comparing, compare-rows, comparing-on, comparing-both, comparing-end}
-use Rattle.rows.specs.Known.{blocks-most}
+use Rattle.rows.specs.Code.{changes_of}
+use Rattle.known.specs.Searching.{rows-listed, order_long, Comparing, comparing, compare_rows, comparing_on, comparing-both, comparing_end}
+use Rattle.rows.specs.Known.{blocks_most}
 use Rattle.known.proofs.compare.Statement.{statement}
 use Rattle.known.proofs.compare.Tie as tie
 
 abbrev invariant-loop : tie.invariant-loop
 invariant-loop space at order count numbers guard words₀ later more blocks yes₀ no₀ block₀ words yes' no' block =
-    Comparing space at numbers guard blocks (changesOf space order numbers count) words yes' no' block
+    Comparing space at numbers guard blocks (changes_of space order numbers count) words yes' no' block
 
 abbrev decreases-loop : tie.decreases-loop
 decreases-loop space at order count numbers guard words₀ later more blocks yes₀ no₀ block₀ words yes' no' block =
     blocks - block
 
 begin-requires : tie.Need-begin-requires invariant-loop decreases-loop
-begin-requires c κs = let p = c.before.before.before.before.before.requires in (compare-rows c.before.before.before.before.before.requires, ((p.numbers, omega arith), (omega (arith, p.high), omega (arith, p.high))))
+begin-requires c κs = let p = c.before.before.before.before.before.requires in (compare_rows c.before.before.before.before.before.requires, ((p.numbers, omega arith), (omega (arith, p.high), omega (arith, p.high))))
 
 add-blocks-of : tie.Need-overflow-add-blocks-of invariant-loop decreases-loop
 add-blocks-of c = search rules
@@ -41,7 +41,7 @@ known-word-requires c κs =
     let at-blocks-of = c.before.before in
     let at-start = at-blocks-of.before.before.before.before.before.before.before.before.before.before in
     let e = at-blocks-of.blocks-of.ensures in
-    let m = blocks-most (get_or at-start.args.space.now (at-start.args.at + 1) 0) in (at-start.requires.lent, omega (arith, c.loop-test.true))
+    let m = blocks_most (get_or at-start.args.space.now (at-start.args.at + 1) 0) in (at-start.requires.lent, omega (arith, c.loop-test.true))
 
 slice-aggregate-guarded-word : tie.Need-slice-aggregate-guarded-word invariant-loop decreases-loop
 slice-aggregate-guarded-word c = sym c.before.before.before.before.before.before.before.before.begin.ensures.1.same
@@ -57,8 +57,8 @@ guarded-word-requires c κs =
     let a = at-start.args in
     let p = at-start.requires in
     let l = at-begin.begin.ensures.1 in
-    let s = changesOf a.space.now a.order.now a.numbers.now a.count in
-    let f = order-long s 1 (a.guard + 1) at-begin.begin.result at-begin.begin.new.1.1.1.1.1.1.0 (omega (arith, p.high)) l.many
+    let s = changes_of a.space.now a.order.now a.numbers.now a.count in
+    let f = order_long s 1 (a.guard + 1) at-begin.begin.result at-begin.begin.new.1.1.1.1.1.1.0 (omega (arith, p.high)) l.many
     l.same in (
       rows-listed a.space.now s 1 (a.guard + 1) at-begin.begin.new.1.1.1.1.1.1.0 at-begin.begin.result
           (omega (arith, p.behind, p.lent)) (omega (arith, p.high)) f l.many l.rows,
@@ -78,7 +78,7 @@ returns c =
     let at-blocks-of = at-loop.before in
     let at-begin = at-blocks-of.before.before.before.before in
     let at-start = at-begin.before.before.before.before.before.before in
-    let k = comparing-on at-start.requires at-blocks-of.blocks-of.result at-loop.loop.invariant at-begin.begin.new.1.1.1.1.1.1.0
+    let k = comparing_on at-start.requires at-blocks-of.blocks-of.result at-loop.loop.invariant at-begin.begin.new.1.1.1.1.1.1.0
     at-begin.begin.result at-begin.begin.ensures.1.many at-begin.begin.ensures.1.rows at-known-word.known-word.result
     at-guarded-word.guarded-word.result _ at-loop-test.loop-test.true at-known-word.known-word.ensures
     at-guarded-word.guarded-word.ensures.0 at-guarded-word.guarded-word.ensures.1 in
@@ -100,7 +100,7 @@ loop-again c =
     let at-blocks-of = at-loop.before in
     let at-begin = at-blocks-of.before.before.before.before in
     let at-start = at-begin.before.before.before.before.before.before in
-    comparing-on at-start.requires at-blocks-of.blocks-of.result at-loop.loop.invariant at-begin.begin.new.1.1.1.1.1.1.0
+    comparing_on at-start.requires at-blocks-of.blocks-of.result at-loop.loop.invariant at-begin.begin.new.1.1.1.1.1.1.0
     at-begin.begin.result at-begin.begin.ensures.1.many at-begin.begin.ensures.1.rows at-known-word.known-word.result
     at-guarded-word.guarded-word.result _ at-loop-test.loop-test.true at-known-word.known-word.ensures
     at-guarded-word.guarded-word.ensures.0 at-guarded-word.guarded-word.ensures.1
@@ -114,8 +114,8 @@ returns-2 c =
     let at-loop = at-loop-test.before in
     let at-blocks-of = at-loop.before in
     let at-start = at-blocks-of.before.before.before.before.before.before.before.before.before.before in
-    comparing-end at-start.requires at-blocks-of.blocks-of.result at-loop.loop.invariant c.branches-of.result at-blocks-of.blocks-of.ensures
-    at-loop-test.loop-test.false c.branches-of.ensures
+    comparing_end at-start.requires at-blocks-of.blocks-of.result at-loop.loop.invariant c.branches_of_lem.result at-blocks-of.blocks-of.ensures
+    at-loop-test.loop-test.false c.branches_of_lem.ensures
 
 pub compare-spec : {M : Type 1} → statement M
 compare-spec =

@@ -1,11 +1,11 @@
 -- `known::keep_row` meets its contract: a row with no mark, one that is no atom, and an atom. Assumes nothing.
 use borrow.Author.Rules.{rules}
-use Rattle.rows.specs.Code.Leaves.{keep-unmarked, keep-other, keep-atom}
+use Rattle.rows.specs.Code.Leaves.{keep_unmarked, keep-other, keep-atom}
 use Rattle.known.proofs.keep_row.Statement.{statement}
 use Rattle.known.proofs.keep_row.Tie as tie
 
 returns : tie.Need-returns
-returns c = let a = c.before.before.args in keep-unmarked a.space.now a.at a.mark a.i a.count c.if1.true
+returns c = let a = c.before.before.args in keep_unmarked a.space.now a.at a.mark a.i a.count c.if1.true
 
 returns-2 : tie.Need-returns-2
 returns-2 c =

@@ -1,7 +1,7 @@
 -- `known::keep_rows` meets its contract: of the rows passed the atoms with a mark are kept. Assumes nothing.
 use borrow.Author.Rules.{rules}
 use Prim.Native.Nat.{◌-◌}
-use Rattle.rows.specs.Code.Leaves.{Keeping, keeping, keeping-on, keeping-end}
+use Rattle.rows.specs.Code.Leaves.{Keeping, keeping, keeping_on, keeping_end}
 use Rattle.known.proofs.keep_rows.Statement.{statement}
 use Rattle.known.proofs.keep_rows.Tie as tie
 
@@ -15,10 +15,10 @@ loop-holds : tie.Need-loop-init invariant-loop decreases-loop
 loop-holds c = let a = c.before.before.args in keeping a.space.now a.at a.marks.now a.n
 
 loop-again : tie.Need-loop-preserved invariant-loop decreases-loop
-loop-again c = keeping-on _ _ c.before.before.before.before.before.before.before.before.before.requires c.before.before.before.before.before.before.loop.invariant c.before.before.before.before.before.loop-test.true c.before.before.keep_row.ensures.0 c.before.before.keep_row.ensures.1
+loop-again c = keeping_on _ _ c.before.before.before.before.before.before.before.before.before.requires c.before.before.before.before.before.before.loop.invariant c.before.before.before.before.before.loop-test.true c.before.before.keep_row.ensures.0 c.before.before.keep_row.ensures.1
 
 returns : tie.Need-returns invariant-loop decreases-loop
-returns c = keeping-end c.before.loop.invariant c.loop-test.false
+returns c = keeping_end c.before.loop.invariant c.loop-test.false
 
 pub keep-rows-spec : {M : Type 1} → statement M
 keep-rows-spec =

@@ -4,7 +4,7 @@ use mathlib.Core.Path.{refl}
 use Prim.Native.Nat.{◌+◌, ◌*◌, ◌%◌}
 use native.Mathlib.Omega.{arith}
 use lib.ListN.{length-set}
-use Rattle.rows.specs.Code.{keepWord}
+use Rattle.rows.specs.Code.{keep_word}
 use Rattle.known.proofs.keep_word.Statement.{statement}
 use Rattle.known.proofs.keep_word.Tie as tie
 
@@ -15,7 +15,7 @@ slice-write-space-2 c =
     omega arith
 
 returns : tie.Need-returns
-unfolding keepWord
+unfolding keep_word
 returns c = refl
 
 pub keep-word-spec : {M : Type 1} → statement M

@@ -2,7 +2,7 @@
 use borrow.Author.Rules.{rules}
 use Prim.Native.Nat.{◌+◌, ◌-◌}
 use native.Mathlib.Omega.{arith}
-use Rattle.rows.specs.Code.Leaves.{Recalling, recalling, recalling-on, recalling-end}
+use Rattle.rows.specs.Code.Leaves.{Recalling, recalling, recalling_on, recalling_end}
 use Rattle.known.proofs.number_known.Statement.{statement}
 use Rattle.known.proofs.number_known.Tie as tie
 
@@ -59,10 +59,10 @@ add-j c =
     search rules
 
 loop-again : tie.Need-loop-preserved invariant-loop decreases-loop
-loop-again c = recalling-on c.before.before.loop.invariant c.before.loop-test.true
+loop-again c = recalling_on c.before.before.loop.invariant c.before.loop-test.true
 
 returns : tie.Need-returns invariant-loop decreases-loop
-returns c = recalling-end c.before.loop.invariant c.loop-test.false
+returns c = recalling_end c.before.loop.invariant c.loop-test.false
 
 pub number-known-spec : {M : Type 1} → statement M
 number-known-spec =

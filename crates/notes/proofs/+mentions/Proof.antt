@@ -4,8 +4,8 @@
 use borrow.Author.Rules.{rules}
 use mathlib.Core.Path.{sym, ◌∙◌}
 use native.Mathlib.Omega.{arith}
-use Rattle.script.specs.Code.Forms.{has_one, has_more, some-operand, formed-less}
-use Rattle.workspace.specs.Notes.Mentions.{leaf-mentions, first-mentions, one-mentions-not, second-mentions, third-mentions, several-mention-not, first-earlier, second-earlier, third-earlier}
+use Rattle.script.specs.Code.Forms.{has_one, has_more, some-operand, formed_less}
+use Rattle.workspace.specs.Notes.Mentions.{leaf-mentions, first-mentions, one_mentions-not, second-mentions, third_mentions, several_mention_not, first-earlier, second-earlier, third_earlier}
 use Prim.Native.Nat.{ℕ, ◌<◌}
 use borrow.Fn.Kinds.{In}
 use borrow.Fn.PlainCycle.{Measures, is, falls, and}
@@ -58,7 +58,7 @@ mentions-mentions-requires t c κs =
     let node = c.before.before.Node-at.ensures in
     let h = some-operand w (rw node at c.if1.false) in
     let l = first-earlier w h in
-    rw node (omega (arith, l, s.0), formed-less _ (omega (arith, l)) w)
+    rw node (omega (arith, l, s.0), formed_less _ (omega (arith, l)) w)
 
 mentions-returns-2 : (t : ℕ) → mentions-lts.Need-returns-2 (mentions-calls t) (mentions-at t) mentions.Post
 mentions-returns-2 t c =
@@ -74,7 +74,7 @@ mentions-returns-3 t c =
     let w = s.1 in
     let node = c.before.before.before.before.before.before.Node-at.ensures in
     let a = sym (rw node at c.before.before.before.mentions.ensures) ∙ c.before.before.if2.false in
-    one-mentions-not w _ (has_one _ (rw node at c.before.has_one.ensures) c.if3.true) a
+    one_mentions-not w _ (has_one _ (rw node at c.before.has_one.ensures) c.if3.true) a
 
 mentions-mentions-requires-2 : (t : ℕ) → mentions-lts.Need-mentions-requires-2 (mentions-calls t) (mentions-at t) mentions.Post
 mentions-mentions-requires-2 t c κs =
@@ -84,7 +84,7 @@ mentions-mentions-requires-2 t c κs =
     let h = some-operand w (rw node at c.before.before.before.before.if1.false) in
     let m = has_more _ h (rw node at c.before.has_one.ensures) c.if3.false in
     let l = second-earlier w m in
-    rw node (omega (arith, l, s.0), formed-less _ (omega (arith, l)) w)
+    rw node (omega (arith, l, s.0), formed_less _ (omega (arith, l)) w)
 
 mentions-returns-4 : (t : ℕ) → mentions-lts.Need-returns-4 (mentions-calls t) (mentions-at t) mentions.Post
 mentions-returns-4 t c =
@@ -102,8 +102,8 @@ mentions-mentions-requires-3 t c κs =
     let node = c.before.before.before.before.before.before.before.before.before.before.Node-at.ensures in
     let h = some-operand w (rw node at c.before.before.before.before.before.before.before.before.if1.false) in
     let m = has_more _ h (rw node at c.before.before.before.before.before.has_one.ensures) c.before.before.before.before.if3.false in
-    let l = third-earlier w m (rw node at c.if5.true) in
-    rw node (omega (arith, l, s.0), formed-less _ (omega (arith, l)) w)
+    let l = third_earlier w m (rw node at c.if5.true) in
+    rw node (omega (arith, l, s.0), formed_less _ (omega (arith, l)) w)
 
 mentions-returns-5 : (t : ℕ) → mentions-lts.Need-returns-5 (mentions-calls t) (mentions-at t) mentions.Post
 mentions-returns-5 t c =
@@ -114,7 +114,7 @@ mentions-returns-5 t c =
     let m = has_more _ h (rw node at c.before.before.before.before.before.before.has_one.ensures) c.before.before.before.before.before.if3.false in
     let a = sym (rw node at c.before.before.before.before.before.before.before.before.mentions.ensures) ∙ c.before.before.before.before.before.before.before.if2.false in
     let b = sym (rw node at c.before.before.before.before.mentions2.ensures) ∙ c.before.before.before.if4.false in
-    rw node at c.mentions3.ensures ∙ third-mentions w _ m a b (rw node at c.before.if5.true)
+    rw node at c.mentions3.ensures ∙ third_mentions w _ m a b (rw node at c.before.if5.true)
 
 mentions-returns-6 : (t : ℕ) → mentions-lts.Need-returns-6 (mentions-calls t) (mentions-at t) mentions.Post
 mentions-returns-6 t c =
@@ -125,7 +125,7 @@ mentions-returns-6 t c =
     let m = has_more _ h (rw node at c.before.before.before.before.before.has_one.ensures) c.before.before.before.before.if3.false in
     let a = sym (rw node at c.before.before.before.before.before.before.before.mentions.ensures) ∙ c.before.before.before.before.before.before.if2.false in
     let b = sym (rw node at c.before.before.before.mentions2.ensures) ∙ c.before.before.if4.false in
-    several-mention-not w _ m a b (rw node at c.if5.false)
+    several_mention_not w _ m a b (rw node at c.if5.false)
 
 pub +mentions-spec : {M : Type 1} → statement M
 +mentions-spec = close μ-mentions λ t. mentions-lts.spec (mentions-calls t)

@@ -3,7 +3,7 @@
 use borrow.Author.Rules.{rules}
 use Prim.Native.Nat.{◌-◌}
 use native.Mathlib.Omega.{arith}
-use Rattle.workspace.specs.Notes.Recalling.{Agreeing, agreeing-start, agreeing-wrong, agreeing-on, agreeing-end}
+use Rattle.workspace.specs.Notes.Recalling.{Agreeing, agreeing_start, agreeing_wrong, agreeing_on, agreeing_end}
 use Rattle.notes.proofs.agrees.Statement.{statement}
 use Rattle.notes.proofs.agrees.Tie as tie
 
@@ -14,7 +14,7 @@ abbrev decreases-loop : tie.decreases-loop
 decreases-loop space at count i₀ i = count - i
 
 loop-holds : tie.Need-loop-init invariant-loop decreases-loop
-loop-holds c = let a = c.before.args in agreeing-start a.space.now a.at
+loop-holds c = let a = c.before.args in agreeing_start a.space.now a.at
 
 cast-k : tie.Need-overflow-cast-k invariant-loop decreases-loop
 cast-k c =
@@ -40,19 +40,19 @@ returns : tie.Need-returns invariant-loop decreases-loop
 returns c =
     let a = c.before.before.before.before.before.before.before.args in
     let l = c.before.before.before.before.before.loop in
-    agreeing-wrong a.space.now a.at l.i l.invariant c.before.before.before.before.loop-test.true c.if1.true
+    agreeing_wrong a.space.now a.at l.i l.invariant c.before.before.before.before.loop-test.true c.if1.true
 
 loop-again : tie.Need-loop-preserved invariant-loop decreases-loop
 loop-again c =
     let a = c.before.before.before.before.before.before.before.args in
     let l = c.before.before.before.before.before.loop in
-    agreeing-on a.space.now a.at l.i l.invariant c.before.before.before.before.loop-test.true c.if1.false
+    agreeing_on a.space.now a.at l.i l.invariant c.before.before.before.before.loop-test.true c.if1.false
 
 returns-2 : tie.Need-returns-2 invariant-loop decreases-loop
 returns-2 c =
     let a = c.before.before.before.args in
     let l = c.before.loop in
-    agreeing-end a.space.now a.at l.i l.invariant c.loop-test.false
+    agreeing_end a.space.now a.at l.i l.invariant c.loop-test.false
 
 pub agrees-spec : {M : Type 1} → statement M
 agrees-spec =

@@ -3,7 +3,7 @@ use borrow.Author.Rules.{rules}
 use mathlib.Core.Path.{◌∙◌}
 use Prim.Native.Nat.{◌+◌}
 use native.Mathlib.Omega.{arith}
-use Rattle.workspace.specs.Notes.Recalling.{other-operand, other-depth, same-note}
+use Rattle.workspace.specs.Notes.Recalling.{other-operand, other-depth, same_note}
 use Rattle.notes.proofs.is_of.Statement.{statement}
 use Rattle.notes.proofs.is_of.Tie as tie
 
@@ -24,7 +24,7 @@ agrees-requires c κs = c.before.before.before.before.before.requires.readable c
 returns-3 : tie.Need-returns-3
 returns-3 c =
     let a = c.before.before.before.before.before.before.args in
-    c.agrees.ensures ∙ same-note a.space.now a.at a.depth a.a c.before.before.before.if1.false c.before.if2.false
+    c.agrees.ensures ∙ same_note a.space.now a.at a.depth a.a c.before.before.before.if1.false c.before.if2.false
 
 pub is-of-spec : {M : Type 1} → statement M
 is-of-spec =

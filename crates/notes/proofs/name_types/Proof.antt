@@ -5,14 +5,14 @@ use mathlib.Core.Logic.{⊎_elim}
 use mathlib.Core.Path.{sym, ◌∙◌}
 use Prim.Native.Nat.{◌-◌}
 use native.Mathlib.Omega.{arith}
-use Rattle.script.specs.Code.Forms.{treeIn}
-use Rattle.workspace.specs.Notes.Making.{Upto, upto-start, upto-on, upto-named, upto-more, upto-full, upto-end}
+use Rattle.script.specs.Code.Forms.{tree_in}
+use Rattle.workspace.specs.Notes.Making.{Upto, upto_start, upto_on, upto_named, upto_more, upto_full, upto_end}
 use Rattle.notes.proofs.name_types.Statement.{statement}
 use Rattle.notes.proofs.name_types.Tie as tie
 use Rattle.workspace.specs.Places.{base_at}
 
 abbrev invariant-loop : tie.invariant-loop
-invariant-loop table space₀ depth a at count₀ k₀ space count k = Upto (treeIn table a) depth at space₀ k count space
+invariant-loop table space₀ depth a at count₀ k₀ space count k = Upto (tree_in table a) depth at space₀ k count space
 
 abbrev decreases-loop : tie.decreases-loop
 decreases-loop table space₀ depth a at count₀ k₀ space count k = depth - k
@@ -21,7 +21,7 @@ slice-read-k : tie.Need-slice-read-k invariant-loop decreases-loop
 slice-read-k c = omega (arith, c.before.before.before.requires.1.lent)
 
 loop-holds : tie.Need-loop-init invariant-loop decreases-loop
-loop-holds c = let a = c.before.before.before.args in upto-start (treeIn a.table.now a.a) a.depth a.at a.space.now
+loop-holds c = let a = c.before.before.before.args in upto_start (tree_in a.table.now a.a) a.depth a.at a.space.now
 
 cast-loop : tie.Need-overflow-cast-loop invariant-loop decreases-loop
 cast-loop c = omega (arith, c.loop.invariant.bounded, c.before.slice-known2.given base_at, c.before.before.before.before.requires.1.small)
@@ -33,7 +33,7 @@ returns : tie.Need-returns invariant-loop decreases-loop
 returns c =
     let a = c.before.before.before.before.before.before.before.before.args in
     let l = c.before.before.before.before.loop in
-    upto-full (treeIn a.table.now a.a) a.depth a.at a.space.now l.k l.count l.space l.invariant
+    upto_full (tree_in a.table.now a.a) a.depth a.at a.space.now l.k l.count l.space l.invariant
     c.before.before.before.loop-test.true (sym c.before.before.mentions.ensures ∙ c.before.if1.true) c.if2.true
 
 name-type-requires : tie.Need-name-type-requires invariant-loop decreases-loop
@@ -42,8 +42,8 @@ name-type-requires c κs =
     let n = c.before.before.before.before.before.before.before.before.before.requires.1 in
     let l = c.before.before.before.before.before.loop in
     let t = c.before.before.before.before.loop-test.true in
-    let e = treeIn a.table.now a.a in
-    upto-named e a.depth a.at a.space.now n l.k l.count l.space l.invariant t
+    let e = tree_in a.table.now a.a in
+    upto_named e a.depth a.at a.space.now n l.k l.count l.space l.invariant t
     (omega (arith, l.invariant.naming.few, c.before.if2.false))
 
 add-count : tie.Need-overflow-add-count invariant-loop decreases-loop
@@ -61,13 +61,13 @@ loop-again c =
     let n = c.before.before.before.before.before.before.before.requires.1 in
     let l = c.before.before.before.loop in
     let t = c.before.before.loop-test.true in
-    let e = treeIn a.table.now a.a in
+    let e = tree_in a.table.now a.a in
     ⊎_elim
     (λ w.
-    upto-more e a.depth a.at a.space.now n l.k l.count l.space l.invariant t (omega (arith, l.invariant.naming.few, w.1.left))
+    upto_more e a.depth a.at a.space.now n l.k l.count l.space l.invariant t (omega (arith, l.invariant.naming.few, w.1.left))
     (sym c.before.mentions.ensures ∙ w.0.taken) (w.6 ∙ w.3.ensures) w.7)
     (λ w.
-    upto-on e a.depth a.at a.space.now n l.k l.count l.space l.invariant t (sym c.before.mentions.ensures ∙ w.0.left) w.1 w.2)
+    upto_on e a.depth a.at a.space.now n l.k l.count l.space l.invariant t (sym c.before.mentions.ensures ∙ w.0.left) w.1 w.2)
     c.if1.branch
 
 same-length-2 : tie.Need-same-length-2 invariant-loop decreases-loop
@@ -77,7 +77,7 @@ returns-2 : tie.Need-returns-2 invariant-loop decreases-loop
 returns-2 c =
     let a = c.before.before.before.before.before.args in
     let l = c.before.loop in
-    upto-end (treeIn a.table.now a.a) a.depth a.at a.space.now l.k l.count l.space l.invariant c.loop-test.false
+    upto_end (tree_in a.table.now a.a) a.depth a.at a.space.now l.k l.count l.space l.invariant c.loop-test.false
 
 pub name-types-spec : {M : Type 1} → statement M
 name-types-spec =

@@ -5,20 +5,20 @@ use mathlib.Core.Path.{refl}
 use Prim.Native.Nat.{◌%◌}
 use native.Mathlib.Omega.{arith}
 use lib.ListN.{get_or, length-set}
-use Rattle.workspace.specs.Notes.Making.{cleared-nameable, noted_nothing, noted-all}
+use Rattle.workspace.specs.Notes.Making.{cleared_nameable, noted_nothing, noted_all}
 use Rattle.notes.proofs.note.Statement.{statement}
 use Rattle.notes.proofs.note.Tie as tie
-use Rattle.workspace.specs.Places.{noteLimit, turnAt}
+use Rattle.workspace.specs.Places.{note_limit, turn_at}
 
 cast-turn : tie.Need-overflow-cast-turn
-cast-turn c = omega (arith, c.slice-known2.given turnAt)
+cast-turn c = omega (arith, c.slice-known2.given turn_at)
 
 name-types-requires : tie.Need-name-types-requires
 name-types-requires c κs =
     let a = c.before.before.before.before.args in
     let p = c.before.before.before.before.requires in
-    let w = get_or a.space.now turnAt 0 % noteLimit in
-    (p.0, cleared-nameable a.space.now a.depth w refl (omega arith) p.1.1 p.1.0)
+    let w = get_or a.space.now turn_at 0 % note_limit in
+    (p.0, cleared_nameable a.space.now a.depth w refl (omega arith) p.1.1 p.1.0)
 
 same_length : tie.Need-same-length
 same_length c = simp length-set at c.before.before.before.name-types.ensures.same
@@ -27,7 +27,7 @@ returns : tie.Need-returns
 returns c =
     let a = c.before.before.before.before.before.before.before.before.args in
     let p = c.before.before.before.before.before.before.before.before.requires in
-    let w = get_or a.space.now turnAt 0 % noteLimit in
+    let w = get_or a.space.now turn_at 0 % note_limit in
     noted_nothing a.space.now a.depth w refl (omega arith) p.1.1 p.1.0 a.table.now a.a a.t
     c.before.before.before.name-types.ensures c.if1.true
 
@@ -65,8 +65,8 @@ returns-2 : tie.Need-returns-2
 returns-2 c =
     let a = c.before.before.before.before.before.before.before.before.args in
     let p = c.before.before.before.before.before.before.before.before.requires in
-    let w = get_or a.space.now turnAt 0 % noteLimit in
-    noted-all a.space.now a.depth w refl (omega arith) p.1.1 p.1.0 a.table.now a.a a.t
+    let w = get_or a.space.now turn_at 0 % note_limit in
+    noted_all a.space.now a.depth w refl (omega arith) p.1.1 p.1.0 a.table.now a.a a.t
     c.before.before.before.name-types.ensures c.if1.false
 
 pub note-spec : {M : Type 1} → statement M

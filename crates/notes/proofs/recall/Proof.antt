@@ -4,7 +4,7 @@ use borrow.Author.Rules.{rules}
 use mathlib.Core.Path.{sym, ◌∙◌}
 use Prim.Native.Nat.{◌-◌}
 use native.Mathlib.Omega.{arith}
-use Rattle.workspace.specs.Notes.Recalling.{Recalling, recalling-start, recalling-found, recalling-on, recalling-end}
+use Rattle.workspace.specs.Notes.Recalling.{Recalling, recalling-start, recalling-found, recalling_on, recalling_end}
 use Rattle.notes.proofs.recall.Statement.{statement}
 use Rattle.notes.proofs.recall.Tie as tie
 
@@ -36,14 +36,14 @@ loop-again : tie.Need-loop-preserved invariant-loop decreases-loop
 loop-again c =
     let a = c.before.before.before.before.before.args in
     let l = c.before.before.before.loop in
-    recalling-on a.space.now a.depth a.a l.i l.invariant c.before.before.loop-test.true
+    recalling_on a.space.now a.depth a.a l.i l.invariant c.before.before.loop-test.true
     (sym c.before.is-of.ensures ∙ c.if1.false)
 
 returns-2 : tie.Need-returns-2 invariant-loop decreases-loop
 returns-2 c =
     let a = c.before.before.before.args in
     let l = c.before.loop in
-    recalling-end a.space.now a.depth a.a l.i l.invariant c.loop-test.false
+    recalling_end a.space.now a.depth a.a l.i l.invariant c.loop-test.false
 
 pub recall-spec : {M : Type 1} → statement M
 recall-spec =

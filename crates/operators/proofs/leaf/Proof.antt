@@ -3,23 +3,23 @@ use Rattle.std.proofs.Common.{◌^◌, ◌<◌, refl, mod-eq_of_lt, arith, rules
 use Rattle.script.specs.Code.Forms.{form_of}
 use Rattle.script.specs.Rows.{rows, row_of}
 use Rattle.script.specs.Rows.Laws.{none_left, but}
-use Rattle.operators.specs.Steps.{leafOn}
+use Rattle.operators.specs.Steps.{leaf_on}
 use Rattle.operators.specs.Steps.Operators.{says-gave, leaf-other}
 use Rattle.operators.proofs.leaf.Statement.{statement}
 use Rattle.operators.proofs.leaf.Tie as tie
 
 returns : tie.Need-returns
-unfolding leafOn form_of row_of rows
+unfolding leaf_on form_of row_of rows
 returns c =
     let h : c.before.before.args.node.a < 2 ^ 32 = omega arith in
     rw c.match.keys1 (says-gave λ cs. rw (mod-eq_of_lt h))
 
 returns-2 : tie.Need-returns-2
-unfolding leafOn form_of row_of rows
+unfolding leaf_on form_of row_of rows
 returns-2 c = rw c.match.keys2 (says-gave λ cs. refl)
 
 returns-3 : tie.Need-returns-3
-unfolding leafOn form_of row_of rows
+unfolding leaf_on form_of row_of rows
 returns-3 c = rw c.before.match.keys3 c.variable.ensures
 
 returns-4 : tie.Need-returns-4

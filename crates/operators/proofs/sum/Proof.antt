@@ -1,30 +1,30 @@
 -- `operators::sum` meets its contract: each arm is given the kinds of the values, at which the rule computes. Assumes nothing.
 use Rattle.std.proofs.Common.{refl, rules}
-use Rattle.rules.specs.Evaluation.{binaryOn}
+use Rattle.rules.specs.Evaluation.{binary_on}
 use Rattle.operators.specs.Steps.Operators.{says-gave, says-failed}
 use Rattle.operators.proofs.sum.Statement.{statement}
 use Rattle.operators.proofs.sum.Tie as tie
 
 returns : tie.Need-returns
-unfolding binaryOn
+unfolding binary_on
 returns c =
     let s = c.before.before in
     rw (s.before.before.before.v.given.1, s.w.given.1, c.wrapping-add-u32.ensures) (says-gave λ cs. refl)
 
 returns-2 : tie.Need-returns-2
-unfolding binaryOn
+unfolding binary_on
 returns-2 c = rw (c.before.before.before.v.given.1, c.enum_told.given.1) (says-failed λ cs. refl)
 
 returns-3 : tie.Need-returns-3
-unfolding binaryOn
+unfolding binary_on
 returns-3 c = rw (c.before.before.before.v.given.1, c.enum-told2.given.1) (says-failed λ cs. refl)
 
 returns-4 : tie.Need-returns-4
-unfolding binaryOn
+unfolding binary_on
 returns-4 c = rw c.enum-told3.given.1 (says-failed λ cs. refl)
 
 returns-5 : tie.Need-returns-5
-unfolding binaryOn
+unfolding binary_on
 returns-5 c = rw c.enum-told4.given.1 (says-failed λ cs. refl)
 
 pub sum-spec : {M : Type 1} → statement M

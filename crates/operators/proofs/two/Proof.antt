@@ -3,25 +3,25 @@ use Rattle.std.proofs.Common.{rules}
 use Rattle.script.specs.Code.Forms.{form_of}
 use Rattle.script.specs.Rows.{rows, row_of}
 use Rattle.script.specs.Rows.Laws.{none_left, but}
-use Rattle.operators.specs.Steps.{twoOn}
+use Rattle.operators.specs.Steps.{two_on}
 use Rattle.operators.specs.Steps.Operators.{does-says, does-gave, two-other}
 use Rattle.operators.proofs.two.Statement.{statement}
 use Rattle.operators.proofs.two.Tie as tie
 
 returns : tie.Need-returns
-unfolding twoOn form_of row_of rows
+unfolding two_on form_of row_of rows
 returns c = rw c.before.match.keys1 (does-says c.before.before.before.requires.0 c.sum.ensures)
 
 returns-2 : tie.Need-returns-2
-unfolding twoOn form_of row_of rows
+unfolding two_on form_of row_of rows
 returns-2 c = rw c.before.match.keys2 (does-says c.before.before.before.requires.0 c.equality.ensures)
 
 returns-3 : tie.Need-returns-3
-unfolding twoOn form_of row_of rows
+unfolding two_on form_of row_of rows
 returns-3 c = rw c.before.match.keys3 (does-says c.before.before.before.requires.0 c.conjunction.ensures)
 
 returns-4 : tie.Need-returns-4
-unfolding twoOn form_of row_of rows
+unfolding two_on form_of row_of rows
 returns-4 c =
     let m = c.before.before in
     rw m.before.before.match.keys4 m.write_cell.ensures

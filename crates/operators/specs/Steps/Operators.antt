@@ -4,20 +4,20 @@ use Rattle.std.specs.Prelude.{◌≡◌, ℕ, ◌+◌, ◌*◌, ◌<◌, ◌≤�
 use Rattle.std.proofs.Common.{sym, ap, ◌∙◌, arith, length-append}
 use Rattle.std.proofs.Math.ListN.{get_elem?, length-set}
 use Rattle.std.proofs.lemmas.List.Edits.{sets}
-use Rattle.script.specs.Code.Forms.{form_of, severalBy, other-form, boundOn}
+use Rattle.script.specs.Code.Forms.{form_of, several_by, other-form, bound_on}
 use Rattle.script.specs.Answers.{kind_of, bits_of}
-use Rattle.script.specs.Rows.{intForm, varForm, ifForm, letForm, truthForm, rows, refOp, getOp, eqOp, setOp}
-use Rattle.script.specs.Rows.Kinds.{kindFor}
-use Rattle.script.specs.Rows.Laws.{NoneOf, none_left, but, unaryForms, binaryForms}
+use Rattle.script.specs.Rows.{int_form, var_form, if_form, let_form, truth_form, rows, ref_op, get_op, eq_op, set_op}
+use Rattle.script.specs.Rows.Kinds.{kind_for}
+use Rattle.script.specs.Rows.Laws.{NoneOf, none_left, but, unary_forms, binary_forms}
 use Rattle.script.specs.declared.Node.{Node}
 use Rattle.script.specs.declared.Value.{Value}
 use Rattle.script.specs.declared.Value.TheVariants.{Word, Truth, Location}
-use Rattle.rules.specs.Evaluation.{Outcome, gave, failed, found, equal, unaryOn, binaryOn}
-use Rattle.rules.specs.Evaluation.Every.{every-next}
+use Rattle.rules.specs.Evaluation.{Outcome, gave, failed, found, equal, unary_on, binary_on}
+use Rattle.rules.specs.Evaluation.Every.{every_next}
 use Rattle.rules.specs.Evaluation.Laws.{cells_of}
 use Rattle.rules.specs.Running.{bytes_of, value_at, values_of, stored}
 use Rattle.rules.specs.Running.Laws.{InRange, length-values, values-some, values-none}
-use Rattle.operators.specs.Steps.{Cells, Variables, Does, Says, step_of, leafOn, oneOn, twoOn, nextOn, Bound, Holds}
+use Rattle.operators.specs.Steps.{Cells, Variables, Does, Says, step_of, leaf_on, one_on, two_on, next_on, Bound, Holds}
 use Rattle.operators.specs.Steps.Values.{holds-stored, stored-holds, stored-set, stored_next, kept_next}
 use Rattle.operators.specs.declared.Next.TheVariants.{Operand}
 use Rattle.operators.specs.declared.Step.{Step}
@@ -58,13 +58,13 @@ equal-other (Location l) (Truth c) other k d = refl
 equal-other (Location l) (Location m) other k d = absurd (d refl)
 
 module _ (n used : ℕ) (v w : Value) where
-  pub eq-same : kind_of v ≡ kind_of w → Says (binaryOn n eqOp v w) used (Gave (Truth (bits_of v == bits_of w)) used)
-  unfolding binaryOn
-  eq-same e = says-gave λ cs. equal-same v w (failed n cs) (λ b. gave (Truth b) cs) e
+  pub eq_same : kind_of v ≡ kind_of w → Says (binary_on n eq_op v w) used (Gave (Truth (bits_of v == bits_of w)) used)
+  unfolding binary_on
+  eq_same e = says-gave λ cs. equal-same v w (failed n cs) (λ b. gave (Truth b) cs) e
 
-  pub eq-other : (kind_of v ≢ kind_of w) → Says (binaryOn n eqOp v w) used (Failed n used)
-  unfolding binaryOn
-  eq-other d = says-failed λ cs. equal-other v w (failed n cs) (λ b. gave (Truth b) cs) d
+  pub eq_other : (kind_of v ≢ kind_of w) → Says (binary_on n eq_op v w) used (Failed n used)
+  unfolding binary_on
+  eq_other d = says-failed λ cs. equal-other v w (failed n cs) (λ b. gave (Truth b) cs) d
 
 -- ---- a rule that looks at the cells
 
@@ -82,24 +82,24 @@ module _ {cells : List ℕ} {used more : ℕ} (h : Cells cells used more) where
   does-failed o e = does-same o (rw (e, length-values)) (rw e)
 
   module _ (n : ℕ) where
-    pub get-used : (l : ℕ) → l < used → Does (unaryOn n getOp (Location l) (values_of used cells)) (Gave (value_at (drop (5 * l) cells)) used) cells cells
-    unfolding unaryOn
-    get-used l b = does-gave _ (rw (values-some used l cells b))
+    pub get_used : (l : ℕ) → l < used → Does (unary_on n get_op (Location l) (values_of used cells)) (Gave (value_at (drop (5 * l) cells)) used) cells cells
+    unfolding unary_on
+    get_used l b = does-gave _ (rw (values-some used l cells b))
 
-    pub get-unused : (l : ℕ) → used ≤ l → Does (unaryOn n getOp (Location l) (values_of used cells)) (Failed n used) cells cells
-    unfolding unaryOn
-    get-unused l b = does-failed _ (rw (values-none used l cells b))
+    pub get_unused : (l : ℕ) → used ≤ l → Does (unary_on n get_op (Location l) (values_of used cells)) (Failed n used) cells cells
+    unfolding unary_on
+    get_unused l b = does-failed _ (rw (values-none used l cells b))
 
     pub set-used : (l : ℕ) (w : Value) → l < used
-        → Does (binaryOn n setOp (Location l) w (values_of used cells)) (Gave w used) cells (sets cells (5 * l) (bytes_of w))
-    unfolding binaryOn
+        → Does (binary_on n set_op (Location l) w (values_of used cells)) (Gave w used) cells (sets cells (5 * l) (bytes_of w))
+    unfolding binary_on
     set-used l w b = record {
       answer = rw (values-some used l cells b, length-set, length-values);
       leaves = rw (values-some used l cells b) (stored-set h.held l (rw length-values b) w);
     }
 
-    pub set-unused : (l : ℕ) (w : Value) → used ≤ l → Does (binaryOn n setOp (Location l) w (values_of used cells)) (Failed n used) cells cells
-    unfolding binaryOn
+    pub set-unused : (l : ℕ) (w : Value) → used ≤ l → Does (binary_on n set_op (Location l) w (values_of used cells)) (Failed n used) cells cells
+    unfolding binary_on
     set-unused l w b = does-failed _ (rw (values-none used l cells b))
 
 -- a value put behind the last one
@@ -110,8 +110,8 @@ next-stored {bs} n h l v =
     ap (λ k. sets bs (5 * k) (bytes_of v)) (sym e) ∙ stored_next h (rw e l) v
 
 pub ref-next : {cells : List ℕ} {used : ℕ} → Cells cells used 1 → (n : ℕ) (v : Value)
-    → Does (unaryOn n refOp v (values_of used cells)) (Gave (Location used) (used + 1)) cells (sets cells (5 * used) (bytes_of v))
-unfolding unaryOn
+    → Does (unary_on n ref_op v (values_of used cells)) (Gave (Location used) (used + 1)) cells (sets cells (5 * used) (bytes_of v))
+unfolding unary_on
 ref-next {cells} {used} h n v = record {
   answer = rw (length-append, length-values);
   leaves = next-stored used h.held (omega (arith, h.room, h.lent)) v;
@@ -134,7 +134,7 @@ bound-next {env} {depth} {v} h r =
     let e = length-values depth env in
     record {
       counts = rw (length-append, e);
-      holds = rw (next-stored depth h.held l v) (stored-holds env (every-next h.held.ranged r));
+      holds = rw (next-stored depth h.held l v) (stored-holds env (every_next h.held.ranged r));
       kept = kept_next env (5 * depth) v;
     }
 
@@ -143,23 +143,23 @@ bound-same {env} {depth} h = record { counts = sym (length-values depth env); ho
 
 -- ---- the form of a kind
 
-pub leaf-other : (n : ℕ) (m : Node) (env cs : List Value) → NoneOf m.kind (intForm ∷ truthForm true ∷ varForm ∷ [])
-    → leafOn (form_of m.kind) n m env cs ≡ gave (Truth false) cs
-unfolding leafOn rows
-leaf-other n m env cs d = other-form (λ f. leafOn f n m env cs) _ m.kind refl d
+pub leaf-other : (n : ℕ) (m : Node) (env cs : List Value) → NoneOf m.kind (int_form ∷ truth_form true ∷ var_form ∷ [])
+    → leaf_on (form_of m.kind) n m env cs ≡ gave (Truth false) cs
+unfolding leaf_on rows
+leaf-other n m env cs d = other-form (λ f. leaf_on f n m env cs) _ m.kind refl d
 
-pub one-other : (n : ℕ) (v : Value) (cs : List Value) (k : ℕ) → NoneOf k unaryForms → oneOn (form_of k) n v cs ≡ gave v cs
-unfolding oneOn rows
-one-other n v cs k d = other-form (λ f. oneOn f n v cs) _ k refl d
+pub one_other : (n : ℕ) (v : Value) (cs : List Value) (k : ℕ) → NoneOf k unary_forms → one_on (form_of k) n v cs ≡ gave v cs
+unfolding one_on rows
+one_other n v cs k d = other-form (λ f. one_on f n v cs) _ k refl d
 
-pub two-other : (n : ℕ) (v w : Value) (cs : List Value) (k : ℕ) → NoneOf k binaryForms → twoOn (form_of k) n v w cs ≡ gave w cs
-unfolding twoOn rows
-two-other n v w cs k d = other-form (λ f. twoOn f n v w cs) _ k refl d
+pub two-other : (n : ℕ) (v w : Value) (cs : List Value) (k : ℕ) → NoneOf k binary_forms → two_on (form_of k) n v w cs ≡ gave w cs
+unfolding two_on rows
+two-other n v w cs k d = other-form (λ f. two_on f n v w cs) _ k refl d
 
-pub next-other : (v : Value) (m : Node) → (m.kind ≢ kindFor ifForm) → nextOn (form_of m.kind) v m ≡ Operand m.b
-unfolding nextOn rows
-next-other v m d = other-form (λ f. nextOn f v m) (ifForm ∷ []) m.kind refl (but d none_left)
+pub next-other : (v : Value) (m : Node) → (m.kind ≢ kind_for if_form) → next_on (form_of m.kind) v m ≡ Operand m.b
+unfolding next_on rows
+next-other v m d = other-form (λ f. next_on f v m) (if_form ∷ []) m.kind refl (but d none_left)
 
-pub bound-other : (m : Node) (v : Value) (env : List Value) → (m.kind ≢ kindFor letForm) → boundOn m v env ≡ env
-unfolding severalBy rows
-bound-other m v env d = other-form (λ f. severalBy f env (env ++ (v ∷ [])) (λ o. env) env) (letForm ∷ []) m.kind refl (but d none_left)
+pub bound-other : (m : Node) (v : Value) (env : List Value) → (m.kind ≢ kind_for let_form) → bound_on m v env ≡ env
+unfolding several_by rows
+bound-other m v env d = other-form (λ f. several_by f env (env ++ (v ∷ [])) (λ o. env) env) (let_form ∷ []) m.kind refl (but d none_left)

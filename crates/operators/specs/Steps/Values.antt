@@ -51,8 +51,8 @@ holds-values {bs} {vs} h =
     sym (ap (values_of (length vs)) (holds-stored h)) ∙ values-bytes (drop (5 * length vs) bs) h.ranged
 
 -- bytes that begin as others do hold what those hold
-pub holds-front : {bs left : List ℕ} {vs : List Value} → take (5 * length vs) left ≡ take (5 * length vs) bs → Holds bs vs → Holds left vs
-holds-front e h = record { bytes = e ∙ h.bytes; ranged = h.ranged }
+pub holds_front : {bs left : List ℕ} {vs : List Value} → take (5 * length vs) left ≡ take (5 * length vs) bs → Holds bs vs → Holds left vs
+holds_front e h = record { bytes = e ∙ h.bytes; ranged = h.ranged }
 
 -- ---- written
 
@@ -62,8 +62,8 @@ stored-holds bs {vs} r = record { bytes = take_at (all_bytes vs) (drop (5 * leng
 pub stored-length : (bs : List ℕ) (vs : List Value) → 5 * length vs ≤ length bs → length (stored bs vs) ≡ length bs
 stored-length bs vs h = length_front bs (all_bytes vs) (5 * length vs) (length-bytes vs ∙ sym (length-take-le (5 * length vs) bs h))
 
-pub stored-over : (bs : List ℕ) (vs ws : List Value) → length vs ≤ length ws → stored (stored bs vs) ws ≡ stored bs ws
-stored-over bs vs ws h =
+pub stored_over : (bs : List ℕ) (vs ws : List Value) → length vs ≤ length ws → stored (stored bs vs) ws ≡ stored bs ws
+stored_over bs vs ws h =
     ap (λ r. all_bytes ws ++ r) (drop-behind (all_bytes vs) bs (5 * length vs) (5 * length ws) (length-bytes vs) (omega arith))
 
 pub stored-set : {bs : List ℕ} {vs : List Value} → Holds bs vs → (i : ℕ) → i < length vs → (w : Value) → sets bs (5 * i) (bytes_of w) ≡ stored bs (slice_set vs i w)

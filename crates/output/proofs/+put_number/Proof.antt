@@ -7,7 +7,7 @@ use Prim.Native.Nat.{ℕ, ◌+◌, ◌^◌, ◌<◌}
 use native.Mathlib.Omega.{arith}
 use lib.ListN.{length, length-append}
 use Rattle.text.specs.Code.Output.Fields.{digits_last, digits-tens}
-use Rattle.text.specs.Code.Output.Laws.{put_one, put_then, put-length}
+use Rattle.text.specs.Code.Output.Laws.{put_one, put_then, put_length}
 use Rattle.text.specs.Writing.{digits}
 use Rattle.output.proofs.put_number.Reads as put-number
 use Rattle.output.proofs.put_number.Kinds as put-number-kinds
@@ -93,12 +93,12 @@ pub +put-number-spec : {M : Type 1} → statement M
     (λ c. search rules)
     (λ c κs. search rules)
     (put-number-add-result t)
-    (λ c. put-length (put-number-returns t c))
+    (λ c. put_length (put-number-returns t c))
     (put-number-returns t)
     (put-number-put-number-requires t)
     (λ c. search rules)
     (λ c. search rules)
     (λ c κs. search rules)
     (put-number-add-result-2 t)
-    (λ c. put-length (put-number-returns-2 t c))
+    (λ c. put_length (put-number-returns-2 t c))
     (put-number-returns-2 t)

@@ -2,7 +2,7 @@
 use borrow.Author.Rules.{rules}
 use mathlib.Core.Path.{ap, ◌∙◌}
 use lib.ListN.{length}
-use Rattle.script.specs.Code.Clearing.Laws.{length-filled}
+use Rattle.script.specs.Code.Clearing.Laws.{length_filled}
 use Rattle.text.specs.Code.Steps.Whole.{left_so}
 use Rattle.reader.proofs.read.Statement.{statement}
 use Rattle.reader.proofs.read.Tie as tie
@@ -22,7 +22,7 @@ same-length-2 c =
     let at-script = at-clear-entries.before.before.before.before.before.before.before in
     let at-read-text = at-script.before.before.before.before.before.before in
     let h = rw at-script.script.given.1 at at-read-text.read-text.ensures in
-    ap length at-clear-entries.clear-entries.ensures ∙ length-filled _ _ h.entries-room ∙ h.framed.entries-length
+    ap length at-clear-entries.clear-entries.ensures ∙ length_filled _ _ h.entries-room ∙ h.framed.entries-length
 
 returns : tie.Need-returns
 returns c =
@@ -39,7 +39,7 @@ same-length-4 c =
     let at-r = at-clear-entries2.before.before.before.before.before.before.before in
     let at-read-text = at-r.before.before.before.before.before.before in
     let h = rw at-r.r.given.1 at at-read-text.read-text.ensures in
-    ap length at-clear-entries2.clear-entries2.ensures ∙ length-filled at-read-text.read-text.new.1.1.0 0 h.entries-room ∙
+    ap length at-clear-entries2.clear-entries2.ensures ∙ length_filled at-read-text.read-text.new.1.1.0 0 h.entries-room ∙
     h.framed.entries-length
 
 returns-2 : tie.Need-returns-2

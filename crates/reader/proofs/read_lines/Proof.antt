@@ -5,7 +5,7 @@ use Prim.Native.Nat.{◌-◌}
 use native.Mathlib.Omega.{arith}
 use native.Mathlib.Numerals.{add-one}
 use lib.ListN.{length}
-use Rattle.text.specs.Code.Steps.Walk.{Walked, walk_start, walk-on, walk_refused, walk_end}
+use Rattle.text.specs.Code.Steps.Walk.{Walked, walk_start, walk_on, walk_refused, walk_end}
 use Rattle.reader.proofs.read_lines.Statement.{statement}
 use Rattle.reader.proofs.read_lines.Tie as tie
 
@@ -50,7 +50,7 @@ loop-less c =
     let at-take-line = at_more.before.before.before.before.before.before in
     let at-loop-test = at-take-line.before.before.before in
     let at-loop = at-loop-test.before in
-    let t = walk-on at-loop.loop.invariant at-loop-test.loop-test.true (rw at_more.more.given.1 at at-take-line.take-line.ensures) in
+    let t = walk_on at-loop.loop.invariant at-loop-test.loop-test.true (rw at_more.more.given.1 at at-take-line.take-line.ensures) in
     let l = t.0.within in
     omega (arith, t.1)
 
@@ -61,7 +61,7 @@ loop-again c =
     let at-loop-test = at-take-line.before.before.before in
     let at-loop = at-loop-test.before in
     rw (add-one at-loop.loop.i)
-    (walk-on at-loop.loop.invariant at-loop-test.loop-test.true (rw at_more.more.given.1 at at-take-line.take-line.ensures)).0
+    (walk_on at-loop.loop.invariant at-loop-test.loop-test.true (rw at_more.more.given.1 at at-take-line.take-line.ensures)).0
 
 at-end-requires : tie.Need-at-end-requires invariant-loop decreases-loop
 at-end-requires c κs =
@@ -77,7 +77,7 @@ same-length-4 : tie.Need-same-length-4 invariant-loop decreases-loop
 same-length-4 c = c.before.before.before.loop.invariant.framed.entries-length
 
 returns-2 : tie.Need-returns-2 invariant-loop decreases-loop
-returns-2 c = rw c.at-end.ensures (walk_end c.before.before.before.loop.invariant c.before.before.loop-test.false)
+returns-2 c = rw c.at_end_lem.ensures (walk_end c.before.before.before.loop.invariant c.before.before.loop-test.false)
 
 pub read-lines-spec : {M : Type 1} → statement M
 read-lines-spec =

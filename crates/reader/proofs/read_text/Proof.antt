@@ -1,6 +1,6 @@
 -- `reader::read_text` meets its contract. Assumes nothing.
 use borrow.Author.Rules.{rules}
-use Rattle.text.specs.Code.Steps.Whole.{holds-refused, few-nodes, few-entries, too_long, not-too-long}
+use Rattle.text.specs.Code.Steps.Whole.{holds-refused, few-nodes, few-entries, too_long, not_too_long}
 use Rattle.reader.proofs.read_text.Statement.{statement}
 use Rattle.reader.proofs.read_text.Tie as tie
 
@@ -22,7 +22,7 @@ returns-3 c =
 returns-4 : tie.Need-returns-4
 returns-4 c =
     let a = c.before.before.before.before.before.before.before.before.before.before.before.before.before.args in
-    rw (not-too-long a.text.now a.table.now a.entries.now c.before.before.before.before.before.before.before.before.before.if1.false c.before.before.before.before.before.before.before.before.if2.false c.before.before.before.before.before.before.before.if3.false) c.before.before.before.before.read-lines.ensures
+    rw (not_too_long a.text.now a.table.now a.entries.now c.before.before.before.before.before.before.before.before.before.if1.false c.before.before.before.before.before.before.before.before.if2.false c.before.before.before.before.before.before.before.if3.false) c.before.before.before.before.read-lines.ensures
 
 pub read-text-spec : {M : Type 1} → statement M
 read-text-spec =

@@ -2,7 +2,7 @@
 use borrow.Author.Rules.{rules}
 use mathlib.Core.Path.{sym, ap, ◌∙◌}
 use lib.ListN.{length, drop}
-use Rattle.text.specs.Code.Steps.Taken.{here-entry, here-node, here-bad, took-entry, took-node, took-bad}
+use Rattle.text.specs.Code.Steps.Taken.{here-entry, here-node, here_bad, took-entry, took-node, took_bad}
 use Rattle.reader.proofs.take_line.Statement.{statement}
 use Rattle.reader.proofs.take_line.Tie as tie
 
@@ -23,8 +23,8 @@ returns-2 c =
 returns-3 : tie.Need-returns-3
 returns-3 c =
     let a = c.before.before.before.before.before.before.args in
-    let h = here-bad a.at (drop a.at a.text.now) (sym c.before.before.line_at_lem.ensures ∙ c.enum_told.given.1) in
-    took-bad a.text.now a.at a.i a.script a.table.now a.entries.now c.before.before.before.before.before.before.requires.1 h
+    let h = here_bad a.at (drop a.at a.text.now) (sym c.before.before.line_at_lem.ensures ∙ c.enum_told.given.1) in
+    took_bad a.text.now a.at a.i a.script a.table.now a.entries.now c.before.before.before.before.before.before.requires.1 h
 
 same_length : tie.Need-same-length
 same_length c =

@@ -40,7 +40,7 @@ use Rattle.script.specs.declared.Reading.{Reading}
 use Rattle.script.specs.contracts.Node as T
 use Rattle.script.specs.contracts.Reading as Z
 use Rattle.script.proofs.Reading.TheLaws as Z'
-use Rattle.copies.specs.Copies.{flatSize, places}
+use Rattle.copies.specs.Copies.{flat_size, places}
 use Rattle.copies.proofs.Calling.{Toks, called, Walk, ends, proves}
 use Rattle.copies.proofs.Lent.{ref_at, let_go, back-mut, back_shr}
 use Rattle.copies.proofs.Locals.{var, freed}
@@ -63,7 +63,7 @@ use Rattle.record_texts.proofs.read.Code as code
 abbrev spells : (κs : Lfts 3) → Spells (types_at (read.signature).params κs)
 spells κs = (shr_slice_vals, (shr_slice_vals, (shr_slice_vals, tt)))
 
-room : Room u32 flatSize
+room : Room u32 flat_size
 room = (lit< tt, lit< tt)
 
 module _ {M : Type 1} {𝓤 : Ura M} (𝓛 : Logic 𝓤) (mem : Memory → SProp 𝓤) (run : Routine → Fun 𝓤) where
@@ -93,10 +93,10 @@ module _ {M : Type 1} {𝓤 : Ura M} (𝓛 : Logic 𝓤) (mem : Memory → SProp
       -- what the calls are given: the flat table xs at l, lent for α under the name γ, and the text, the table's length and the entries, or the table
       abbrev to_read : List ℕ → ℕ → ℕ → GName → ReadFlat.Ghost
       to_read xs l α γ =
-          (((κs.0, (α ∷ [], κs.1.1)), (qs.0, (full_share, qs.1.1)), tt, (a.0, (n, (ref_at l 0 γ xs, a.1.1))), (vals.0, (vint w64 n ∷ [], (slice_val (l, 0) flatSize ∷ [], vals.1.1)))), tt)
+          (((κs.0, (α ∷ [], κs.1.1)), (qs.0, (full_share, qs.1.1)), tt, (a.0, (n, (ref_at l 0 γ xs, a.1.1))), (vals.0, (vint w64 n ∷ [], (slice_val (l, 0) flat_size ∷ [], vals.1.1)))), tt)
 
       abbrev to-copy : List ℕ → ℕ → ℕ → GName → CopyIn.Ghost
-      to-copy xs l α γ = (((κs.1.0, (α ∷ [], tt)), (qs.1.0, (full_share, tt)), tt, (a.1.0, (ref_at l 0 γ xs, tt)), (vals.1.0, (slice_val (l, 0) flatSize ∷ [], tt))), tt)
+      to-copy xs l α γ = (((κs.1.0, (α ∷ [], tt)), (qs.1.0, (full_share, tt)), tt, (a.1.0, (ref_at l 0 γ xs, tt)), (vals.1.0, (slice_val (l, 0) flat_size ∷ [], tt))), tt)
 
       walk : Walk 𝓛 read.ended (read.clauses 𝓛 mem run) spells κs qs tt a tt code.function 𝓣
       walk are =
@@ -108,9 +108,9 @@ module _ {M : Type 1} {𝓤 : Ura M} (𝓛 : Logic 𝓤) (mem : Memory → SProp
           pass1 ! (init ! 28 refl (tt, (tt, (record { fits = are.0.0.1.0 }, tt)))) $ pass1 ! (init ! 26 refl (tt, (tt, (record { fits = are.1.0.0.1.0 }, tt)))) $
           pass1 ! (init ! 24 refl (tt, (tt, (record { fits = are.1.1.0.0.1.0 }, tt)))) $ pass0 ! $
           -- [_15; …; _0; …; text's token; the table's; the entries'; what text owns; what the table owns; what the entries own]
-          move ! (22 ∷ []) $ zeroed ! flatSize refl (λ xs len.
+          move ! (22 ∷ []) $ zeroed ! flat_size refl (λ xs len.
           assigns ! (of_opd ! (load ! (from ! (fld ! refl (stop !))) (look_in ! 26 (sub ! 1 refl (whole !))))) (from ! (stop !)) (init ! 19 refl (tt, record { fits = are.1.0.0.1.0 })) $
-          move ! (0 ∷ 17 ∷ 15 ∷ []) $ sliced-mut ! u32 flatSize room xs refl refl refl (λ α γ.
+          move ! (0 ∷ 17 ∷ 15 ∷ []) $ sliced-mut ! u32 flat_size room xs refl refl refl (λ α γ.
           -- [flat's slice; its token; the lender's part; _7; _8; room for each of _15 to _9, and the right to free it; that of _8 and _7; _6; …; room for _5; …; that of _4; _3; …; _2; …; _1; …;
           -- room for _0; …; the tokens; what the parameters own]
           move ! (17 ∷ 15 ∷ 26 ∷ []) $ again ! are.1.1.0.0.1.0 refl refl refl $ owned ! usize (Is usize) (uint_Makes 𝓛 w64) n _ (refl, are.1.0.0.1.0) $
@@ -123,8 +123,8 @@ module _ {M : Type 1} {𝓤 : Ura M} (𝓛 : Logic 𝓤) (mem : Memory → SProp
           -- [text's token; flat's; the entries'; true; what the answer owns; what says the last values; _9; _10; _3; the lender's part; _7; _8; room for each of _15 to _11, …]
           land ! (from ! (stop !)) (init ! 28 refl (typed r w is)) $ move ! (5 ∷ []) $ fsplit ! $ drop ! $ fsplit ! $ drop ! $ fsplit ! $ fsplit ! $
           -- [flat's last list; its length; what says the entries' last list; text's token; flat's; the entries'; true; what the answer owns; _9; …]. Flat is back, and lent again
-          move ! (1 ∷ 6 ∷ 4 ∷ 11 ∷ 0 ∷ []) $ drop ! $ drop ! $ back-mut ! tt u32 flatSize ws.1.1.0 l₄ 0 $ move ! (16 ∷ 14 ∷ 30 ∷ []) $ again ! are.1.0.0.1.0 refl refl refl $
-          move ! (3 ∷ 15 ∷ 13 ∷ []) $ sliced-shr ! u32 flatSize room ws.1.1.0 refl refl refl (λ β δ.
+          move ! (1 ∷ 6 ∷ 4 ∷ 11 ∷ 0 ∷ []) $ drop ! $ drop ! $ back-mut ! tt u32 flat_size ws.1.1.0 l₄ 0 $ move ! (16 ∷ 14 ∷ 30 ∷ []) $ again ! are.1.0.0.1.0 refl refl refl $
+          move ! (3 ∷ 15 ∷ 13 ∷ []) $ sliced-shr ! u32 flat_size room ws.1.1.0 refl refl refl (λ β δ.
           -- [the slice; its token; the lender's part; _14; _15; _12; _13; _2; what says the entries' last list; text's token; the entries'; what the answer owns; _9; _10; _3; _7; _8; …]
           nothing ! $ nothing ! $ move ! (40 ∷ 3 ∷ 0 ∷ 41 ∷ 2 ∷ 1 ∷ []) $
           called ! (fm_of 𝓤 H 𝓛.laws 𝓣) copy-in.ended (copy-in.clauses 𝓛 mem run) known-copy (to-copy ws.1.1.0 l₄ β δ)
@@ -132,10 +132,10 @@ module _ {M : Type 1} {𝓤 : Ura M} (𝓛 : Logic 𝓤) (mem : Memory → SProp
           (and_then ! (var ! 5 refl) (and_then ! (var ! 3 refl) (no_more !))) (λ v u ns at_unit.
           heard ! (ns.0 ≡ places n ws.1.1.0) (λ filled.
           -- [the table's token; the slice's; true; what the unit owns; what says the last values; the lender's part; _14; _15; _12; _13; _2; …]
-          land ! (from ! (stop !)) (init ! 24 refl ((Nothing-Lawful 𝓛).typed u _ at_unit).0) $ move ! (4 ∷ []) $ fsplit ! $ move ! (3 ∷ 6 ∷ []) $ back_shr ! tt u32 flatSize ws.1.1.0 l₄ 0 $
+          land ! (from ! (stop !)) (init ! 24 refl ((Nothing-Lawful 𝓛).typed u _ at_unit).0) $ move ! (4 ∷ []) $ fsplit ! $ move ! (3 ∷ 6 ∷ []) $ back_shr ! tt u32 flat_size ws.1.1.0 l₄ 0 $
           -- [flat; what says the table's last list; the rest of that; the table's token; true; what the unit owns; _14; _15; _12; _13; _2; what says the entries' last list; text's token; the
           -- entries'; what the answer owns; _9; _10; _3; _7; _8; the right to free each of _15 to _12; _11; …; that of _10 to _7; _6; …; _5; …; that of _4 to _2; _1; …; room for _0; …]
-          assigns ! (of_opd ! (var ! 32 refl)) (from ! (stop !)) (init ! 39 refl (typed r w is)) $ returns ! (look ! 39 refl) $ let_go ! u32 flatSize ws.1.1.0 l₄ 0 $
+          assigns ! (of_opd ! (var ! 32 refl)) (from ! (stop !)) (init ! 39 refl (typed r w is)) $ returns ! (look ! 39 refl) $ let_go ! u32 flat_size ws.1.1.0 l₄ 0 $
           move ! (39 ∷ 40 ∷ 37 ∷ 38 ∷ 10 ∷ 36 ∷ 17 ∷ 35 ∷ 0 ∷ 34 ∷ 32 ∷ 33 ∷ 30 ∷ 31 ∷ 18 ∷ 29 ∷ 19 ∷ 28 ∷ 15 ∷ 27 ∷ 16 ∷ 26 ∷ 24 ∷ 25 ∷ 8 ∷ 23 ∷ 9 ∷ 22 ∷ 6 ∷ 21 ∷ 7 ∷ 20 ∷ []) $
           freed ! $ freed ! $ freed ! $ freed ! $ free1 ! $ freed ! $ freed ! $ freed ! $ freed ! $ freed ! $ freed ! $ freed ! $ freed ! $ freed ! $ freed ! $ freed ! $ free0 ! $
           -- [what says the table's last list; the rest of that; the table's token; true; what the unit owns; what says the entries' last list; text's token; the entries'; what the answer owns]

@@ -34,11 +34,11 @@ use denote.Triple.Spec.{Meets, triple_of}
 use denote.Triple.Statement.{Contract, Triple}
 use denote.Triple.Table.{entered, cited}
 use denote.Triple.Walked.{says}
-use Rattle.script.specs.Flat.{nodeWidth, tableIn}
+use Rattle.script.specs.Flat.{node_width, table_in}
 use Rattle.script.specs.contracts.Writing as T
 use Rattle.script.proofs.Writing.TheLaws as T'
 use Rattle.script.specs.contracts.Node as N
-use Rattle.copies.specs.Copies.{flatSize}
+use Rattle.copies.specs.Copies.{flat_size}
 use Rattle.copies.specs.Copies.Laws.{copied-fits}
 use Rattle.copies.proofs.Answered.{answers}
 use Rattle.copies.proofs.Calling.{Toks, Walk, ends, proves}
@@ -76,7 +76,7 @@ module _ {M : Type 1} {𝓤 : Ura M} (𝓛 : Logic 𝓤) (mem : Memory → SProp
 
       -- what the call of `write_flat` is given: flat and lent, and the rest as it was passed
       abbrev to-flat : ℕ → ℕ → GName → ℕ → List ℕ → WriteFlat.Ghost
-      to-flat l α γ r zs = (((α ∷ [], κs.1), (full_share, qs.1), tt, (ref_at l 0 γ zs, (r, a.1)), (slice_val (l, 0) flatSize ∷ [], (vint w64 r ∷ [], vals.1))), tt)
+      to-flat l α γ r zs = (((α ∷ [], κs.1), (full_share, qs.1), tt, (ref_at l 0 γ zs, (r, a.1)), (slice_val (l, 0) flat_size ∷ [], (vint w64 r ∷ [], vals.1))), tt)
 
       walk : Walk 𝓛 write.ended (write.clauses 𝓛 mem run) spells κs qs tt a tt code.function 𝓣
       walk are =
@@ -88,15 +88,15 @@ module _ {M : Type 1} {𝓤 : Ura M} (𝓛 : Logic 𝓤) (mem : Memory → SProp
           pass1 ! (init ! 20 refl (tt, (tt, (record { fits = are.1.1.0.0.1.0 }, tt)))) $ pass1 ! (init ! 18 refl (tt, record { fits = are.1.1.1.0.1 })) $
           pass1 ! (init ! 16 refl (tt, (tt, (record { fits = are.1.1.1.1.0.0.1.0 }, tt)))) $ pass0 ! $
           -- [_13; …; _0; …; the table's token; what it owns; the other tokens; what the other parameters own]
-          move ! (14 ∷ 12 ∷ 10 ∷ 8 ∷ 6 ∷ 4 ∷ 24 ∷ 28 ∷ 29 ∷ []) $ copies ! mem run (fm_of 𝓤 H 𝓛.laws 𝓣) known-copy a.0 flatSize (lit< tt, lit< tt) refl refl refl refl refl refl refl
+          move ! (14 ∷ 12 ∷ 10 ∷ 8 ∷ 6 ∷ 4 ∷ 24 ∷ 28 ∷ 29 ∷ []) $ copies ! mem run (fm_of 𝓤 H 𝓛.laws 𝓣) known-copy a.0 flat_size (lit< tt, lit< tt) refl refl refl refl refl refl refl
           (λ xs len r zs c α γ.
           -- [flat's slice; its token; the lender's part; _10; _11; the table's token; what lent owns; _8; _9; _7; _1; room for _13; …; room for _12; …; the right to free each of _11 to _6; _5; …; _4; …;
           -- _3; …; _2; …; that of _1; room for _0; …; the other tokens; what the other parameters own]
           move ! (13 ∷ 11 ∷ 21 ∷ []) $ again ! are.1.1.1.1.0.0.1.0 refl refl refl $ move ! (4 ∷ 32 ∷ 3 ∷ 9 ∷ 33 ∷ 5 ∷ 30 ∷ []) $
           answers ! (fm_of 𝓤 H 𝓛.laws 𝓣) write-flat.ended (write-flat.clauses 𝓛 mem run) known-flat (to-flat l₆ α γ r zs) (Toks 2 κs.1 qs.1) (_ ∷ _ ∷ _ ∷ [])
-          (fact_i 𝓤 _ (emp 𝓤) (copied-fits a.0.now xs r zs c)) (id⊢ 𝓤 _) (id⊢ 𝓤 _) u32 flatSize zs (λ d w is. ((EL.lawful T.the_type T'.the_laws 𝓛 tt).typed d _ is).0) refl
+          (fact_i 𝓤 _ (emp 𝓤) (copied-fits a.0.now xs r zs c)) (id⊢ 𝓤 _) (id⊢ 𝓤 _) u32 flat_size zs (λ d w is. ((EL.lawful T.the_type T'.the_laws 𝓛 tt).typed d _ is).0) refl
           (and_then ! (var ! 7 refl) (and_then ! (var ! 11 refl) (and_then ! (var ! 26 refl) (and_then ! (var ! 24 refl) (and_then ! (var ! 22 refl) (and_then ! (var ! 4 refl) (no_more !))))))) (λ w d ws.
-          heard ! (Writes (tableIn (take (nodeWidth * r) zs) a.1.0 a.1.1.0.now a.1.1.1.0) a.1.1.1.1.0.now d ws.1.1.1.1.1.0) (λ told.
+          heard ! (Writes (table_in (take (node_width * r) zs) a.1.0 a.1.1.0.now a.1.1.1.0) a.1.1.1.1.0.now d ws.1.1.1.1.1.0) (λ told.
           -- [room for _6; the other tokens; what the answer owns; what says the last values; _0; _12; _13; _5; _10; _11; the table's token; _8; _9; _7; _1; the right to free each of _13 to _5; _4; …;
           -- _3; …; _2; …; that of _1; that of _0]
           move ! (4 ∷ 31 ∷ 14 ∷ 30 ∷ 28 ∷ 29 ∷ 26 ∷ 27 ∷ 24 ∷ 25 ∷ 7 ∷ 23 ∷ 0 ∷ 22 ∷ 13 ∷ 21 ∷ 11 ∷ 20 ∷ 12 ∷ 19 ∷ 8 ∷ 18 ∷ 9 ∷ 17 ∷ 5 ∷ 16 ∷ 6 ∷ 15 ∷ []) $

@@ -1,5 +1,5 @@
 -- `records::run` meets its contract: a walk of its MIR, by hand. The table is copied to `flat`, which is lent (`Copied.antt`), `run_flat` is called on it and on the borrow of `cells`,
--- and its answer is returned (`Answered.antt`). What says the last values at exit is what the call left (`Said.antt`). That the answer is the table's is `run-copied`. Assumes nothing.
+-- and its answer is returned (`Answered.antt`). What says the last values at exit is what the call left (`Said.antt`). That the answer is the table's is `run_copied`. Assumes nothing.
 use mathlib.Core.Path.{refl}
 use Prim.Native.Nat.{ℕ, ◌*◌}
 use mathlib.Core.List.{List, [], ◌∷◌}
@@ -34,11 +34,11 @@ use denote.Triple.Spec.{Meets, triple_of}
 use denote.Triple.Statement.{Contract, Triple}
 use denote.Triple.Table.{entered, cited}
 use denote.Triple.Walked.{says}
-use Rattle.script.specs.Flat.{nodeWidth, tableIn}
+use Rattle.script.specs.Flat.{node_width, table_in}
 use Rattle.script.specs.contracts.Ran as T
 use Rattle.script.proofs.Ran.TheLaws as T'
 use Rattle.script.specs.contracts.Node as N
-use Rattle.copies.specs.Copies.{flatSize}
+use Rattle.copies.specs.Copies.{flat_size}
 use Rattle.copies.specs.Copies.Laws.{copied-fits}
 use Rattle.copies.proofs.Answered.{answers}
 use Rattle.copies.proofs.Calling.{Toks, Walk, ends, proves}
@@ -48,7 +48,7 @@ use Rattle.copies.proofs.Sliced.{again}
 use Rattle.copies.proofs.copy_out.Symbol as copy-out-def
 use Rattle.copies.proofs.copy_out.Symbol.{name as #copies·copy-out}
 use Rattle.copies.proofs.copy_out.Met as copy-out-thm
-use Rattle.records.specs.Code.Whole.{run-copied}
+use Rattle.records.specs.Code.Whole.{run_copied}
 use Rattle.records.specs.Records.{Runs}
 use Rattle.record_texts.proofs.Copied.{CopyOut, copies}
 use Rattle.records.specs.contracts.run_flat as run-flat
@@ -76,7 +76,7 @@ module _ {M : Type 1} {𝓤 : Ura M} (𝓛 : Logic 𝓤) (mem : Memory → SProp
 
       -- what the call of `run_flat` is given: flat and lent, and the rest as it was passed
       abbrev to-flat : ℕ → ℕ → GName → ℕ → List ℕ → RunFlat.Ghost
-      to-flat l α γ r zs = (((α ∷ [], κs.1), (full_share, qs.1), tt, (ref_at l 0 γ zs, (r, a.1)), (slice_val (l, 0) flatSize ∷ [], (vint w64 r ∷ [], vals.1))), tt)
+      to-flat l α γ r zs = (((α ∷ [], κs.1), (full_share, qs.1), tt, (ref_at l 0 γ zs, (r, a.1)), (slice_val (l, 0) flat_size ∷ [], (vint w64 r ∷ [], vals.1))), tt)
 
       walk : Walk 𝓛 run.ended (run.clauses 𝓛 mem run') spells κs qs tt a tt code.function 𝓣
       walk are =
@@ -90,16 +90,16 @@ module _ {M : Type 1} {𝓤 : Ura M} (𝓛 : Logic 𝓤) (mem : Memory → SProp
           pass1 ! (init ! 20 refl (tt, (tt, (record { fits = are.1.1.1.1.0.0.1.0 }, tt)))) $
           pass1 ! (init ! 18 refl (tt, (tt, (record { fits = are.1.1.1.1.1.0.0.1.0 }, tt)))) $ pass1 ! (init ! 16 refl (tt, record { fits = are.1.1.1.1.1.1.0.1 })) $ pass0 ! $
           -- [_15; …; _0; …; the table's token; what it owns; the other tokens; what the other parameters own]
-          move ! (14 ∷ 12 ∷ 10 ∷ 8 ∷ 6 ∷ 4 ∷ 28 ∷ 32 ∷ 33 ∷ []) $ copies ! mem run' (fm_of 𝓤 H 𝓛.laws 𝓣) known-copy a.0 flatSize (lit< tt, lit< tt) refl refl refl refl refl refl refl
+          move ! (14 ∷ 12 ∷ 10 ∷ 8 ∷ 6 ∷ 4 ∷ 28 ∷ 32 ∷ 33 ∷ []) $ copies ! mem run' (fm_of 𝓤 H 𝓛.laws 𝓣) known-copy a.0 flat_size (lit< tt, lit< tt) refl refl refl refl refl refl refl
           (λ xs len r zs c α γ.
           -- [flat's slice; its token; the lender's part; _12; _13; the table's token; what lent owns; _10; _11; _9; _1; room for _15; …; room for _14; …; the right to free each of _13 to _8; _7; …; _6; …;
           -- _5; …; _4; …; _3; …; _2; …; that of _1; room for _0; …; the other tokens; what the other parameters own]
           move ! (13 ∷ 11 ∷ 23 ∷ []) $ again ! are.1.1.1.1.1.0.0.1.0 refl refl refl $ move ! (4 ∷ 36 ∷ 3 ∷ 9 ∷ 37 ∷ 5 ∷ 34 ∷ []) $
           answers ! (fm_of 𝓤 H 𝓛.laws 𝓣) run-flat.ended (run-flat.clauses 𝓛 mem run') known-flat (to-flat l₈ α γ r zs) (Toks 3 κs.1 qs.1) (_ ∷ _ ∷ _ ∷ [])
-          (fact_i 𝓤 _ (emp 𝓤) (copied-fits a.0.now xs r zs c)) (id⊢ 𝓤 _) (id⊢ 𝓤 _) u32 flatSize zs (λ d w is. ((EL.lawful T.the_type T'.the_laws 𝓛 tt).typed d _ is).0) refl
+          (fact_i 𝓤 _ (emp 𝓤) (copied-fits a.0.now xs r zs c)) (id⊢ 𝓤 _) (id⊢ 𝓤 _) u32 flat_size zs (λ d w is. ((EL.lawful T.the_type T'.the_laws 𝓛 tt).typed d _ is).0) refl
           (and_then ! (var ! 7 refl) (and_then ! (var ! 11 refl) (and_then ! (var ! 30 refl) (and_then ! (var ! 28 refl) (and_then ! (var ! 26 refl) (and_then ! (var ! 24 refl)
           (and_then ! (var ! 4 refl) (and_then ! (var ! 21 refl) (no_more !))))))))) (λ w d ws.
-          heard ! (Runs (tableIn (take (nodeWidth * r) zs) a.1.0 a.1.1.0.now a.1.1.1.0) a.1.1.1.1.0.now a.1.1.1.1.1.0.now a.1.1.1.1.1.1.0 d
+          heard ! (Runs (table_in (take (node_width * r) zs) a.1.0 a.1.1.0.now a.1.1.1.0) a.1.1.1.1.0.now a.1.1.1.1.1.0.now a.1.1.1.1.1.1.0 d
           ws.1.1.1.1.1.1.0) (λ told.
           -- [room for _8; the other tokens; what the answer owns; what says the last values; _0; _14; _15; _6; _12; _13; the table's token; _10; _11; _9; _1; the right to free each of _15 to _8; _7; …;
           -- that of _6; _5; …; _4; …; _3; …; _2; …; that of _1; that of _0]
@@ -107,7 +107,7 @@ module _ {M : Type 1} {𝓤 : Ura M} (𝓛 : Logic 𝓤) (mem : Memory → SProp
           freed ! $ freed ! $ freed ! $ freed ! $ freed ! $ freed ! $ freed ! $ freed ! $ free1 ! $ freed ! $ freed ! $ freed ! $ freed ! $ freed ! $ freed ! $ freed ! $ free0 ! $
           -- [the other tokens; what the answer owns; what says the last values; the table's token]
           suffices ! _ (ends 𝓛 run.ended (run.clauses 𝓛 mem run') spells κs qs tt a tt w d ws.1) $
-          says ! (run-copied a.0.now xs r zs len c a.1.0 a.1.1.0.now a.1.1.1.0
+          says ! (run_copied a.0.now xs r zs len c a.1.0 a.1.1.0.now a.1.1.1.0
           a.1.1.1.1.0.now a.1.1.1.1.1.0.now a.1.1.1.1.1.1.0 d ws.1.1.1.1.1.1.0 told) $
           move ! (2 ∷ []) $ fsplit ! $ drop ! $ move ! (3 ∷ 1 ∷ []) $ join ! $ frame ! $ done !)))))))))))))))))))
 

@@ -3,7 +3,7 @@ use borrow.Author.Rules.{rules}
 use mathlib.Core.Path.{sym}
 use Prim.Native.Nat.{◌*◌}
 use lib.Seq.{length-take-le}
-use Rattle.script.specs.Flat.{nodeWidth}
+use Rattle.script.specs.Flat.{node_width}
 use Rattle.records.proofs.run_flat.Statement.{statement}
 use Rattle.records.proofs.run_flat.Tie as tie
 
@@ -11,7 +11,7 @@ slice-aggregate-run : tie.Need-slice-aggregate-run
 slice-aggregate-run c =
     let s = c.before.before.before.before.before in
     let a = s.args in
-    sym (length-take-le (nodeWidth * a.lent) a.flat.now s.requires)
+    sym (length-take-le (node_width * a.lent) a.flat.now s.requires)
 
 pub run-flat-spec : {M : Type 1} → statement M
 run-flat-spec = tie.close (tie.spec (λ c. search rules) slice-aggregate-run (λ c κs. search rules) (λ c. search rules) (λ c. search rules))

@@ -1,19 +1,19 @@
 -- `rows::branches_of` meets its contract: by the tests. Assumes nothing.
 use borrow.Author.Tests.{eq-eqb, ne_eqb}
-use Rattle.rows.specs.Decision.{branchesOf}
+use Rattle.rows.specs.Decision.{branches_of}
 use Rattle.rows.proofs.branches_of.Statement.{statement}
 use Rattle.rows.proofs.branches_of.Tie as tie
 
 returns : tie.Need-returns
-unfolding branchesOf
+unfolding branches_of
 returns c = simp (eq-eqb _ _ c.if1.true)
 
 returns-2 : tie.Need-returns-2
-unfolding branchesOf
+unfolding branches_of
 returns-2 c = simp (ne_eqb _ _ c.before.if1.false, eq-eqb _ _ c.if2.true)
 
 returns-3 : tie.Need-returns-3
-unfolding branchesOf
+unfolding branches_of
 returns-3 c = simp (ne_eqb _ _ c.before.if1.false, ne_eqb _ _ c.if2.false)
 
 pub branches-of-spec : {M : Type 1} → statement M

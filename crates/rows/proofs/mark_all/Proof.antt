@@ -1,6 +1,6 @@
 -- `rows::mark_all` meets its contract: what is left to mark gives what is wanted, and with the atoms of the rest those seen are all. Assumes nothing.
 use borrow.Author.Rules.{rules}
-use Rattle.rows.specs.Code.Loops.{Tallying, tallying, tallying-room, tallying-low, tallying-on, tallying-end, marking-end}
+use Rattle.rows.specs.Code.Loops.{Tallying, tallying, tallying-room, tallying-low, tallying_on, tallying_end, marking_end}
 use Rattle.rows.proofs.mark_all.Statement.{statement}
 use Rattle.rows.proofs.mark_all.Tie as tie
 
@@ -20,10 +20,10 @@ visit-requires c κs =
     (tallying-room t c.before.loop-test.true r, tallying-low t c.before.loop-test.true r.few)
 
 loop-again : tie.Need-loop-preserved invariant-loop decreases-loop
-loop-again c = tallying-on _ _ c.before.before.before.before.before.loop.invariant c.before.before.before.before.loop-test.true c.before.before.visit.ensures
+loop-again c = tallying_on _ _ c.before.before.before.before.before.loop.invariant c.before.before.before.before.loop-test.true c.before.before.visit.ensures
 
 returns : tie.Need-returns invariant-loop decreases-loop
-returns c = let t = c.before.loop.invariant in (tallying-end t c.loop-test.false, marking-end t.marks c.loop-test.false)
+returns c = let t = c.before.loop.invariant in (tallying_end t c.loop-test.false, marking_end t.marks c.loop-test.false)
 
 pub mark-all-spec : {M : Type 1} → statement M
 mark-all-spec =

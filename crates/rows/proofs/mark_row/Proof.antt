@@ -6,20 +6,20 @@ use lib.ListN.{length, get_or}
 use Rattle.rows.specs.Code.Laws.{below-within, reached-length, mark_made}
 use Rattle.rows.proofs.mark_row.Statement.{statement}
 use Rattle.rows.proofs.mark_row.Tie as tie
-use Rattle.terms.specs.Terms.{ofConjunction, ofNegation}
+use Rattle.terms.specs.Terms.{of_conjunction, of_negation}
 
 reach-requires : tie.Need-reach-requires
 reach-requires c κs =
     let a = c.before.before.before.before.args in
     let e = c.operand_below.ensures in
-    let h = below-within ofNegation a.row.op (get_or a.marks.now a.i 0) a.i in
+    let h = below-within of_negation a.row.op (get_or a.marks.now a.i 0) a.i in
     omega arith
 
 reach-requires-2 : tie.Need-reach-requires-2
 reach-requires-2 c κs =
     let a = c.before.before.before.before.before.before.before.before.before.args in
     let e = c.operand-below2.ensures in
-    let h = below-within ofConjunction a.row.op (get_or a.marks.now a.i 0) a.i in
+    let h = below-within of_conjunction a.row.op (get_or a.marks.now a.i 0) a.i in
     let p = c.before.before.before.before.before.before.before.before.before.requires in
     let q = ap length c.before.before.before.before.reach.ensures ∙ reached-length a.marks.now a.row.a c.before.before.before.before.before.operand_below.result (get_or a.marks.now a.i 0) in
     omega arith

@@ -9,10 +9,10 @@ use native.Mathlib.Omega.{arith}
 use Rattle.std.specs.Int.Bits.{bit_or}
 use Rattle.std.proofs.Math.ListN.{length-append, get_or-eq_default}
 use Rattle.script.specs.Tests.{pick}
-use Rattle.terms.specs.Terms.{row_in, firstAtom, ofConjunction, ofExclusion, ofNegation}
+use Rattle.terms.specs.Terms.{row_in, first_atom, of_conjunction, of_exclusion, of_negation}
 use Rattle.terms.specs.declared.Row.{Row}
 use Rattle.rows.specs.declared.Counts.{Counts}
-use Rattle.rows.specs.Code.{above, operandBelow, reached, markRow, marked, seenAfter, rank, tally, Visited, spread_of, patternOf, word_of, words}
+use Rattle.rows.specs.Code.{above, operand_below, reached, mark_row, marked, seen_after, rank, tally, Visited, spread_of, pattern_of, word_of, words}
 
 -- ---- above
 
@@ -46,9 +46,9 @@ pick-within : (b : Bool) (k n : ℕ) → k ≤ n → pick b 0 k ≤ n
 pick-within true k n h = omega arith
 pick-within false k n h = h
 
-pub below-within : (least op mark i : ℕ) → operandBelow least op mark i ≤ i
-unfolding operandBelow
-below-within least op mark i = pick-within (eqb mark 0) _ i (pick-within (ltb op least) _ i (pick-within (ltb ofExclusion op) i i (omega arith)))
+pub below-within : (least op mark i : ℕ) → operand_below least op mark i ≤ i
+unfolding operand_below
+below-within least op mark i = pick-within (eqb mark 0) _ i (pick-within (ltb op least) _ i (pick-within (ltb of_exclusion op) i i (omega arith)))
 
 pub reached-length : (ms : List ℕ) (a below mark : ℕ) → length (reached ms a below mark) ≡ length ms
 unfolding reached
@@ -63,13 +63,13 @@ reached-none : (ms : List ℕ) (a mark : ℕ) → reached ms a 0 mark ≡ ms
 unfolding reached
 reached-none ms a mark = rw (le-leb 0 a (omega arith))
 
-below-unmarked : (least op i : ℕ) → operandBelow least op 0 i ≡ 0
-unfolding operandBelow
-below-unmarked least op i = refl
+below_unmarked : (least op i : ℕ) → operand_below least op 0 i ≡ 0
+unfolding operand_below
+below_unmarked least op i = refl
 
-below-atom : (least op mark i : ℕ) → firstAtom ≤ op → operandBelow least op mark i ≡ 0
-unfolding operandBelow
-below-atom least op mark i h = rw (lt-ltb ofExclusion op h) (go (eqb mark 0) (ltb op least))
+below-atom : (least op mark i : ℕ) → first_atom ≤ op → operand_below least op mark i ≡ 0
+unfolding operand_below
+below-atom least op mark i h = rw (lt-ltb of_exclusion op h) (go (eqb mark 0) (ltb op least))
   where
     go : (a b : Bool) → pick a zero (pick b zero zero) ≡ 0
     go true b = refl
@@ -77,40 +77,40 @@ below-atom least op mark i h = rw (lt-ltb ofExclusion op h) (go (eqb mark 0) (lt
     go false false = refl
 
 -- both operands, one after the other
-pub mark_made : (ms mid last : List ℕ) (r : Row) (i f s : ℕ) → f ≡ operandBelow ofNegation r.op (get_or ms i 0) i → mid ≡ reached ms r.a f (get_or ms i 0)
-    → s ≡ operandBelow ofConjunction r.op (get_or ms i 0) i → last ≡ reached mid r.b s (get_or ms i 0) → last ≡ markRow ms r i
-unfolding markRow
+pub mark_made : (ms mid last : List ℕ) (r : Row) (i f s : ℕ) → f ≡ operand_below of_negation r.op (get_or ms i 0) i → mid ≡ reached ms r.a f (get_or ms i 0)
+    → s ≡ operand_below of_conjunction r.op (get_or ms i 0) i → last ≡ reached mid r.b s (get_or ms i 0) → last ≡ mark_row ms r i
+unfolding mark_row
 mark_made ms mid last r i f s ef em es el = rw (el, em, ef, es)
 
-pub markRow-length : (ms : List ℕ) (r : Row) (i : ℕ) → length (markRow ms r i) ≡ length ms
-unfolding markRow
-markRow-length ms r i = reached-length _ r.b _ _ ∙ reached-length ms r.a _ _
+pub mark_row-length : (ms : List ℕ) (r : Row) (i : ℕ) → length (mark_row ms r i) ≡ length ms
+unfolding mark_row
+mark_row-length ms r i = reached-length _ r.b _ _ ∙ reached-length ms r.a _ _
 
 -- a row with no mark marks none, and no more does an atom
-mark-unmarked : (ms : List ℕ) (r : Row) (i : ℕ) → get_or ms i 0 ≡ 0 → ms ≡ markRow ms r i
-unfolding markRow
-mark-unmarked ms r i e =
-    rw (e, below-unmarked ofNegation r.op i, below-unmarked ofConjunction r.op i, reached-none ms r.a 0, reached-none ms r.b 0)
+mark_unmarked : (ms : List ℕ) (r : Row) (i : ℕ) → get_or ms i 0 ≡ 0 → ms ≡ mark_row ms r i
+unfolding mark_row
+mark_unmarked ms r i e =
+    rw (e, below_unmarked of_negation r.op i, below_unmarked of_conjunction r.op i, reached-none ms r.a 0, reached-none ms r.b 0)
 
-mark-atom : (ms : List ℕ) (r : Row) (i : ℕ) → firstAtom ≤ r.op → ms ≡ markRow ms r i
-unfolding markRow
-mark-atom ms r i h =
+mark_atom : (ms : List ℕ) (r : Row) (i : ℕ) → first_atom ≤ r.op → ms ≡ mark_row ms r i
+unfolding mark_row
+mark_atom ms r i h =
     let m = get_or ms i 0 in
-    rw (below-atom ofNegation r.op m i h, below-atom ofConjunction r.op m i h, reached-none ms r.a m, reached-none ms r.b m)
+    rw (below-atom of_negation r.op m i h, below-atom of_conjunction r.op m i h, reached-none ms r.a m, reached-none ms r.b m)
 
 pub marked-length : (ws : List ℕ) (n : ℕ) (ms : List ℕ) → length (marked ws n ms) ≡ length ms
 unfolding marked
 marked-length ws zero ms = refl
-marked-length ws (suc j) ms = marked-length ws j (markRow ms (row_in ws j) j) ∙ markRow-length ms (row_in ws j) j
+marked-length ws (suc j) ms = marked-length ws j (mark_row ms (row_in ws j) j) ∙ mark_row-length ms (row_in ws j) j
 
 pub marked-none : (ws ms : List ℕ) → marked ws 0 ms ≡ ms
 unfolding marked
 marked-none ws ms = refl
 
 -- one row of the rest
-pub marked-on : (ws ms : List ℕ) (j k : ℕ) → j ≡ suc k → marked ws k (markRow ms (row_in ws k) k) ≡ marked ws j ms
+pub marked_on : (ws ms : List ℕ) (j k : ℕ) → j ≡ suc k → marked ws k (mark_row ms (row_in ws k) k) ≡ marked ws j ms
 unfolding marked
-marked-on ws ms j k e = rw e refl
+marked_on ws ms j k e = rw e refl
 
 -- ---- atoms
 
@@ -120,27 +120,27 @@ rank-none ws ms least = refl
 
 module _ (op mark least : ℕ) where
   -- counted before or after is the same
-  pub seen-sum : (a b : ℕ) → seenAfter op mark least a + b ≡ a + seenAfter op mark least b
-  unfolding seenAfter
-  seen-sum a b = go (ltb mark least) (ltb op firstAtom)
+  pub seen_sum : (a b : ℕ) → seen_after op mark least a + b ≡ a + seen_after op mark least b
+  unfolding seen_after
+  seen_sum a b = go (ltb mark least) (ltb op first_atom)
     where
       go : (s t : Bool) → pick s a (pick t a (a + 1)) + b ≡ a + pick s b (pick t b (b + 1))
       go true t = refl
       go false true = refl
       go false false = omega arith
 
-  pub seen-grows : (seen : ℕ) → seen ≤ seenAfter op mark least seen
-  unfolding seenAfter
-  seen-grows seen = go (ltb mark least) (ltb op firstAtom)
+  pub seen_grows : (seen : ℕ) → seen ≤ seen_after op mark least seen
+  unfolding seen_after
+  seen_grows seen = go (ltb mark least) (ltb op first_atom)
     where
       go : (s t : Bool) → seen ≤ pick s seen (pick t seen (seen + 1))
       go true t = omega arith
       go false true = omega arith
       go false false = omega arith
 
-  pub seen_most : (seen : ℕ) → seenAfter op mark least seen ≤ suc seen
-  unfolding seenAfter
-  seen_most seen = go (ltb mark least) (ltb op firstAtom)
+  pub seen_most : (seen : ℕ) → seen_after op mark least seen ≤ suc seen
+  unfolding seen_after
+  seen_most seen = go (ltb mark least) (ltb op first_atom)
     where
       go : (s t : Bool) → pick s seen (pick t seen (seen + 1)) ≤ suc seen
       go true t = omega arith
@@ -148,29 +148,29 @@ module _ (op mark least : ℕ) where
       go false false = omega arith
 
 -- a row with no mark is not counted
-seen-unmarked : (op least seen : ℕ) → 0 < least → seenAfter op 0 least seen ≡ seen
-unfolding seenAfter
-seen-unmarked op least seen h = rw (lt-ltb 0 least h)
+seen_unmarked : (op least seen : ℕ) → 0 < least → seen_after op 0 least seen ≡ seen
+unfolding seen_after
+seen_unmarked op least seen h = rw (lt-ltb 0 least h)
 
-tally-unmarked : (op mark : ℕ) (k : Counts) → mark ≡ 0 → k ≡ tally op mark k
+tally_unmarked : (op mark : ℕ) (k : Counts) → mark ≡ 0 → k ≡ tally op mark k
 unfolding tally
-tally-unmarked op mark k e =
-    rw (e, seen-unmarked op 1 k.all (omega arith), seen-unmarked op 2 k.own (omega arith), seen-unmarked op 3 k.shared (omega arith))
+tally_unmarked op mark k e =
+    rw (e, seen_unmarked op 1 k.all (omega arith), seen_unmarked op 2 k.own (omega arith), seen_unmarked op 3 k.shared (omega arith))
 
 -- nor is one that is no atom
-seen_other : (op mark least seen : ℕ) → op < firstAtom → seenAfter op mark least seen ≡ seen
-unfolding seenAfter
-seen_other op mark least seen h = rw (lt-ltb op firstAtom h) (go (ltb mark least))
+seen_other : (op mark least seen : ℕ) → op < first_atom → seen_after op mark least seen ≡ seen
+unfolding seen_after
+seen_other op mark least seen h = rw (lt-ltb op first_atom h) (go (ltb mark least))
   where
     go : (s : Bool) → pick s seen seen ≡ seen
     go true = refl
     go false = refl
 
-tally-other : (op mark : ℕ) (k : Counts) → op < firstAtom → k ≡ tally op mark k
+tally-other : (op mark : ℕ) (k : Counts) → op < first_atom → k ≡ tally op mark k
 unfolding tally
 tally-other op mark k h = rw (seen_other op mark 1 k.all h, seen_other op mark 2 k.own h, seen_other op mark 3 k.shared h)
 
-tally-made : (op mark a b d : ℕ) (k : Counts) → a ≡ seenAfter op mark 1 k.all → b ≡ seenAfter op mark 2 k.own → d ≡ seenAfter op mark 3 k.shared
+tally-made : (op mark a b d : ℕ) (k : Counts) → a ≡ seen_after op mark 1 k.all → b ≡ seen_after op mark 2 k.own → d ≡ seen_after op mark 3 k.shared
     → record { all = a; own = b; shared = d } ≡ tally op mark k
 unfolding tally
 tally-made op mark a b d k ea eb ed = rw (ea, eb, ed)
@@ -178,24 +178,24 @@ tally-made op mark a b d k ea eb ed = rw (ea, eb, ed)
 -- ---- one row: marked and counted
 
 module _ {ws ms : List ℕ} (i : ℕ) (k : Counts) where
-  pub visited-unmarked : get_or ms i 0 ≡ 0 → Visited ws ms i k k ms
-  visited-unmarked e =
-      record { counts = tally-unmarked (row_in ws i).op (get_or ms i 0) k e; marks = mark-unmarked ms (row_in ws i) i e }
+  pub visited_unmarked : get_or ms i 0 ≡ 0 → Visited ws ms i k k ms
+  visited_unmarked e =
+      record { counts = tally_unmarked (row_in ws i).op (get_or ms i 0) k e; marks = mark_unmarked ms (row_in ws i) i e }
 
-  pub visited-atom : (r : Row) (a b d : ℕ) → r ≡ row_in ws i → firstAtom ≤ r.op → a ≡ seenAfter r.op (get_or ms i 0) 1 k.all
-      → b ≡ seenAfter r.op (get_or ms i 0) 2 k.own → d ≡ seenAfter r.op (get_or ms i 0) 3 k.shared
+  pub visited_atom : (r : Row) (a b d : ℕ) → r ≡ row_in ws i → first_atom ≤ r.op → a ≡ seen_after r.op (get_or ms i 0) 1 k.all
+      → b ≡ seen_after r.op (get_or ms i 0) 2 k.own → d ≡ seen_after r.op (get_or ms i 0) 3 k.shared
       → Visited ws ms i k (record { all = a; own = b; shared = d }) ms
-  visited-atom r a b d e h ea eb ed =
+  visited_atom r a b d e h ea eb ed =
       record {
         counts = tally-made r.op (get_or ms i 0) a b d k ea eb ed ∙ ap (λ (q : Row). tally q.op (get_or ms i 0) k) e;
-        marks = mark-atom ms r i h ∙ ap (λ (q : Row). markRow ms q i) e;
+        marks = mark_atom ms r i h ∙ ap (λ (q : Row). mark_row ms q i) e;
       }
 
-  pub visited-other : (r : Row) (out : List ℕ) → r ≡ row_in ws i → r.op < firstAtom → out ≡ markRow ms r i → Visited ws ms i k k out
-  visited-other r out e h eo =
+  pub visited_other : (r : Row) (out : List ℕ) → r ≡ row_in ws i → r.op < first_atom → out ≡ mark_row ms r i → Visited ws ms i k k out
+  visited_other r out e h eo =
       record {
         counts = tally-other r.op (get_or ms i 0) k h ∙ ap (λ (q : Row). tally q.op (get_or ms i 0) k) e;
-        marks = eo ∙ ap (λ (q : Row). markRow ms q i) e;
+        marks = eo ∙ ap (λ (q : Row). mark_row ms q i) e;
       }
 
 -- ---- words
@@ -203,11 +203,11 @@ module _ {ws ms : List ℕ} (i : ℕ) (k : Counts) where
 pub past : (m k : ℕ) → k ≤ m → (m ≡ k → ⊥) → suc k ≤ m
 past m k h n = omega arith
 
-pub pattern-many : (m block : ℕ) → 8 < m → patternOf m block ≡ spread_of (block / 8 % 2)
-unfolding patternOf
-pattern-many m block h = go (m - 9) (omega arith)
+pub pattern_many : (m block : ℕ) → 8 < m → pattern_of m block ≡ spread_of (block / 8 % 2)
+unfolding pattern_of
+pattern_many m block h = go (m - 9) (omega arith)
   where
-    go : (t : ℕ) → m ≡ suc (suc (suc (suc (suc (suc (suc (suc (suc t)))))))) → patternOf m block ≡ spread_of (block / 8 % 2)
+    go : (t : ℕ) → m ≡ suc (suc (suc (suc (suc (suc (suc (suc (suc t)))))))) → pattern_of m block ≡ spread_of (block / 8 % 2)
     go t e = rw e refl
 
 module _ (ws ms : List ℕ) (least : ℕ) (ns : List ℕ) (block : ℕ) where

@@ -2,19 +2,19 @@
 -- What is known of a cell is seen by an `if` on what `get` gives: only where the stored value is known, one branch alone is followed. Proved together by
 -- computation. Assumes nothing.
 use Rattle.std.specs.Prelude.{◌≡◌, refl, List, [], ◌∷◌, ◌++◌, map, replicate}
-use Rattle.script.specs.Answers.{valueIs}
+use Rattle.script.specs.Answers.{value_is}
 use Rattle.script.specs.Table.Cases.{lend, int', true', var', add', eq', and', if', let', ref', get', set', typed', sym'}
 use Rattle.script.specs.declared.Node.{Node}
 use Rattle.script.specs.declared.Place.TheVariants.{At}
 use Rattle.rules.specs.Cases.{Case, run?, runs, five, asking, right, accepts, refuses, computed}
 
-abbrev stored-away : List Node
-stored-away =
+abbrev stored_away : List Node
+stored_away =
     int' 7 ∷ ref' 0 ∷ var' 0 ∷ var' 1 ∷ set' 2 3 ∷ int' 0 ∷ typed' 5 ∷ var' 1 ∷ int' 7 ∷ set' 7 8 ∷ var' 0 ∷ get' 10 ∷ int' 8 ∷ set' 11 12 ∷ var' 1 ∷ get' 14 ∷ int' 7 ∷ eq' 15 16 ∷ int' 1 ∷ true' ∷ if' 17 18 19
     ∷ let' 13 20 ∷ let' 9 21 ∷ let' 6 22 ∷ let' 4 23 ∷ let' 1 24 ∷ sym' 25 ∷ []
 
-unfoldable pub new-cells : List Case
-new-cells =
+unfoldable pub new_cells : List Case
+new_cells =
     -- a new cell, a write through it, one through an entry, and the new cell read: it keeps 8
     accepts (2 ∷ [])
     (int' 7 ∷ ref' 0 ∷ var' 1 ∷ int' 8 ∷ set' 2 3 ∷ var' 0 ∷ int' 9 ∷ set' 5 6 ∷ var' 1 ∷ get' 8 ∷ int' 8 ∷ eq' 9 10 ∷ int' 1 ∷ true' ∷ if' 11 12 13 ∷ let' 7 14 ∷ let' 4 15 ∷ let' 1 16 ∷ sym' 17 ∷ [])
@@ -45,8 +45,8 @@ new-cells =
     (int' 6 ∷ ref' 0 ∷ int' 7 ∷ ref' 2 ∷ var' 0 ∷ int' 8 ∷ set' 4 5 ∷ var' 1 ∷ get' 7 ∷ int' 7 ∷ eq' 8 9 ∷ int' 1 ∷ true' ∷ if' 10 11 12 ∷ let' 6 13 ∷ let' 3 14 ∷ sym' 15 ∷ typed' 16 ∷ let' 1 17 ∷ sym' 18 ∷ [])
     0
     -- what `get` makes may be any cell, a new one too: here the new one's location was stored where it reads, and the run stores 8 there
-    ∷ refuses (4 ∷ []) stored-away 10 (At 26)
-    ∷ record { table = lend (4 ∷ []) stored-away; question = run? (five 2 0) (five 2 1 ++ five 0 5 ++ replicate 950 0) 2; answer = runs (valueIs 1 1 3) (five 2 2 ++ five 0 5) }
+    ∷ refuses (4 ∷ []) stored_away 10 (At 26)
+    ∷ record { table = lend (4 ∷ []) stored_away; question = run? (five 2 0) (five 2 1 ++ five 0 5 ++ replicate 950 0) 2; answer = runs (value_is 1 1 3) (five 2 2 ++ five 0 5) }
     -- so may a typed block's value, here in a variable that a `let` of the path binds, also for a `sym` behind it
     ∷ refuses (2 ∷ [])
     (var' 0 ∷ typed' 0 ∷ int' 7 ∷ ref' 2 ∷ var' 1 ∷ int' 8 ∷ set' 4 5 ∷ var' 2 ∷ get' 7 ∷ int' 7 ∷ eq' 8 9 ∷ int' 1 ∷ true' ∷ if' 10 11 12 ∷ let' 6 13 ∷ let' 3 14 ∷ sym' 15 ∷ let' 1 16 ∷ sym' 17 ∷ [])
@@ -57,6 +57,6 @@ new-cells =
     10 (At 18)
     ∷ []
 
-pub new-cells-hold : map asking new-cells ≡ map right new-cells
-unfolding new-cells computed
-new-cells-hold = refl
+pub new_cells_hold : map asking new_cells ≡ map right new_cells
+unfolding new_cells computed
+new_cells_hold = refl

@@ -1,19 +1,19 @@
 -- Rows that tell what `get` finds from what it doesn't while a cell holds a value of a wrong type (docs/CHECKS.md, 'Nodes on a path'): what is found has its
 -- own type and needs no consistent log, all else does. Proved together by computation. Assumes nothing.
 use Rattle.std.specs.Prelude.{◌≡◌, refl, List, [], ◌∷◌, ◌++◌, map, replicate}
-use Rattle.script.specs.Answers.{valueIs}
+use Rattle.script.specs.Answers.{value_is}
 use Rattle.script.specs.Table.Cases.{lend, int', true', var', add', if', let', ref', get', set', typed', sym'}
 use Rattle.script.specs.declared.Node.{Node}
 use Rattle.script.specs.declared.Place.TheVariants.{At}
 use Rattle.rules.specs.Cases.{Case, run?, runs, five, asking, right, accepts, refuses, computed}
 
 -- a word through one entry, a flag through the other, a look through the first, and the word back; the value is what the look gave
-abbrev maybe-shared : List Node
-maybe-shared =
+abbrev maybe_shared : List Node
+maybe_shared =
     var' 0 ∷ int' 7 ∷ set' 0 1 ∷ var' 1 ∷ true' ∷ set' 3 4 ∷ var' 0 ∷ get' 6 ∷ var' 1 ∷ int' 8 ∷ set' 8 9 ∷ var' 4 ∷ let' 10 11 ∷ let' 7 12 ∷ let' 5 13 ∷ let' 2 14 ∷ sym' 15 ∷ []
 
-unfoldable pub scratch-cells : List Case
-scratch-cells =
+unfoldable pub scratch_cells : List Case
+scratch_cells =
     -- a flag in a cell of words, a look at it, and a word back; the look gave a truth
     accepts (2 ∷ []) (var' 0 ∷ true' ∷ set' 0 1 ∷ var' 0 ∷ get' 3 ∷ var' 0 ∷ int' 7 ∷ set' 5 6 ∷ var' 2 ∷ let' 7 8 ∷ let' 4 9 ∷ let' 2 10 ∷ sym' 11 ∷ []) 1
     -- no word back
@@ -45,10 +45,10 @@ scratch-cells =
     (var' 0 ∷ true' ∷ set' 0 1 ∷ var' 1 ∷ int' 7 ∷ set' 3 4 ∷ var' 1 ∷ get' 6 ∷ var' 0 ∷ int' 8 ∷ set' 8 9 ∷ var' 4 ∷ let' 10 11 ∷ let' 7 12 ∷ let' 5 13 ∷ let' 2 14 ∷ sym' 15 ∷ [])
     0
     -- a right write further back is not found past a possible alias: where both entries are one cell, the look gives the flag
-    ∷ refuses (2 ∷ 2 ∷ []) maybe-shared 9 (At 7)
-    ∷ record { table = lend (2 ∷ 2 ∷ []) maybe-shared; question = run? (five 2 0 ++ five 2 0) (five 0 5 ++ replicate 955 0) 1; answer = runs (valueIs 1 1 1) (five 0 8 ++ five 0 0) }
+    ∷ refuses (2 ∷ 2 ∷ []) maybe_shared 9 (At 7)
+    ∷ record { table = lend (2 ∷ 2 ∷ []) maybe_shared; question = run? (five 2 0 ++ five 2 0) (five 0 5 ++ replicate 955 0) 1; answer = runs (value_is 1 1 1) (five 0 8 ++ five 0 0) }
     ∷ []
 
-pub scratch-cells-hold : map asking scratch-cells ≡ map right scratch-cells
-unfolding scratch-cells computed
-scratch-cells-hold = refl
+pub scratch_cells_hold : map asking scratch_cells ≡ map right scratch_cells
+unfolding scratch_cells computed
+scratch_cells_hold = refl

@@ -1,10 +1,10 @@
 -- Rows that tell the rules from the four traps (docs/CHECKS.md, 'What is easily got wrong') and from the wrong programs of the reviewer's checklist, proved together by computation.
 -- Assumes nothing.
 use Rattle.std.specs.Prelude.{true, ◌≡◌, refl, List, [], ◌∷◌, map, ◌-◌, ◌^◌, replicate}
-use Rattle.script.specs.Answers.{valueIs}
+use Rattle.script.specs.Answers.{value_is}
 use Rattle.script.specs.Table.Cases.{int', true', false', var', eq', and', if', let', ref', get', set', typed', sym'}
 use Rattle.script.specs.declared.Place.TheVariants.{At}
-use Rattle.rules.specs.Symbolic.{oppositeEach, sameEach, sameSum, difference, sameAtom}
+use Rattle.rules.specs.Symbolic.{opposite_each, same_each, same_sum, difference, same_atom}
 use Rattle.rules.specs.Cases.{Case, asking, right, accepts, refuses, ends, computed}
 
 unfoldable pub traps : List Case
@@ -36,17 +36,17 @@ traps =
     ∷ refuses (2 ∷ []) (var' 0 ∷ true' ∷ set' 0 1 ∷ []) 6 (At 2)
     -- a run that stores nothing, and one with an invented used count
     ∷ ends (int' 1 ∷ ref' 0 ∷ var' 0 ∷ int' 2 ∷ set' 2 3 ∷ var' 0 ∷ get' 5 ∷ let' 4 6 ∷ let' 1 7 ∷ [])
-    (valueIs 0 2 1) (0 ∷ 2 ∷ 0 ∷ 0 ∷ 0 ∷ 0 ∷ 0 ∷ 0 ∷ 0 ∷ 0 ∷ [])
+    (value_is 0 2 1) (0 ∷ 2 ∷ 0 ∷ 0 ∷ 0 ∷ 0 ∷ 0 ∷ 0 ∷ 0 ∷ 0 ∷ [])
     -- an `and` that skips its second operand, which stores 2
     ∷ ends (int' 1 ∷ ref' 0 ∷ false' ∷ var' 0 ∷ int' 2 ∷ set' 3 4 ∷ int' 2 ∷ eq' 5 6 ∷ and' 2 7 ∷ let' 1 8 ∷ [])
-    (valueIs 1 0 1) (0 ∷ 2 ∷ 0 ∷ 0 ∷ 0 ∷ 0 ∷ 0 ∷ 0 ∷ 0 ∷ 0 ∷ [])
+    (value_is 1 0 1) (0 ∷ 2 ∷ 0 ∷ 0 ∷ 0 ∷ 0 ∷ 0 ∷ 0 ∷ 0 ∷ 0 ∷ [])
     ∷ []
 
-pub traps-hold : map asking traps ≡ map right traps
+pub traps_hold : map asking traps ≡ map right traps
 unfolding traps computed
-traps-hold = refl
+traps_hold = refl
 
 -- 2^31 x is its own negation, so 2^31 x = 5 and 2^31 x = -5 are one atom; a script of 128 nodes has no room to show it
-pub one-half-atom : sameAtom (difference (record { constant = 2 ^ 32 - 5; coefficients = 2 ^ 31 ∷ [] })) (difference (record { constant = 5; coefficients = 2 ^ 31 ∷ [] })) ≡ true
-unfolding sameAtom sameSum sameEach oppositeEach
-one-half-atom = refl
+pub one_half-atom : same_atom (difference (record { constant = 2 ^ 32 - 5; coefficients = 2 ^ 31 ∷ [] })) (difference (record { constant = 5; coefficients = 2 ^ 31 ∷ [] })) ≡ true
+unfolding same_atom same_sum same_each opposite_each
+one_half-atom = refl

@@ -7,17 +7,17 @@ use Rattle.std.proofs.Math.Path.{refl, ap}
 use Rattle.std.proofs.Common.{◌∙◌, arith, eq-eqb}
 use Rattle.std.proofs.Math.ListN.{get_elem?}
 use Rattle.script.specs.Tests.{pick}
-use Rattle.script.specs.Tests.Laws.{or-first, or-second}
-use Rattle.script.specs.Tree.{Expr, int, truth, var, unary, binary, ifElse, letIn, typedBlock, symBlock}
+use Rattle.script.specs.Tests.Laws.{or_first, or_second}
+use Rattle.script.specs.Tree.{Expr, int, truth, var, unary, binary, if_else, let_in, typed_block, sym_block}
 use Rattle.script.specs.declared.Checked.{Checked}
 use Rattle.script.specs.declared.Checked.TheVariants.{Accepted, Refused}
 use Rattle.script.specs.declared.Refusal.TheVariants.{TooManyAtoms}
 use Rattle.rules.specs.Checking.{check, exec, known}
 use Rattle.rules.specs.Paths.{Path, Paths, ends, stops, forks, start, bind, leaves}
-use Rattle.rules.specs.Satisfiable.{differentAtoms}
-use Rattle.rules.specs.Symbolic.{initial, Symbolic, aWord, aTruth, aReference, conjunction, type_of, symbol, symbols}
-use Rattle.rules.specs.SymbolicRules.{unaryExec, binaryExec, branches, atomLimit, decide, typedResult, variable, verdict}
-use Rattle.rules.specs.TypedRules.{and_then, unaryType, binaryType, ifType}
+use Rattle.rules.specs.Satisfiable.{different_atoms}
+use Rattle.rules.specs.Symbolic.{initial, Symbolic, a_word, a_truth, a_reference, conjunction, type_of, symbol, symbols}
+use Rattle.rules.specs.SymbolicRules.{unary_exec, binary_exec, branches, atom_limit, decide, typed_result, variable, verdict}
+use Rattle.rules.specs.TypedRules.{and_then, unary_type, binary_type, if_type}
 
 -- whether some `var` of the tree is variable k
 unfoldable pub mentions : Expr → ℕ → Bool
@@ -26,10 +26,10 @@ mentions (truth n b) k = false
 mentions (var n j) k = eqb j k
 mentions (unary n o e) k = mentions e k
 mentions (binary n o e f) k = mentions e k || mentions f k
-mentions (ifElse n c e f) k = mentions c k || (mentions e k || mentions f k)
-mentions (letIn n e f) k = mentions e k || mentions f k
-mentions (typedBlock n e) k = mentions e k
-mentions (symBlock n e) k = mentions e k
+mentions (if_else n c e f) k = mentions c k || (mentions e k || mentions f k)
+mentions (let_in n e f) k = mentions e k || mentions f k
+mentions (typed_block n e) k = mentions e k
+mentions (sym_block n e) k = mentions e k
 
 -- ---- lists that agree at the places that pass a test
 
@@ -68,11 +68,11 @@ module _ {A : Type 0} {m : ℕ → Bool} where
 module _ {A : Type 0} (l m : ℕ → Bool) where
   pub alike-first : {i : ℕ} {xs ys : List A} → Alike (λ k. l k || m k) i xs ys → Alike l i xs ys
   alike-first alike_end = alike_end
-  alike-first {i = i} (alike_next h a) = alike_next (λ t. h (or-first (l i) (m i) t)) (alike-first a)
+  alike-first {i = i} (alike_next h a) = alike_next (λ t. h (or_first (l i) (m i) t)) (alike-first a)
 
   pub alike-second : {i : ℕ} {xs ys : List A} → Alike (λ k. l k || m k) i xs ys → Alike m i xs ys
   alike-second alike_end = alike_end
-  alike-second {i = i} (alike_next h a) = alike_next (λ t. h (or-second (l i) (m i) t)) (alike-second a)
+  alike-second {i = i} (alike_next h a) = alike_next (λ t. h (or_second (l i) (m i) t)) (alike-second a)
 
 module _ {m : ℕ → Bool} where
   pub alike-types : {i : ℕ} {xs ys : List Symbolic} → Alike m i xs ys → Alike m i (map type_of xs) (map type_of ys)
@@ -97,8 +97,8 @@ bind-same (stops r) k l h = refl
 bind-same (forks t u) k l h = rw (bind-same t k l h, bind-same u k l h)
 
 -- from the same
-then-alike : {c d : Checked} (k l : ℕ → Checked) → c ≡ d → ((t : ℕ) → k t ≡ l t) → and_then c k ≡ and_then d l
-then-alike {c} k l e h = then_same c k l h ∙ ap (λ (d : Checked). and_then d l) e
+then_alike : {c d : Checked} (k l : ℕ → Checked) → c ≡ d → ((t : ℕ) → k t ≡ l t) → and_then c k ≡ and_then d l
+then_alike {c} k l e h = then_same c k l h ∙ ap (λ (d : Checked). and_then d l) e
 
 bind-alike : {t u : Paths} (k l : Symbolic → Path → Paths) → t ≡ u → ((v : Symbolic) (p : Path) → k v p ≡ l v p) → bind t k ≡ bind u l
 bind-alike {t} k l e h = bind-same t k l h ∙ ap (λ (u : Paths). bind u l) e
@@ -112,16 +112,16 @@ module _ {e e' f f' : Path → Paths} (h : (p : Path) → e p ≡ e' p) (i : (p 
 
   decide-same : (n : ℕ) (v : Symbolic) (p : Path) → decide n v p e f ≡ decide n v p e' f'
   unfolding decide
-  decide-same n (aWord a) p = refl
-  decide-same n (aTruth g) p =
-      ap (λ (t : Paths). pick (leb (length (differentAtoms (conjunction p.condition g))) atomLimit) t (stops (TooManyAtoms n))) (branches-same _ _ _ _)
-  decide-same n (aReference o t s) p = refl
+  decide-same n (a_word a) p = refl
+  decide-same n (a_truth g) p =
+      ap (λ (t : Paths). pick (leb (length (different_atoms (conjunction p.condition g))) atom_limit) t (stops (TooManyAtoms n))) (branches-same _ _ _ _)
+  decide-same n (a_reference o t s) p = refl
 
 -- ---- every tree
 
 -- what is left of an `if` after its condition
-abbrev branchMentions : Expr → Expr → ℕ → Bool
-branchMentions e f k = mentions e k || mentions f k
+abbrev branch_mentions : Expr → Expr → ℕ → Bool
+branch_mentions e f k = mentions e k || mentions f k
 
 mutual
   unfolding check mentions
@@ -130,20 +130,20 @@ mutual
   check-alike limit (int n w) a = refl
   check-alike limit (truth n b) a = refl
   check-alike limit (var n k) a = ap (known n) (alike_at k k a (omega arith) (eq-eqb k k refl))
-  check-alike limit (unary n o e) a = ap (λ (c : Checked). and_then c (unaryType n o)) (check-alike limit e a)
+  check-alike limit (unary n o e) a = ap (λ (c : Checked). and_then c (unary_type n o)) (check-alike limit e a)
   check-alike limit (binary n o e f) a =
-      then-alike _ _ (check-alike limit e (alike-first (mentions e) (mentions f) a)) λ t.
-      ap (λ (c : Checked). and_then c (binaryType n o t)) (check-alike limit f (alike-second (mentions e) (mentions f) a))
-  check-alike limit (ifElse n c e f) a =
-      let s = alike-second (mentions c) (branchMentions e f) a in
-      then-alike _ _ (check-alike limit c (alike-first (mentions c) (branchMentions e f) a)) λ t.
-      then-alike _ _ (check-alike limit e (alike-first (mentions e) (mentions f) s)) λ u.
-      ap (λ (d : Checked). and_then d (ifType n t u)) (check-alike limit f (alike-second (mentions e) (mentions f) s))
-  check-alike limit (letIn n e f) a =
-      then-alike _ _ (check-alike limit e (alike-first (mentions e) (mentions f) a)) λ t.
+      then_alike _ _ (check-alike limit e (alike-first (mentions e) (mentions f) a)) λ t.
+      ap (λ (c : Checked). and_then c (binary_type n o t)) (check-alike limit f (alike-second (mentions e) (mentions f) a))
+  check-alike limit (if_else n c e f) a =
+      let s = alike-second (mentions c) (branch_mentions e f) a in
+      then_alike _ _ (check-alike limit c (alike-first (mentions c) (branch_mentions e f) a)) λ t.
+      then_alike _ _ (check-alike limit e (alike-first (mentions e) (mentions f) s)) λ u.
+      ap (λ (d : Checked). and_then d (if_type n t u)) (check-alike limit f (alike-second (mentions e) (mentions f) s))
+  check-alike limit (let_in n e f) a =
+      then_alike _ _ (check-alike limit e (alike-first (mentions e) (mentions f) a)) λ t.
       check-alike limit f (alike-more t (alike-second (mentions e) (mentions f) a))
-  check-alike limit (typedBlock n e) a = check-alike limit e a
-  check-alike limit (symBlock n e) {xs} {ys} a =
+  check-alike limit (typed_block n e) a = check-alike limit e a
+  check-alike limit (sym_block n e) {xs} {ys} a =
       ap (λ (t : Paths). verdict n limit (leaves t))
       (exec-alike limit e (start (length xs)) (alike-symbols 0 a) ∙ ap (λ (l : ℕ). exec limit e (symbols 0 ys) (start l)) (alike-length a))
 
@@ -151,20 +151,20 @@ mutual
   exec-alike limit (int n w) p a = refl
   exec-alike limit (truth n b) p a = refl
   exec-alike limit (var n k) p a = ap (variable n p) (alike_at k k a (omega arith) (eq-eqb k k refl))
-  exec-alike limit (unary n o e) p a = ap (λ (t : Paths). bind t (unaryExec n o)) (exec-alike limit e p a)
+  exec-alike limit (unary n o e) p a = ap (λ (t : Paths). bind t (unary_exec n o)) (exec-alike limit e p a)
   exec-alike limit (binary n o e f) p a =
       bind-alike _ _ (exec-alike limit e p (alike-first (mentions e) (mentions f) a)) λ v q.
-      ap (λ (t : Paths). bind t (binaryExec n o v)) (exec-alike limit f q (alike-second (mentions e) (mentions f) a))
-  exec-alike limit (ifElse n c e f) p a =
-      let s = alike-second (mentions c) (branchMentions e f) a in
-      bind-alike _ _ (exec-alike limit c p (alike-first (mentions c) (branchMentions e f) a)) λ v q.
+      ap (λ (t : Paths). bind t (binary_exec n o v)) (exec-alike limit f q (alike-second (mentions e) (mentions f) a))
+  exec-alike limit (if_else n c e f) p a =
+      let s = alike-second (mentions c) (branch_mentions e f) a in
+      bind-alike _ _ (exec-alike limit c p (alike-first (mentions c) (branch_mentions e f) a)) λ v q.
       decide-same (λ r. exec-alike limit e r (alike-first (mentions e) (mentions f) s))
       (λ r. exec-alike limit f r (alike-second (mentions e) (mentions f) s)) n v q
-  exec-alike limit (letIn n e f) p a =
+  exec-alike limit (let_in n e f) p a =
       bind-alike _ _ (exec-alike limit e p (alike-first (mentions e) (mentions f) a)) λ v q.
       exec-alike limit f q (alike-more v (alike-second (mentions e) (mentions f) a))
-  exec-alike limit (typedBlock n e) p a = ap (typedResult n p) (check-alike limit e (alike-types a))
-  exec-alike limit (symBlock n e) p a = exec-alike limit e p a
+  exec-alike limit (typed_block n e) p a = ap (typed_result n p) (check-alike limit e (alike-types a))
+  exec-alike limit (sym_block n e) p a = exec-alike limit e p a
 
 -- THE LAW: a check depends on how many variables there are and on the types of those mentioned
 pub check-same : (limit : ℕ) (e : Expr) (xs ys : List ℕ) → length xs ≡ length ys → ((k : ℕ) → mentions e k ≡ true → get_elem? xs k ≡ get_elem? ys k)

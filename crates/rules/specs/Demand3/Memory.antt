@@ -9,16 +9,16 @@ use Rattle.script.specs.Tests.Laws.{both_true, some-not-none}
 use Rattle.script.specs.declared.Value.{Value}
 use Rattle.script.specs.declared.Value.TheVariants.{Location}
 use Rattle.rules.specs.Demand3.Meaning.{Entry, entry}
-use Rattle.rules.specs.Demand3.Stands.{StandsFor, Distinct, stands-extends, stands-type, apart-differ, not-apart, same-cell, location-inside, valuation}
-use Rattle.rules.specs.Paths.{Write, writeOf, isRight, has, consistentAfter, lookup}
+use Rattle.rules.specs.Demand3.Stands.{StandsFor, Distinct, stands-extends, stands-type, apart-differ, not-apart, same-cell, location_inside_lem, valuation}
+use Rattle.rules.specs.Paths.{Write, write_of, is_right, has, consistent_after, lookup}
 use Rattle.rules.specs.Symbolic.{Origin, made, initial, other, Symbolic, type_of, apart}
-use Rattle.rules.specs.Typings.{At, here, there, HasType, is-location, Fits, HaveTypes, Extends}
-use Rattle.rules.specs.Typings.Laws.{split-last, at-below, below_at, at_same, at_last, at_set_same, at_set_other, at-unset, extends-self, extends-append, each-length, each_at, each_from, each-by, type-extends}
+use Rattle.rules.specs.Typings.{At, here, there, HasType, is_location, Fits, HaveTypes, Extends}
+use Rattle.rules.specs.Typings.Laws.{split-last, at-below, below_at, at_same, at_last, at_set_same, at_set_other, at_unset, extends_self, extends_append, each-length, each_at, each_from, each-by, type-extends}
 
 -- the newest write through the symbol is wrong
 unfoldable pub pending : List Write → ℕ → Bool
 pending [] s = false
-pending (w ∷ ws) s = pick (eqb w.through s) (not (isRight w)) (pending ws s)
+pending (w ∷ ws) s = pick (eqb w.through s) (not (is_right w)) (pending ws s)
 
 -- all writes are through symbols below n
 pub data WrittenBelow (n : ℕ) : List Write → Type 0 where
@@ -52,24 +52,24 @@ or-false : (a b : Bool) → a ≡ false → b ≡ false → a || b ≡ false
 or-false false b e f = f
 or-false true b e f = e
 
-none-pending : (mended : List ℕ) (log : List Write) (s : ℕ) → consistentAfter mended log ≡ true → has mended s ≡ false → pending log s ≡ false
-unfolding consistentAfter has pending
+none-pending : (mended : List ℕ) (log : List Write) (s : ℕ) → consistent_after mended log ≡ true → has mended s ≡ false → pending log s ≡ false
+unfolding consistent_after has pending
 none-pending mended [] s c h = refl
-none-pending mended (w ∷ ws) s c h = go (λ m d k. none-pending m ws s d k) (eqb w.through s) refl (isRight w) refl c
+none-pending mended (w ∷ ws) s c h = go (λ m d k. none-pending m ws s d k) (eqb w.through s) refl (is_right w) refl c
   where
-    go : ((m : List ℕ) → consistentAfter m ws ≡ true → has m s ≡ false → pending ws s ≡ false)
-        → (a : Bool) → eqb w.through s ≡ a → (b : Bool) → isRight w ≡ b
-        → pick b (consistentAfter (w.through ∷ mended) ws) (has mended w.through && consistentAfter mended ws) ≡ true
+    go : ((m : List ℕ) → consistent_after m ws ≡ true → has m s ≡ false → pending ws s ≡ false)
+        → (a : Bool) → eqb w.through s ≡ a → (b : Bool) → is_right w ≡ b
+        → pick b (consistent_after (w.through ∷ mended) ws) (has mended w.through && consistent_after mended ws) ≡ true
         → pick a (not b) (pending ws s) ≡ false
     go ih true ea true eb d = refl
     go ih true ea false eb d =
-        let q = both_true (has mended w.through) (consistentAfter mended ws) d in
+        let q = both_true (has mended w.through) (consistent_after mended ws) d in
         absurd (true≢false (sym q.0 ∙ ap (has mended) (eqb-true w.through s ea) ∙ h))
     go ih false ea true eb d = ih (w.through ∷ mended) d (or-false (eqb w.through s) (has mended s) ea h)
-    go ih false ea false eb d = ih mended (both_true (has mended w.through) (consistentAfter mended ws) d).1 h
+    go ih false ea false eb d = ih mended (both_true (has mended w.through) (consistent_after mended ws) d).1 h
 
 pub consistent-fits : {typing : List ℕ} {ρ : List Entry} {cells : List Value} {log : List Write}
-    → Memory typing ρ cells log → consistentAfter [] log ≡ true → Fits typing cells
+    → Memory typing ρ cells log → consistent_after [] log ≡ true → Fits typing cells
 unfolding has
 consistent-fits {typing} {ρ} {cells} {log} m c = each-by cells typing (sym m.as_many) (λ l x t a b. settled l x t (m.contents l t x a b))
   where
@@ -97,7 +97,7 @@ fitting {typing} {ρ} {cells} f d live =
 
 -- a location that has a type is below the cells
 type-live : {typing : List ℕ} {cells : List Value} {l t : ℕ} → Fits typing cells → HasType typing (Location l) t → l < length cells
-type-live f (is-location a h) = let e = each-length f in let b = at-below a in omega arith
+type-live f (is_location a h) = let e = each-length f in let b = at-below a in omega arith
 
 pub value-live : {typing : List ℕ} {cells : List Value} {x : Value} {t : ℕ} → Fits typing cells → HasType typing x t
     → (l : ℕ) → x ≡ Location l → l < length cells
@@ -139,8 +139,8 @@ unwritten {n} (w ∷ ws) (and-write h q) =
     ap (λ (b : Bool). pick b (lookup other n ws) (pick (eqb w.through n) (some w.value) none)) (apart_other w.origin w.through n)
     ∙ ap (λ (b : Bool). pick b (some w.value) none) (ne_eqb w.through n (λ e. omega arith))
 
-pub snoc-length : {A : Type 0} (xs : List A) (x : A) → length (xs ++ (x ∷ [])) ≡ suc (length xs)
-snoc-length xs x = omega (arith, length-append xs (x ∷ []))
+pub snoc_length : {A : Type 0} (xs : List A) (x : A) → length (xs ++ (x ∷ [])) ≡ suc (length xs)
+snoc_length xs x = omega (arith, length-append xs (x ∷ []))
 
 written-more : {n m : ℕ} {log : List Write} → n ≤ m → WrittenBelow n log → WrittenBelow m log
 written-more h no_writes = no_writes
@@ -163,8 +163,8 @@ holds-extends {l = l} d r c h =
 value_of : {e f : Entry} → e ≡ f → e.value ≡ f.value
 value_of q = ap (λ (x : Entry). x.value) q
 
-origin-of : {e f : Entry} → e ≡ f → e.origin ≡ f.origin
-origin-of q = ap (λ (x : Entry). x.origin) q
+origin_of : {e f : Entry} → e ≡ f → e.origin ≡ f.origin
+origin_of q = ap (λ (x : Entry). x.origin) q
 
 pub memory-fresh : {typing : List ℕ} {ρ : List Entry} {cells : List Value} {log : List Write} {x : Value}
     → Memory typing ρ cells log → ((l : ℕ) → x ≡ Location l → l < length cells) → Memory typing (ρ ++ (entry other x ∷ [])) cells log
@@ -173,28 +173,28 @@ memory-fresh {typing} {ρ} {cells} {log} {x} m known =
       as_many = m.as_many;
       contents = λ l t y a b. still (m.contents l t y a b);
       recent = λ o s l v a e. recently o s l v e (split-last ρ a);
-      written = written-more (omega (arith, snoc-length ρ (entry other x))) m.written;
+      written = written-more (omega (arith, snoc_length ρ (entry other x))) m.written;
       apart-cells = record { distinct = λ o p s u l a b. distinctly o p s u l (split-last ρ a) (split-last ρ b) };
       live = λ o s l a. lively o s l (split-last ρ a);
     }
   where
     still : {l t : ℕ} {y : Value} → HasType typing y t ⊎ Pending ρ log l → HasType typing y t ⊎ Pending (ρ ++ (entry other x ∷ [])) log l
     still (inl h) = inl h
-    still (inr p) = inr (pending-extends (extends-append (entry other x ∷ [])) p)
+    still (inr p) = inr (pending-extends (extends_append (entry other x ∷ [])) p)
 
     recently : (o : Origin) (s l : ℕ) (v : Symbolic) → lookup o s log ≡ some v
         → At ρ s (entry o (Location l)) ⊎ ((s ≡ length ρ) × (entry o (Location l) ≡ entry other x))
         → Holds typing (ρ ++ (entry other x ∷ [])) cells l v
-    recently o s l v e (inl a) = holds-extends extends-self (extends-append (entry other x ∷ [])) extends-self (m.recent o s l v a e)
+    recently o s l v e (inl a) = holds-extends extends_self (extends_append (entry other x ∷ [])) extends_self (m.recent o s l v a e)
     recently o s l v e (inr q) =
         let n = unwritten log m.written in
-        let z : ◌≡◌ {A = ℕ} 0 1 = cc (e, q.0, origin-of q.1, n) in absurd (omega arith)
+        let z : ◌≡◌ {A = ℕ} 0 1 = cc (e, q.0, origin_of q.1, n) in absurd (omega arith)
 
     distinctly : (o p : Origin) (s u l : ℕ) → At ρ s (entry o (Location l)) ⊎ ((s ≡ length ρ) × (entry o (Location l) ≡ entry other x))
         → At ρ u (entry p (Location l)) ⊎ ((u ≡ length ρ) × (entry p (Location l) ≡ entry other x)) → apart o s p u ≡ false
     distinctly o p s u l (inl a) (inl b) = m.apart-cells.distinct o p s u l a b
-    distinctly o p s u l (inl a) (inr q) = rw (origin-of q.1) (apart_other o s u)
-    distinctly o p s u l (inr q) b = rw (origin-of q.1) (other-apart s p u)
+    distinctly o p s u l (inl a) (inr q) = rw (origin_of q.1) (apart_other o s u)
+    distinctly o p s u l (inr q) b = rw (origin_of q.1) (other-apart s p u)
 
     lively : (o : Origin) (s l : ℕ) → At ρ s (entry o (Location l)) ⊎ ((s ≡ length ρ) × (entry o (Location l) ≡ entry other x)) → l < length cells
     lively o s l (inl a) = m.live o s l a
@@ -205,8 +205,8 @@ memory-fresh {typing} {ρ} {cells} {log} {x} m known =
 some-inside : {a b : Symbolic} → some a ≡ some b → a ≡ b
 some-inside q = cc
 
-abbrev pub refWrite : List Entry → Symbolic → Write
-refWrite ρ v = writeOf made (type_of v) (length ρ) v
+abbrev pub ref_write : List Entry → Symbolic → Write
+ref_write ρ v = write_of made (type_of v) (length ρ) v
 
 -- what `get` finds after a write, by the tests on that write
 lookup-after : (w : Write) (log : List Write) (o : Origin) (s : ℕ) {v : Symbolic} {G : Type 0} → lookup o s (w ∷ log) ≡ some v
@@ -231,19 +231,19 @@ pending-past {log = log} {l = l} w e ne p =
       through = p.through;
       denotes = e.keeps p.through (entry p.origin (Location l)) p.denotes;
       is-pending =
-          ap (λ (b : Bool). pick b (not (isRight w)) (pending log p.through)) (ne_eqb w.through p.through (ne p.origin p.through p.denotes))
+          ap (λ (b : Bool). pick b (not (is_right w)) (pending log p.through)) (ne_eqb w.through p.through (ne p.origin p.through p.denotes))
           ∙ p.is-pending;
     }
 
 pub memory-ref : {typing : List ℕ} {ρ : List Entry} {cells : List Value} {log : List Write} {v : Symbolic} {x : Value}
     → Memory typing ρ cells log → StandsFor typing ρ v x
-    → Memory (typing ++ (type_of v ∷ [])) (ρ ++ (entry made (Location (length cells)) ∷ [])) (cells ++ (x ∷ [])) (refWrite ρ v ∷ log)
+    → Memory (typing ++ (type_of v ∷ [])) (ρ ++ (entry made (Location (length cells)) ∷ [])) (cells ++ (x ∷ [])) (ref_write ρ v ∷ log)
 memory-ref {typing} {ρ} {cells} {log} {v} {x} m h =
     record {
-      as_many = omega (arith, m.as_many, snoc-length typing (type_of v), snoc-length cells x);
+      as_many = omega (arith, m.as_many, snoc_length typing (type_of v), snoc_length cells x);
       contents = λ l t y a b. content l t y (split-last cells a) (split-last typing b);
       recent = λ o s l u a e. recently o s l u e (split-last ρ a);
-      written = and-write {w = refWrite ρ v} (omega (arith, longer)) (written-more (omega (arith, longer)) m.written);
+      written = and-write {w = ref_write ρ v} (omega (arith, longer)) (written-more (omega (arith, longer)) m.written);
       apart-cells = record { distinct = λ o p s u l a b. distinctly o p s u l (split-last ρ a) (split-last ρ b) };
       live = λ o s l a. lively o s l (split-last ρ a);
     }
@@ -252,54 +252,54 @@ memory-ref {typing} {ρ} {cells} {log} {v} {x} m h =
     newest = entry made (Location (length cells))
 
     longer : length (ρ ++ (newest ∷ [])) ≡ suc (length ρ)
-    longer = snoc-length ρ newest
+    longer = snoc_length ρ newest
 
     content : (l t : ℕ) (y : Value) → At cells l y ⊎ ((l ≡ length cells) × (y ≡ x)) → At typing l t ⊎ ((l ≡ length typing) × (t ≡ type_of v))
-        → HasType (typing ++ (type_of v ∷ [])) y t ⊎ Pending (ρ ++ (newest ∷ [])) (refWrite ρ v ∷ log) l
+        → HasType (typing ++ (type_of v ∷ [])) y t ⊎ Pending (ρ ++ (newest ∷ [])) (ref_write ρ v ∷ log) l
     content l t y (inl a) (inl b) = go (m.contents l t y a b)
       where
-        go : HasType typing y t ⊎ Pending ρ log l → HasType (typing ++ (type_of v ∷ [])) y t ⊎ Pending (ρ ++ (newest ∷ [])) (refWrite ρ v ∷ log) l
-        go (inl k) = inl (type-extends (extends-append (type_of v ∷ [])) k)
-        go (inr p) = inr (pending-past (refWrite ρ v) (extends-append (newest ∷ [])) (λ o s c q. let k = at-below c in omega arith) p)
+        go : HasType typing y t ⊎ Pending ρ log l → HasType (typing ++ (type_of v ∷ [])) y t ⊎ Pending (ρ ++ (newest ∷ [])) (ref_write ρ v ∷ log) l
+        go (inl k) = inl (type-extends (extends_append (type_of v ∷ [])) k)
+        go (inr p) = inr (pending-past (ref_write ρ v) (extends_append (newest ∷ [])) (λ o s c q. let k = at-below c in omega arith) p)
     content l t y (inl a) (inr q) = let k = at-below a in absurd (omega (arith, m.as_many, q.0))
     content l t y (inr q) (inl b) = let k = at-below b in absurd (omega (arith, m.as_many, q.0))
     content l t y (inr q) (inr r) =
         inl (subst (λ (z : Value). HasType (typing ++ (type_of v ∷ [])) z t) (sym q.1)
-        (subst (λ (z : ℕ). HasType (typing ++ (type_of v ∷ [])) x z) (sym r.1) (type-extends (extends-append (type_of v ∷ [])) (stands-type h))))
+        (subst (λ (z : ℕ). HasType (typing ++ (type_of v ∷ [])) x z) (sym r.1) (type-extends (extends_append (type_of v ∷ [])) (stands-type h))))
 
-    recently : (o : Origin) (s l : ℕ) (u : Symbolic) → lookup o s (refWrite ρ v ∷ log) ≡ some u
+    recently : (o : Origin) (s l : ℕ) (u : Symbolic) → lookup o s (ref_write ρ v ∷ log) ≡ some u
         → At ρ s (entry o (Location l)) ⊎ ((s ≡ length ρ) × (entry o (Location l) ≡ newest))
         → Holds (typing ++ (type_of v ∷ [])) (ρ ++ (newest ∷ [])) (cells ++ (x ∷ [])) l u
     recently o s l u e (inl a) =
-        lookup-after (refWrite ρ v) log o s e
-        (λ p q. holds-extends (extends-append (type_of v ∷ [])) (extends-append (newest ∷ [])) (extends-append (x ∷ [])) (m.recent o s l u a q))
+        lookup-after (ref_write ρ v) log o s e
+        (λ p q. holds-extends (extends_append (type_of v ∷ [])) (extends_append (newest ∷ [])) (extends_append (x ∷ [])) (m.recent o s l u a q))
         (λ p q. let k = at-below a in absurd (omega arith))
     recently o s l u e (inr q) =
-        lookup-after (refWrite ρ v) log o s e
+        lookup-after (ref_write ρ v) log o s e
         (λ p r. absurd (true≢false (sym p ∙ not-apart made (length ρ) o s (sym q.0))))
         (λ p r. record {
           content = x;
-          placed = subst (λ (k : ℕ). At (cells ++ (x ∷ [])) k x) (sym (location-inside (value_of q.1))) (at_last cells x);
-          stands = stands-extends (extends-append (type_of v ∷ [])) (extends-append (newest ∷ [])) (subst (λ (k : Symbolic). StandsFor typing ρ k x) r h);
+          placed = subst (λ (k : ℕ). At (cells ++ (x ∷ [])) k x) (sym (location_inside_lem (value_of q.1))) (at_last cells x);
+          stands = stands-extends (extends_append (type_of v ∷ [])) (extends_append (newest ∷ [])) (subst (λ (k : Symbolic). StandsFor typing ρ k x) r h);
         })
 
     -- the new cell is none of those that a symbol denotes
     distinctly : (o p : Origin) (s u l : ℕ) → At ρ s (entry o (Location l)) ⊎ ((s ≡ length ρ) × (entry o (Location l) ≡ newest))
         → At ρ u (entry p (Location l)) ⊎ ((u ≡ length ρ) × (entry p (Location l) ≡ newest)) → apart o s p u ≡ false
     distinctly o p s u l (inl a) (inl b) = m.apart-cells.distinct o p s u l a b
-    distinctly o p s u l (inl a) (inr q) = let k = m.live o s l a in let e = location-inside (value_of q.1) in absurd (omega arith)
-    distinctly o p s u l (inr q) (inl b) = let k = m.live p u l b in let e = location-inside (value_of q.1) in absurd (omega arith)
+    distinctly o p s u l (inl a) (inr q) = let k = m.live o s l a in let e = location_inside_lem (value_of q.1) in absurd (omega arith)
+    distinctly o p s u l (inr q) (inl b) = let k = m.live p u l b in let e = location_inside_lem (value_of q.1) in absurd (omega arith)
     distinctly o p s u l (inr q) (inr r) = not-apart o s p u (q.0 ∙ sym r.0)
 
     lively : (o : Origin) (s l : ℕ) → At ρ s (entry o (Location l)) ⊎ ((s ≡ length ρ) × (entry o (Location l) ≡ newest)) → l < length (cells ++ (x ∷ []))
-    lively o s l (inl a) = omega (arith, m.live o s l a, snoc-length cells x)
-    lively o s l (inr q) = omega (arith, location-inside (value_of q.1), snoc-length cells x)
+    lively o s l (inl a) = omega (arith, m.live o s l a, snoc_length cells x)
+    lively o s l (inr q) = omega (arith, location_inside_lem (value_of q.1), snoc_length cells x)
 
 -- ---- `set`
 
 pub memory-set : {typing : List ℕ} {ρ : List Entry} {cells : List Value} {log : List Write} {o : Origin} {t s l : ℕ} {v : Symbolic} {x : Value}
     → Memory typing ρ cells log → At ρ s (entry o (Location l)) → At typing l t → StandsFor typing ρ v x
-    → Memory typing ρ (set cells l x) (writeOf o t s v ∷ log)
+    → Memory typing ρ (set cells l x) (write_of o t s v ∷ log)
 unfolding pending
 memory-set {typing} {ρ} {cells} {log} {o} {t} {s} {l} {v} {x} m denotes cell h =
     record {
@@ -312,12 +312,12 @@ memory-set {typing} {ρ} {cells} {log} {o} {t} {s} {l} {v} {x} m denotes cell h 
     }
   where
     newest : Write
-    newest = writeOf o t s v
+    newest = write_of o t s v
 
     stored : At (set cells l x) l x
     stored = let q = below_at cells l (m.live o s l denotes) in at_set_same x q.1
 
-    judged : (y : Value) → y ≡ x → (u : ℕ) → u ≡ t → (b : Bool) → isRight newest ≡ b → HasType typing y u ⊎ Pending ρ (newest ∷ log) l
+    judged : (y : Value) → y ≡ x → (u : ℕ) → u ≡ t → (b : Bool) → is_right newest ≡ b → HasType typing y u ⊎ Pending ρ (newest ∷ log) l
     judged y ey u eu true e =
         inl (subst (λ (z : Value). HasType typing z u) (sym ey)
         (subst (λ (z : ℕ). HasType typing x z) (eqb-true (type_of v) t e ∙ sym eu) (stands-type h)))
@@ -327,7 +327,7 @@ memory-set {typing} {ρ} {cells} {log} {o} {t} {s} {l} {v} {x} m denotes cell h 
           through = s;
           denotes = denotes;
           is-pending =
-              ap (λ (b : Bool). pick b (not (isRight newest)) (pending log s)) (eq-eqb s s refl)
+              ap (λ (b : Bool). pick b (not (is_right newest)) (pending log s)) (eq-eqb s s refl)
               ∙ ap not e;
         })
 
@@ -335,12 +335,12 @@ memory-set {typing} {ρ} {cells} {log} {o} {t} {s} {l} {v} {x} m denotes cell h 
     content k u y a c true e =
         let q = eqb-true k l e in
         subst (λ (z : ℕ). HasType typing y u ⊎ Pending ρ (newest ∷ log) z) (sym q)
-        (judged y (at_same (subst (λ (z : ℕ). At (set cells l x) z y) q a) stored) u (at_same (subst (λ (z : ℕ). At typing z u) q c) cell) (isRight newest) refl)
-    content k u y a c false e = go (m.contents k u y (at-unset cells l x (eqb-false k l e) a) c)
+        (judged y (at_same (subst (λ (z : ℕ). At (set cells l x) z y) q a) stored) u (at_same (subst (λ (z : ℕ). At typing z u) q c) cell) (is_right newest) refl)
+    content k u y a c false e = go (m.contents k u y (at_unset cells l x (eqb-false k l e) a) c)
       where
         go : HasType typing y u ⊎ Pending ρ log k → HasType typing y u ⊎ Pending ρ (newest ∷ log) k
         go (inl q) = inl q
-        go (inr p) = inr (pending-past newest extends-self (λ o' s' d q. eqb-false k l e (same-cell d (subst (λ (z : ℕ). At ρ z (entry o (Location l))) q denotes))) p)
+        go (inr p) = inr (pending-past newest extends_self (λ o' s' d q. eqb-false k l e (same-cell d (subst (λ (z : ℕ). At ρ z (entry o (Location l))) q denotes))) p)
 
     recently : (p : Origin) (u k : ℕ) (w : Symbolic) → At ρ u (entry p (Location k)) → lookup p u (newest ∷ log) ≡ some w → Holds typing ρ (set cells l x) k w
     recently p u k w a e =

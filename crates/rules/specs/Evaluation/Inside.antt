@@ -4,11 +4,11 @@ use Rattle.std.specs.Prelude.{Bool, List, ◌≡◌, ℕ, ◌≤◌, ◌<◌, le
 use Rattle.std.proofs.Math.Option.{Option, some}
 use Rattle.std.proofs.Common.{ap, arith}
 use Rattle.std.proofs.Math.ListN.{get_elem?}
-use Rattle.script.specs.Rows.{getOp, setOp}
+use Rattle.script.specs.Rows.{get_op, set_op}
 use Rattle.script.specs.Tree.{Expr}
 use Rattle.script.specs.declared.Value.{Value}
 use Rattle.script.specs.declared.Value.TheVariants.{Word, Truth, Location}
-use Rattle.rules.specs.Evaluation.{gave, failed, found, unaryOn, binaryOn, eval}
+use Rattle.rules.specs.Evaluation.{gave, failed, found, unary_on, binary_on, eval}
 use Rattle.rules.specs.Evaluation.Every.{Every}
 use Rattle.rules.specs.Evaluation.Keeps.{OutcomeHas, eval-keeps}
 use Rattle.rules.specs.Typings.Laws.{at-found, below_at}
@@ -17,9 +17,9 @@ use Rattle.rules.specs.Typings.Laws.{at-found, below_at}
 
 -- a word, a truth, or a location of one of the first m cells
 pub data Inside (m : ℕ) : Value → Type 0 where
-  wordInside : {w : ℕ} → Inside m (Word w)
-  truthInside : {b : Bool} → Inside m (Truth b)
-  locationInside : {l : ℕ} → l < m → Inside m (Location l)
+  word_inside : {w : ℕ} → Inside m (Word w)
+  truth_inside : {b : Bool} → Inside m (Truth b)
+  location_inside : {l : ℕ} → l < m → Inside m (Location l)
 
 abbrev pub AllInside : ℕ → List Value → Type 0
 AllInside m vs = Every (Inside m) vs
@@ -31,36 +31,36 @@ pub record Content (cs : List Value) (l : ℕ) : Type 0 where
   pub value : Value
   pub is : get_elem? cs l ≡ some value
 
-pub get-finds : {l : ℕ} (cs : List Value) → Inside (length cs) (Location l) → Content cs l
-get-finds {l} cs (locationInside b) = let q = below_at cs l b in record { value = q.0; is = at-found q.1 }
+pub get_finds : {l : ℕ} (cs : List Value) → Inside (length cs) (Location l) → Content cs l
+get_finds {l} cs (location_inside b) = let q = below_at cs l b in record { value = q.0; is = at-found q.1 }
 
 -- `get` gives what the cell holds: its error state for a missing cell is never taken
-pub get-gives : (n : ℕ) {l : ℕ} (cs : List Value) (h : Inside (length cs) (Location l))
-    → unaryOn n getOp (Location l) cs ≡ gave (get-finds cs h).value cs
-unfolding unaryOn
-get-gives n cs h = ap (λ (o : Option Value). found o (failed n cs) λ u. gave u cs) (get-finds cs h).is
+pub get_gives : (n : ℕ) {l : ℕ} (cs : List Value) (h : Inside (length cs) (Location l))
+    → unary_on n get_op (Location l) cs ≡ gave (get_finds cs h).value cs
+unfolding unary_on
+get_gives n cs h = ap (λ (o : Option Value). found o (failed n cs) λ u. gave u cs) (get_finds cs h).is
 
 -- nor is that of `set`
 pub set_gives : (n : ℕ) {l : ℕ} (w : Value) (cs : List Value) → Inside (length cs) (Location l)
-    → binaryOn n setOp (Location l) w cs ≡ gave w (set cs l w)
-unfolding binaryOn
-set_gives n {l} w cs h = ap (λ (o : Option Value). found o (failed n cs) λ u. gave w (set cs l w)) (get-finds cs h).is
+    → binary_on n set_op (Location l) w cs ≡ gave w (set cs l w)
+unfolding binary_on
+set_gives n {l} w cs h = ap (λ (o : Option Value). found o (failed n cs) λ u. gave w (set cs l w)) (get_finds cs h).is
 
 -- ---- evaluation
 
 -- more cells keep what is inside
 inside-more : {m k : ℕ} {v : Value} → m ≤ k → Inside m v → Inside k v
-inside-more h wordInside = wordInside
-inside-more h truthInside = truthInside
-inside-more h (locationInside {l = l} b) = locationInside {l = l} (omega arith)
+inside-more h word_inside = word_inside
+inside-more h truth_inside = truth_inside
+inside-more h (location_inside {l = l} b) = location_inside {l = l} (omega arith)
 
 -- THE LAW: from an environment and cells inside the cells, a run ends with a value and cells inside the cells that there are then
 pub eval-inside : (e : Expr) (env cs : List Value) → AllInside (length cs) env → AllInside (length cs) cs → OutcomeHas Inside (eval e env cs)
 eval-inside =
     eval-keeps Inside
     (record {
-      word = λ m w h. wordInside;
-      truth = λ m b. truthInside;
-      next = λ m. locationInside {l = m} (omega arith);
+      word = λ m w h. word_inside;
+      truth = λ m b. truth_inside;
+      next = λ m. location_inside {l = m} (omega arith);
       more = λ m k v h i. inside-more h i;
     })

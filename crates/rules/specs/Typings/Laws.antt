@@ -5,7 +5,7 @@ use Rattle.std.proofs.Math.Option.{some}
 use Rattle.std.proofs.Math.ListN.{get_elem?}
 use Rattle.script.specs.Tests.Laws.{some-not-none}
 use Rattle.script.specs.declared.Value.{Value}
-use Rattle.rules.specs.Typings.{At, here, there, HasType, is_word, is-truth, is-location, Each, empty, also, HaveTypes, Extends}
+use Rattle.rules.specs.Typings.{At, here, there, HasType, is_word, is-truth, is_location, Each, empty, also, HaveTypes, Extends}
 
 module _ {A : Type 0} where
   -- ---- places
@@ -35,9 +35,9 @@ module _ {A : Type 0} where
   at_same here here = refl
   at_same (there a) (there b) = at_same a b
 
-  pub at-append : {xs : List A} {i : ℕ} {x : A} (ys : List A) → At xs i x → At (xs ++ ys) i x
-  at-append ys here = here
-  at-append ys (there a) = there (at-append ys a)
+  pub at_append : {xs : List A} {i : ℕ} {x : A} (ys : List A) → At xs i x → At (xs ++ ys) i x
+  at_append ys here = here
+  at_append ys (there a) = there (at_append ys a)
 
   -- the place behind the last
   pub at_last : (xs : List A) (x : A) → At (xs ++ (x ∷ [])) (length xs) x
@@ -64,22 +64,22 @@ module _ {A : Type 0} where
   at_set_other {j = zero} y ne (there a) = there a
   at_set_other {j = suc j} y ne (there a) = there (at_set_other y (λ q. ne (ap suc q)) a)
 
-  pub at-unset : (xs : List A) {i : ℕ} (j : ℕ) {x : A} (y : A) → (i ≡ j → ⊥) → At (set xs j y) i x → At xs i x
-  at-unset (z ∷ zs) zero y ne here = absurd (ne refl)
-  at-unset (z ∷ zs) zero y ne (there a) = there a
-  at-unset (z ∷ zs) (suc j) y ne here = here
-  at-unset (z ∷ zs) (suc j) y ne (there a) = there (at-unset zs j y (λ q. ne (ap suc q)) a)
+  pub at_unset : (xs : List A) {i : ℕ} (j : ℕ) {x : A} (y : A) → (i ≡ j → ⊥) → At (set xs j y) i x → At xs i x
+  at_unset (z ∷ zs) zero y ne here = absurd (ne refl)
+  at_unset (z ∷ zs) zero y ne (there a) = there a
+  at_unset (z ∷ zs) (suc j) y ne here = here
+  at_unset (z ∷ zs) (suc j) y ne (there a) = there (at_unset zs j y (λ q. ne (ap suc q)) a)
 
   -- ---- extensions
 
-  pub extends-self : {xs : List A} → Extends xs xs
-  extends-self = record { keeps = λ i x a. a }
+  pub extends_self : {xs : List A} → Extends xs xs
+  extends_self = record { keeps = λ i x a. a }
 
-  pub extends-trans : {xs ys zs : List A} → Extends xs ys → Extends ys zs → Extends xs zs
-  extends-trans p q = record { keeps = λ i x a. q.keeps i x (p.keeps i x a) }
+  pub extends_trans : {xs ys zs : List A} → Extends xs ys → Extends ys zs → Extends xs zs
+  extends_trans p q = record { keeps = λ i x a. q.keeps i x (p.keeps i x a) }
 
-  pub extends-append : {xs : List A} (ys : List A) → Extends xs (xs ++ ys)
-  extends-append ys = record { keeps = λ i x a. at-append ys a }
+  pub extends_append : {xs : List A} (ys : List A) → Extends xs (xs ++ ys)
+  extends_append ys = record { keeps = λ i x a. at_append ys a }
 
   pub extends-length : {xs ys : List A} → Extends xs ys → (i : ℕ) → i < length xs → i < length ys
   extends-length {xs} p i h = let r = below_at xs i h in at-below (p.keeps i r.0 r.1)
@@ -124,7 +124,7 @@ module _ {A B : Type 0} {R : A → B → Type 0} where
 pub type-extends : {old new : List ℕ} {v : Value} {t : ℕ} → Extends old new → HasType old v t → HasType new v t
 type-extends e (is_word h) = is_word h
 type-extends e is-truth = is-truth
-type-extends e (is-location {l = l} {t = t} a h) = is-location (e.keeps l t a) h
+type-extends e (is_location {l = l} {t = t} a h) = is_location (e.keeps l t a) h
 
-pub types-extend : {old new : List ℕ} {vs : List Value} {ts : List ℕ} → Extends old new → HaveTypes old vs ts → HaveTypes new vs ts
-types-extend e ts = each_map (λ v t h. type-extends e h) ts
+pub types_extend : {old new : List ℕ} {vs : List Value} {ts : List ℕ} → Extends old new → HaveTypes old vs ts → HaveTypes new vs ts
+types_extend e ts = each_map (λ v t h. type-extends e h) ts

@@ -2,7 +2,7 @@
 use borrow.Author.Rules.{rules}
 use borrow.Author.Tests.{not-true, not-false}
 use mathlib.Core.Path.{sym, ◌∙◌}
-use Rattle.runner.specs.Code.Whole.{few-entries, cells-refused, values-refused, runnable, run-gave, run-failed}
+use Rattle.runner.specs.Code.Whole.{few-entries, cells-refused, values-refused, runnable, run_gave, run_failed}
 use Rattle.runner.proofs.run_passed.Statement.{statement}
 use Rattle.runner.proofs.run_passed.Tie as tie
 
@@ -33,7 +33,7 @@ run-tested-requires c κs =
 returns-3 : tie.Need-returns-3
 returns-3 c =
     let a = c.before.before.before.before.before.before.before.before.before.before.before.before.before.before.before.before.before.args in
-    run-gave a.table.now a.nodes a.entries.now a.entry-count a.values.now a.cells.now a.used c.before.before.before.before.before.before.before.before.before.before.before.before.before.before.before.before.before.requires
+    run_gave a.table.now a.nodes a.entries.now a.entry-count a.values.now a.cells.now a.used c.before.before.before.before.before.before.before.before.before.before.before.before.before.before.before.before.before.requires
     (sym c.before.before.before.before.before.before.before.before.before.before.before.right-cells.ensures ∙ not-false _ c.before.before.before.before.before.before.before.before.before.before.if1.false)
     (sym c.before.before.before.before.before.before.before.before.right-values.ensures ∙ not-false _ c.before.before.before.before.before.before.before.if2.false)
     c.before.before.before.before.before.run-tested.ensures c.before.v.given.1
@@ -41,7 +41,7 @@ returns-3 c =
 returns-4 : tie.Need-returns-4
 returns-4 c =
     let a = c.before.before.before.before.before.before.before.before.before.before.before.before.before.before.before.before.before.args in
-    run-failed a.table.now a.nodes a.entries.now a.entry-count a.values.now a.cells.now a.used c.before.before.before.before.before.before.before.before.before.before.before.before.before.before.before.before.before.requires
+    run_failed a.table.now a.nodes a.entries.now a.entry-count a.values.now a.cells.now a.used c.before.before.before.before.before.before.before.before.before.before.before.before.before.before.before.before.before.requires
     (sym c.before.before.before.before.before.before.before.before.before.before.before.right-cells.ensures ∙ not-false _ c.before.before.before.before.before.before.before.before.before.before.if1.false)
     (sym c.before.before.before.before.before.before.before.before.right-values.ensures ∙ not-false _ c.before.before.before.before.before.before.before.if2.false)
     c.before.before.before.before.before.run-tested.ensures c.before.at.given.1

@@ -4,9 +4,9 @@ use mathlib.Core.List.{List, [], ◌∷◌, ◌++◌}
 use Rattle.std.specs.Prelude.{◌≡◌, refl, ℕ, suc, ◌+◌, ◌*◌, ◌≤◌, ◌<◌, length, take}
 use Rattle.std.proofs.Common.{sym, subst, ◌∙◌, arith, length-append, take-take}
 use Rattle.std.proofs.Math.Path.{ap}
-use Rattle.script.specs.Code.Forms.{form_of, severalBy, leaf-kinds, nodeIn, treeIn, formed-less, boundOn}
-use Rattle.script.specs.Rows.{Form, intForm, varForm, ifForm, letForm, typedForm, symForm, truthForm, unaryForm, binaryForm, nodeOperands}
-use Rattle.script.specs.Rows.Kinds.{leafKinds}
+use Rattle.script.specs.Code.Forms.{form_of, several_by, leaf_kinds_lem, node_in, tree_in, formed_less, bound_on}
+use Rattle.script.specs.Rows.{Form, int_form, var_form, if_form, let_form, typed_form, sym_form, truth_form, unary_form, binary_form, node_operands}
+use Rattle.script.specs.Rows.Kinds.{leaf_kinds}
 use Rattle.script.specs.Tree.{Expr, size}
 use Rattle.script.specs.declared.Node.{Node}
 use Rattle.script.specs.declared.Value.{Value}
@@ -14,15 +14,15 @@ use Rattle.rules.specs.Evaluation.{Outcome, gave, failed, after, eval}
 use Rattle.rules.specs.Evaluation.Laws.{cells_of, Grows, grows-gave, grows-failed, grows-after, grows-unary, grows-binary, eval-grows}
 use Rattle.rules.specs.Running.{values_of, stored}
 use Rattle.rules.specs.Running.Laws.{InRange, length-values}
-use Rattle.rules.specs.Running.Ranges.{OutcomeInRange, gaveInRange, failedInRange, eval-in-range}
-use Rattle.operators.specs.Steps.{Holds, Cells, Variables, Does, Says, leafOn, oneOn, twoOn, nextOn, Bound, restBy, restOn, restSize, Ready, Halfway, Runs}
+use Rattle.rules.specs.Running.Ranges.{OutcomeInRange, gave_in_range, failed_in_range, eval_in_range}
+use Rattle.operators.specs.Steps.{Holds, Cells, Variables, Does, Says, leaf_on, one_on, two_on, next_on, Bound, rest_by, rest_on, rest_size, Ready, Halfway, Runs}
 use Rattle.operators.specs.Steps.Operators.{does-says, does-failed}
-use Rattle.operators.specs.Steps.Values.{holds-values, holds-front, stored-holds, stored-length, stored-over}
+use Rattle.operators.specs.Steps.Values.{holds-values, holds_front, stored-holds, stored-length, stored_over}
 use Rattle.operators.specs.declared.Next.{Next}
 use Rattle.operators.specs.declared.Next.TheVariants.{Operand, Wrong}
 use Rattle.operators.specs.declared.Step.{Step}
 use Rattle.operators.specs.declared.Step.TheVariants.{Gave, Failed}
-use Rattle.runner.specs.Code.Nodes.{shaped, leaf-eval, first_of, one-eval, then-of, rest_of, follows}
+use Rattle.runner.specs.Code.Nodes.{shaped, leaf-eval, first_of, one_eval, then_of, rest_of, follows}
 
 -- ---- after a step
 
@@ -42,7 +42,7 @@ gave-not-failed : {v : Value} {n a m : ℕ} → Gave v n ≡ Failed a m → ⊥
 gave-not-failed e = let z : ◌≡◌ {A = ℕ} 0 1 = cc in omega arith
 
 pub given : {o : Outcome} {r : Step} {cells left : List ℕ} {v : Value} {u : ℕ} → OutcomeInRange o → Does o r cells left → r ≡ Gave v u → Given o v u left
-given {cells = cells} {left = left} {v = v} {u = u} (gaveInRange {v = w} {cs = cs} k ks) d e =
+given {cells = cells} {left = left} {v = v} {u = u} (gave_in_range {v = w} {cs = cs} k ks) d e =
     let q : Gave w (length cs) ≡ Gave v u = sym d.answer ∙ e in
     let held : Holds left cs = subst (λ (l : List ℕ). Holds l cs) (sym d.leaves) (stored-holds cells ks) in
     let here : values_of u left ≡ cs = ap (λ (n : ℕ). values_of n left) (sym (same_count q)) ∙ holds-values held in
@@ -51,22 +51,22 @@ given {cells = cells} {left = left} {v = v} {u = u} (gaveInRange {v = w} {cs = c
       ranged = subst (λ (x : Value). InRange x) (same-value q) k;
       held = subst (λ (vs : List Value). Holds left vs) (sym here) held;
     }
-given (failedInRange ks) d e = absurd (gave-not-failed (sym e ∙ d.answer))
+given (failed_in_range ks) d e = absurd (gave-not-failed (sym e ∙ d.answer))
 
 -- an error state is passed on
-pub failed-on : (o : Outcome) {r : Step} {cells left : List ℕ} {a u : ℕ} → Does o r cells left → r ≡ Failed a u → (k : Value → List Value → Outcome)
+pub failed_on : (o : Outcome) {r : Step} {cells left : List ℕ} {a u : ℕ} → Does o r cells left → r ≡ Failed a u → (k : Value → List Value → Outcome)
     → Does (after o k) (Failed a u) cells left
-failed-on (gave v cs) d e k = absurd (gave-not-failed (sym d.answer ∙ e))
-failed-on (failed n cs) d e k = record { answer = sym e ∙ d.answer; leaves = d.leaves }
+failed_on (gave v cs) d e k = absurd (gave-not-failed (sym d.answer ∙ e))
+failed_on (failed n cs) d e k = record { answer = sym e ∙ d.answer; leaves = d.leaves }
 
 module _ {o : Outcome} {v : Value} {u : ℕ} {left : List ℕ} (g : Given o v u left) where
   pub given-count : length (cells_of o) ≡ u
   given-count = ap (λ (p : Outcome). length (cells_of p)) g.is ∙ length-values u left
 
   -- the cells with what room is left
-  pub cells-on : {r : Step} {cells : List ℕ} {used s all : ℕ} (more : ℕ) → Cells cells used all → Grows used s o → s + more ≤ all → Does o r cells left
+  pub cells_on : {r : Step} {cells : List ℕ} {used s all : ℕ} (more : ℕ) → Cells cells used all → Grows used s o → s + more ≤ all → Does o r cells left
       → Cells left u more
-  cells-on {cells = cells} more c w h d =
+  cells_on {cells = cells} more c w h d =
       record {
         held = g.held;
         lent =
@@ -86,7 +86,7 @@ module _ {o : Outcome} {v : Value} {u : ℕ} {left : List ℕ} (g : Given o v u 
         leaves =
             d₂.leaves
             ∙ ap (λ (l : List ℕ). stored l (cells_of p)) d.leaves
-            ∙ stored-over cells (cells_of o) (cells_of p) (omega (arith, given-count, length-values u left, w));
+            ∙ stored_over cells (cells_of o) (cells_of p) (omega (arith, given-count, length-values u left, w));
       })
 
 -- ---- the variables
@@ -96,49 +96,49 @@ pub kept-values : {env : List ℕ} (left : List ℕ) {depth more : ℕ} → Vari
     → values_of depth left ≡ values_of depth env
 kept-values {env} left {depth} v e =
     let q = length-values depth env in
-    let h : Holds left (values_of depth env) = holds-front (rw q e) v.held in
+    let h : Holds left (values_of depth env) = holds_front (rw q e) v.held in
     ap (λ (n : ℕ). values_of n left) (sym q) ∙ holds-values h
 
-pub variables-on : {env left : List ℕ} {depth more : ℕ} → Variables env depth more → take (5 * depth) left ≡ take (5 * depth) env → length left ≡ length env
+pub variables_on : {env left : List ℕ} {depth more : ℕ} → Variables env depth more → take (5 * depth) left ≡ take (5 * depth) env → length left ≡ length env
     → Variables left depth more
-variables-on {env} {left} {depth} v e l =
+variables_on {env} {left} {depth} v e l =
     record {
       held =
-          subst (λ (vs : List Value). Holds left vs) (sym (kept-values left v e)) (holds-front (rw (length-values depth env) e) v.held);
+          subst (λ (vs : List Value). Holds left vs) (sym (kept-values left v e)) (holds_front (rw (length-values depth env) e) v.held);
       room = omega (arith, v.room, l);
     }
 
 -- ---- no step drops a cell
 
-one_grows : (f : Form) (n : ℕ) (v : Value) (cs : List Value) → Grows (length cs) 1 (oneOn f n v cs)
-unfolding oneOn
-one_grows intForm n v cs = grows-gave v cs 1
-one_grows varForm n v cs = grows-gave v cs 1
-one_grows ifForm n v cs = grows-gave v cs 1
-one_grows letForm n v cs = grows-gave v cs 1
-one_grows typedForm n v cs = grows-gave v cs 1
-one_grows symForm n v cs = grows-gave v cs 1
-one_grows (truthForm b) n v cs = grows-gave v cs 1
-one_grows (unaryForm o) n v cs = grows-unary n o v cs
-one_grows (binaryForm o) n v cs = grows-gave v cs 1
+one_grows : (f : Form) (n : ℕ) (v : Value) (cs : List Value) → Grows (length cs) 1 (one_on f n v cs)
+unfolding one_on
+one_grows int_form n v cs = grows-gave v cs 1
+one_grows var_form n v cs = grows-gave v cs 1
+one_grows if_form n v cs = grows-gave v cs 1
+one_grows let_form n v cs = grows-gave v cs 1
+one_grows typed_form n v cs = grows-gave v cs 1
+one_grows sym_form n v cs = grows-gave v cs 1
+one_grows (truth_form b) n v cs = grows-gave v cs 1
+one_grows (unary_form o) n v cs = grows-unary n o v cs
+one_grows (binary_form o) n v cs = grows-gave v cs 1
 
-two-grows : (f : Form) (n : ℕ) (v w : Value) (cs : List Value) → Grows (length cs) 0 (twoOn f n v w cs)
-unfolding twoOn
-two-grows intForm n v w cs = grows-gave w cs 0
-two-grows varForm n v w cs = grows-gave w cs 0
-two-grows ifForm n v w cs = grows-gave w cs 0
-two-grows letForm n v w cs = grows-gave w cs 0
-two-grows typedForm n v w cs = grows-gave w cs 0
-two-grows symForm n v w cs = grows-gave w cs 0
-two-grows (truthForm b) n v w cs = grows-gave w cs 0
-two-grows (unaryForm o) n v w cs = grows-gave w cs 0
-two-grows (binaryForm o) n v w cs = grows-binary n o v w cs
+two-grows : (f : Form) (n : ℕ) (v w : Value) (cs : List Value) → Grows (length cs) 0 (two_on f n v w cs)
+unfolding two_on
+two-grows int_form n v w cs = grows-gave w cs 0
+two-grows var_form n v w cs = grows-gave w cs 0
+two-grows if_form n v w cs = grows-gave w cs 0
+two-grows let_form n v w cs = grows-gave w cs 0
+two-grows typed_form n v w cs = grows-gave w cs 0
+two-grows sym_form n v w cs = grows-gave w cs 0
+two-grows (truth_form b) n v w cs = grows-gave w cs 0
+two-grows (unary_form o) n v w cs = grows-gave w cs 0
+two-grows (binary_form o) n v w cs = grows-binary n o v w cs
 
-rest-keeps : (x : Next) (xs : List ℕ) (f : Form) (n : ℕ) (v : Value) (env cs : List Value) → length cs ≤ length (cells_of (restBy x xs f n v env cs))
-unfolding restBy
+rest-keeps : (x : Next) (xs : List ℕ) (f : Form) (n : ℕ) (v : Value) (env cs : List Value) → length cs ≤ length (cells_of (rest_by x xs f n v env cs))
+unfolding rest_by
 rest-keeps (Operand m) xs f n v env cs =
-    (grows-after (length cs) (size (treeIn xs m)) 0 (eval (treeIn xs m) env cs) (λ w cs₁. twoOn f n v w cs₁)
-    (eval-grows (treeIn xs m) env cs) (λ w cs₁. two-grows f n v w cs₁)).keeps
+    (grows-after (length cs) (size (tree_in xs m)) 0 (eval (tree_in xs m) env cs) (λ w cs₁. two_on f n v w cs₁)
+    (eval-grows (tree_in xs m) env cs) (λ w cs₁. two-grows f n v w cs₁)).keeps
 rest-keeps Wrong xs f n v env cs = (grows-failed n cs 0).keeps
 
 -- ---- a node that can run
@@ -148,160 +148,160 @@ grows_from e env cells used =
     subst (λ (n : ℕ). Grows n (size e) (eval e env (values_of used cells))) (length-values used cells) (eval-grows e env (values_of used cells))
 
 module _ {xs env : List ℕ} {depth : ℕ} {cells : List ℕ} {used n : ℕ} (q : Ready xs env depth cells used n) where
-  pub gives : {left envLeft : List ℕ} {r : Step} {v : Value} {u : ℕ}
-      → Runs (eval (treeIn xs n) (values_of depth env) (values_of used cells)) depth env envLeft r cells left → r ≡ Gave v u
-      → Given (eval (treeIn xs n) (values_of depth env) (values_of used cells)) v u left
+  pub gives : {left env_left : List ℕ} {r : Step} {v : Value} {u : ℕ}
+      → Runs (eval (tree_in xs n) (values_of depth env) (values_of used cells)) depth env env_left r cells left → r ≡ Gave v u
+      → Given (eval (tree_in xs n) (values_of depth env) (values_of used cells)) v u left
   gives d e =
       given
-      (eval-in-range (treeIn xs n) q.environment.held.ranged q.store.held.ranged (omega (arith, q.store.room, length-values used cells)))
+      (eval_in_range (tree_in xs n) q.environment.held.ranged q.store.held.ranged (omega (arith, q.store.room, length-values used cells)))
       d.does e
 
   -- a leaf
-  pub leaf-runs : (nodeIn xs n).kind < leafKinds → {r : Step} → Says (leafOn (form_of (nodeIn xs n).kind) n (nodeIn xs n) (values_of depth env)) used r
-      → Runs (eval (treeIn xs n) (values_of depth env) (values_of used cells)) depth env env r cells cells
+  pub leaf-runs : (node_in xs n).kind < leaf_kinds → {r : Step} → Says (leaf_on (form_of (node_in xs n).kind) n (node_in xs n) (values_of depth env)) used r
+      → Runs (eval (tree_in xs n) (values_of depth env) (values_of used cells)) depth env env r cells cells
   leaf-runs z {r} s =
       record {
         does =
-            subst (λ (o : Outcome). Does o r cells cells) (sym (leaf-eval (shaped q.formed) (leaf-kinds (nodeIn xs n).kind z) (values_of depth env) (values_of used cells)))
+            subst (λ (o : Outcome). Does o r cells cells) (sym (leaf-eval (shaped q.formed) (leaf_kinds_lem (node_in xs n).kind z) (values_of depth env) (values_of used cells)))
             (does-says q.store s);
         kept = refl;
       }
 
   -- any other node has an operand; the first is earlier, and can run
-  pub first-earlier : 1 ≤ nodeOperands (nodeIn xs n).kind → (nodeIn xs n).a < n
+  pub first-earlier : 1 ≤ node_operands (node_in xs n).kind → (node_in xs n).a < n
   first-earlier h = (first_of (shaped q.formed) h).earlier
 
-  pub ready-first : 1 ≤ nodeOperands (nodeIn xs n).kind → Ready xs env depth cells used (nodeIn xs n).a
-  ready-first h =
+  pub ready_first : 1 ≤ node_operands (node_in xs n).kind → Ready xs env depth cells used (node_in xs n).a
+  ready_first h =
       let f = first_of (shaped q.formed) h in
       record {
-        formed = formed-less (suc (nodeIn xs n).a) (omega (arith, f.earlier)) q.formed;
+        formed = formed_less (suc (node_in xs n).a) (omega (arith, f.earlier)) q.formed;
         environment = record { held = q.environment.held; room = omega (arith, q.environment.room, f.earlier) };
         store = record { held = q.store.held; lent = q.store.lent; room = omega (arith, q.store.room, f.smaller) };
       }
 
 -- ---- its first operand has run
 
-module _ {xs env : List ℕ} {depth : ℕ} {cells : List ℕ} {used n : ℕ} (q : Ready xs env depth cells used n) (h : 1 ≤ nodeOperands (nodeIn xs n).kind)
-    {envLeft left : List ℕ} {r : Step}
-    (d : Runs (eval (treeIn xs (nodeIn xs n).a) (values_of depth env) (values_of used cells)) depth env envLeft r cells left) where
+module _ {xs env : List ℕ} {depth : ℕ} {cells : List ℕ} {used n : ℕ} (q : Ready xs env depth cells used n) (h : 1 ≤ node_operands (node_in xs n).kind)
+    {env_left left : List ℕ} {r : Step}
+    (d : Runs (eval (tree_in xs (node_in xs n).a) (values_of depth env) (values_of used cells)) depth env env_left r cells left) where
   -- it failed
-  pub first-failed : {a u : ℕ} → r ≡ Failed a u → Runs (eval (treeIn xs n) (values_of depth env) (values_of used cells)) depth env envLeft (Failed a u) cells left
+  pub first-failed : {a u : ℕ} → r ≡ Failed a u → Runs (eval (tree_in xs n) (values_of depth env) (values_of used cells)) depth env env_left (Failed a u) cells left
   first-failed {a} {u} e =
-      let t = then-of (shaped q.formed) h (values_of depth env) (values_of used cells) in
+      let t = then_of (shaped q.formed) h (values_of depth env) (values_of used cells) in
       record {
         does =
             subst (λ (o : Outcome). Does o (Failed a u) cells left) (sym t.evaluates)
-            (failed-on (eval (treeIn xs (nodeIn xs n).a) (values_of depth env) (values_of used cells)) d.does e t.rest);
+            (failed_on (eval (tree_in xs (node_in xs n).a) (values_of depth env) (values_of used cells)) d.does e t.rest);
         kept = d.kept;
       }
 
   -- it gave v
   module _ {v : Value} {u : ℕ} (e : r ≡ Gave v u) where
-    first_gives : Given (eval (treeIn xs (nodeIn xs n).a) (values_of depth env) (values_of used cells)) v u left
-    first_gives = gives (ready-first q h) d e
+    first_gives : Given (eval (tree_in xs (node_in xs n).a) (values_of depth env) (values_of used cells)) v u left
+    first_gives = gives (ready_first q h) d e
 
-    first-cells : (more : ℕ) → size (treeIn xs (nodeIn xs n).a) + more ≤ size (treeIn xs n) → Cells left u more
+    first-cells : (more : ℕ) → size (tree_in xs (node_in xs n).a) + more ≤ size (tree_in xs n) → Cells left u more
     first-cells more l =
-        cells-on first_gives more q.store (grows_from (treeIn xs (nodeIn xs n).a) (values_of depth env) cells used) l d.does
+        cells_on first_gives more q.store (grows_from (tree_in xs (node_in xs n).a) (values_of depth env) cells used) l d.does
 
     pub first-ranged : InRange v
     first-ranged = first_gives.ranged
 
-    pub one-ready : Cells left u 1
-    one-ready = let f = first_of (shaped q.formed) h in first-cells 1 (omega (arith, f.smaller))
+    pub one_ready : Cells left u 1
+    one_ready = let f = first_of (shaped q.formed) h in first-cells 1 (omega (arith, f.smaller))
 
-    pub one-runs : nodeOperands (nodeIn xs n).kind ≡ 1 → {r₂ : Step} {left₂ : List ℕ}
-        → Does (oneOn (form_of (nodeIn xs n).kind) n v (values_of u left)) r₂ left left₂
-        → Runs (eval (treeIn xs n) (values_of depth env) (values_of used cells)) depth env envLeft r₂ cells left₂
-    one-runs z {r₂} {left₂} d₂ =
-        let k = oneOn (form_of (nodeIn xs n).kind) n in
+    pub one_runs : node_operands (node_in xs n).kind ≡ 1 → {r₂ : Step} {left₂ : List ℕ}
+        → Does (one_on (form_of (node_in xs n).kind) n v (values_of u left)) r₂ left left₂
+        → Runs (eval (tree_in xs n) (values_of depth env) (values_of used cells)) depth env env_left r₂ cells left₂
+    one_runs z {r₂} {left₂} d₂ =
+        let k = one_on (form_of (node_in xs n).kind) n in
         record {
           does =
-              subst (λ (o : Outcome). Does o r₂ cells left₂) (sym (one-eval (shaped q.formed) z (values_of depth env) (values_of used cells)))
+              subst (λ (o : Outcome). Does o r₂ cells left₂) (sym (one_eval (shaped q.formed) z (values_of depth env) (values_of used cells)))
               (does-after first_gives k d.does
-              (one_grows (form_of (nodeIn xs n).kind) n v (values_of u left)).keeps
+              (one_grows (form_of (node_in xs n).kind) n v (values_of u left)).keeps
               d₂);
           kept = d.kept;
         }
 
-    pub half-ready : 2 ≤ nodeOperands (nodeIn xs n).kind → length envLeft ≡ length env → Halfway xs envLeft depth left u n v
-    half-ready m l =
+    pub half_ready : 2 ≤ node_operands (node_in xs n).kind → length env_left ≡ length env → Halfway xs env_left depth left u n v
+    half_ready m l =
         record {
           formed = q.formed;
           several = m;
-          environment = variables-on q.environment d.kept l;
-          store = first-cells (restSize xs (nodeIn xs n)) (rest_of (shaped q.formed) m).fits;
+          environment = variables_on q.environment d.kept l;
+          store = first-cells (rest_size xs (node_in xs n)) (rest_of (shaped q.formed) m).fits;
           ranged = first-ranged;
         }
 
-    pub rest-runs : 2 ≤ nodeOperands (nodeIn xs n).kind → {env₂ left₂ : List ℕ} {r₂ : Step}
-        → Runs (restOn xs n (nodeIn xs n) v (values_of depth envLeft) (values_of u left)) depth envLeft env₂ r₂ left left₂
-        → Runs (eval (treeIn xs n) (values_of depth env) (values_of used cells)) depth env env₂ r₂ cells left₂
+    pub rest-runs : 2 ≤ node_operands (node_in xs n).kind → {env₂ left₂ : List ℕ} {r₂ : Step}
+        → Runs (rest_on xs n (node_in xs n) v (values_of depth env_left) (values_of u left)) depth env_left env₂ r₂ left left₂
+        → Runs (eval (tree_in xs n) (values_of depth env) (values_of used cells)) depth env env₂ r₂ cells left₂
     rest-runs m {env₂} {left₂} {r₂} d₂ =
-        let k : Value → List Value → Outcome = λ x cs. restOn xs n (nodeIn xs n) x (values_of depth env) cs in
-        let f = form_of (nodeIn xs n).kind in
+        let k : Value → List Value → Outcome = λ x cs. rest_on xs n (node_in xs n) x (values_of depth env) cs in
+        let f = form_of (node_in xs n).kind in
         record {
           does =
               subst (λ (p : Outcome). Does p r₂ cells left₂)
               (sym ((rest_of (shaped q.formed) m).evaluates (values_of depth env) (values_of used cells)))
               (does-after first_gives k d.does
-              (rest-keeps (nextOn f v (nodeIn xs n)) xs f n v (boundOn (nodeIn xs n) v (values_of depth env)) (values_of u left))
-              (subst (λ (vs : List Value). Does (restOn xs n (nodeIn xs n) v vs (values_of u left)) r₂ left left₂) (kept-values envLeft q.environment d.kept) d₂.does));
+              (rest-keeps (next_on f v (node_in xs n)) xs f n v (bound_on (node_in xs n) v (values_of depth env)) (values_of u left))
+              (subst (λ (vs : List Value). Does (rest_on xs n (node_in xs n) v vs (values_of u left)) r₂ left left₂) (kept-values env_left q.environment d.kept) d₂.does));
           kept = d₂.kept ∙ d.kept;
         }
 
 -- ---- going on with a node
 
-bound-length : (m : Node) (v : Value) (env : List Value) → (length env ≤ length (boundOn m v env)) × (length (boundOn m v env) ≤ length env + 1)
-unfolding severalBy
+bound-length : (m : Node) (v : Value) (env : List Value) → (length env ≤ length (bound_on m v env)) × (length (bound_on m v env) ≤ length env + 1)
+unfolding several_by
 bound-length m v env = go (form_of m.kind)
   where
-    go : (f : Form) → (length env ≤ length (severalBy f env (env ++ (v ∷ [])) (λ o. env) env)) × (length (severalBy f env (env ++ (v ∷ [])) (λ o. env) env) ≤ length env + 1)
-    go intForm = (omega arith, omega arith)
-    go varForm = (omega arith, omega arith)
-    go ifForm = (omega arith, omega arith)
-    go letForm = let l = length-append env (v ∷ []) in (omega arith, omega arith)
-    go typedForm = (omega arith, omega arith)
-    go symForm = (omega arith, omega arith)
-    go (truthForm b) = (omega arith, omega arith)
-    go (unaryForm o) = (omega arith, omega arith)
-    go (binaryForm o) = (omega arith, omega arith)
+    go : (f : Form) → (length env ≤ length (several_by f env (env ++ (v ∷ [])) (λ o. env) env)) × (length (several_by f env (env ++ (v ∷ [])) (λ o. env) env) ≤ length env + 1)
+    go int_form = (omega arith, omega arith)
+    go var_form = (omega arith, omega arith)
+    go if_form = (omega arith, omega arith)
+    go let_form = let l = length-append env (v ∷ []) in (omega arith, omega arith)
+    go typed_form = (omega arith, omega arith)
+    go sym_form = (omega arith, omega arith)
+    go (truth_form b) = (omega arith, omega arith)
+    go (unary_form o) = (omega arith, omega arith)
+    go (binary_form o) = (omega arith, omega arith)
 
 module _ {xs env : List ℕ} {depth : ℕ} {cells : List ℕ} {used n : ℕ} {v : Value} (q : Halfway xs env depth cells used n v) where
   -- the condition is no truth
-  pub wrong-runs : nextOn (form_of (nodeIn xs n).kind) v (nodeIn xs n) ≡ Wrong
-      → Runs (restOn xs n (nodeIn xs n) v (values_of depth env) (values_of used cells)) depth env env (Failed n used) cells cells
-  unfolding restBy
+  pub wrong-runs : next_on (form_of (node_in xs n).kind) v (node_in xs n) ≡ Wrong
+      → Runs (rest_on xs n (node_in xs n) v (values_of depth env) (values_of used cells)) depth env env (Failed n used) cells cells
+  unfolding rest_by
   wrong-runs e =
       record {
         does =
-            does-failed q.store (restOn xs n (nodeIn xs n) v (values_of depth env) (values_of used cells))
-            (ap (λ (x : Next). restBy x xs (form_of (nodeIn xs n).kind) n v (boundOn (nodeIn xs n) v (values_of depth env)) (values_of used cells)) e);
+            does-failed q.store (rest_on xs n (node_in xs n) v (values_of depth env) (values_of used cells))
+            (ap (λ (x : Next). rest_by x xs (form_of (node_in xs n).kind) n v (bound_on (node_in xs n) v (values_of depth env)) (values_of used cells)) e);
         kept = refl;
       }
 
-  pub bind-ready : Variables env depth 1
-  bind-ready = record { held = q.environment.held; room = omega (arith, q.environment.room) }
+  pub bind_ready : Variables env depth 1
+  bind_ready = record { held = q.environment.held; room = omega (arith, q.environment.room) }
 
   -- the next operand is m, and the variables are bound
-  module _ {m : ℕ} (e : nextOn (form_of (nodeIn xs n).kind) v (nodeIn xs n) ≡ Operand m) {env₁ : List ℕ} {inner : ℕ}
-      (b : Bound env depth (boundOn (nodeIn xs n) v (values_of depth env)) env₁ inner) where
-    inner-values : values_of inner env₁ ≡ boundOn (nodeIn xs n) v (values_of depth env)
-    inner-values = ap (λ (k : ℕ). values_of k env₁) b.counts ∙ holds-values b.holds
+  module _ {m : ℕ} (e : next_on (form_of (node_in xs n).kind) v (node_in xs n) ≡ Operand m) {env₁ : List ℕ} {inner : ℕ}
+      (b : Bound env depth (bound_on (node_in xs n) v (values_of depth env)) env₁ inner) where
+    inner_values : values_of inner env₁ ≡ bound_on (node_in xs n) v (values_of depth env)
+    inner_values = ap (λ (k : ℕ). values_of k env₁) b.counts ∙ holds-values b.holds
 
     pub next-earlier : m < n
     next-earlier = (follows (shaped q.formed) q.several v e).earlier
 
-    pub next-ready : length env₁ ≡ length env → Ready xs env₁ inner cells used m
-    next-ready l =
+    pub next_ready : length env₁ ≡ length env → Ready xs env₁ inner cells used m
+    next_ready l =
         let f = follows (shaped q.formed) q.several v e in
-        let k = bound-length (nodeIn xs n) v (values_of depth env) in
+        let k = bound-length (node_in xs n) v (values_of depth env) in
         let w = length-values depth env in
         record {
-          formed = formed-less (suc m) (omega (arith, f.earlier)) q.formed;
+          formed = formed_less (suc m) (omega (arith, f.earlier)) q.formed;
           environment = record {
-            held = subst (λ (vs : List Value). Holds env₁ vs) (sym inner-values) b.holds;
+            held = subst (λ (vs : List Value). Holds env₁ vs) (sym inner_values) b.holds;
             room = omega (arith, b.counts, k.1, w, l, f.earlier, q.environment.room);
           };
           store = record { held = q.store.held; lent = q.store.lent; room = omega (arith, q.store.room, f.fits) };
@@ -309,17 +309,17 @@ module _ {xs env : List ℕ} {depth : ℕ} {cells : List ℕ} {used n : ℕ} {v 
 
     -- it has run
     module _ (l : length env₁ ≡ length env) {env₂ left : List ℕ} {r : Step}
-        (d : Runs (eval (treeIn xs m) (values_of inner env₁) (values_of used cells)) inner env₁ env₂ r cells left) where
-      rest-is : restOn xs n (nodeIn xs n) v (values_of depth env) (values_of used cells)
-          ≡ after (eval (treeIn xs m) (values_of inner env₁) (values_of used cells)) (λ w cs. twoOn (form_of (nodeIn xs n).kind) n v w cs)
-      unfolding restBy
+        (d : Runs (eval (tree_in xs m) (values_of inner env₁) (values_of used cells)) inner env₁ env₂ r cells left) where
+      rest-is : rest_on xs n (node_in xs n) v (values_of depth env) (values_of used cells)
+          ≡ after (eval (tree_in xs m) (values_of inner env₁) (values_of used cells)) (λ w cs. two_on (form_of (node_in xs n).kind) n v w cs)
+      unfolding rest_by
       rest-is =
-          ap (λ (x : Next). restBy x xs (form_of (nodeIn xs n).kind) n v (boundOn (nodeIn xs n) v (values_of depth env)) (values_of used cells)) e
-          ∙ ap (λ (vs : List Value). after (eval (treeIn xs m) vs (values_of used cells)) λ w cs. twoOn (form_of (nodeIn xs n).kind) n v w cs) (sym inner-values)
+          ap (λ (x : Next). rest_by x xs (form_of (node_in xs n).kind) n v (bound_on (node_in xs n) v (values_of depth env)) (values_of used cells)) e
+          ∙ ap (λ (vs : List Value). after (eval (tree_in xs m) vs (values_of used cells)) λ w cs. two_on (form_of (node_in xs n).kind) n v w cs) (sym inner_values)
 
       kept-all : take (5 * depth) env₂ ≡ take (5 * depth) env
       kept-all =
-          let k = bound-length (nodeIn xs n) v (values_of depth env) in
+          let k = bound-length (node_in xs n) v (values_of depth env) in
           let w : 5 * depth ≤ 5 * inner = omega (arith, b.counts, k.0, length-values depth env) in
           sym (take-take (5 * depth) (5 * inner) env₂ w)
           ∙ ap (take (5 * depth)) d.kept
@@ -327,35 +327,35 @@ module _ {xs env : List ℕ} {depth : ℕ} {cells : List ℕ} {used n : ℕ} {v 
           ∙ b.kept
 
       pub next-failed : {a u : ℕ} → r ≡ Failed a u
-          → Runs (restOn xs n (nodeIn xs n) v (values_of depth env) (values_of used cells)) depth env env₂ (Failed a u) cells left
+          → Runs (rest_on xs n (node_in xs n) v (values_of depth env) (values_of used cells)) depth env env₂ (Failed a u) cells left
       next-failed {a} {u} p =
           record {
             does =
                 subst (λ (o : Outcome). Does o (Failed a u) cells left) (sym rest-is)
-                (failed-on (eval (treeIn xs m) (values_of inner env₁) (values_of used cells)) d.does p _);
+                (failed_on (eval (tree_in xs m) (values_of inner env₁) (values_of used cells)) d.does p _);
             kept = kept-all;
           }
 
       module _ {w : Value} {u : ℕ} (p : r ≡ Gave w u) where
-        next-gives : Given (eval (treeIn xs m) (values_of inner env₁) (values_of used cells)) w u left
-        next-gives = gives (next-ready l) d p
+        next-gives : Given (eval (tree_in xs m) (values_of inner env₁) (values_of used cells)) w u left
+        next-gives = gives (next_ready l) d p
 
         pub two-ranged : InRange w
         two-ranged = next-gives.ranged
 
         pub two_ready : Cells left u 0
         two_ready =
-            cells-on next-gives 0 (next-ready l).store (grows_from (treeIn xs m) (values_of inner env₁) cells used) (omega arith) d.does
+            cells_on next-gives 0 (next_ready l).store (grows_from (tree_in xs m) (values_of inner env₁) cells used) (omega arith) d.does
 
-        pub two_runs : {r₂ : Step} {left₂ : List ℕ} → Does (twoOn (form_of (nodeIn xs n).kind) n v w (values_of u left)) r₂ left left₂
-            → Runs (restOn xs n (nodeIn xs n) v (values_of depth env) (values_of used cells)) depth env env₂ r₂ cells left₂
+        pub two_runs : {r₂ : Step} {left₂ : List ℕ} → Does (two_on (form_of (node_in xs n).kind) n v w (values_of u left)) r₂ left left₂
+            → Runs (rest_on xs n (node_in xs n) v (values_of depth env) (values_of used cells)) depth env env₂ r₂ cells left₂
         two_runs {r₂} {left₂} d₂ =
-            let k : Value → List Value → Outcome = λ x cs. twoOn (form_of (nodeIn xs n).kind) n v x cs in
+            let k : Value → List Value → Outcome = λ x cs. two_on (form_of (node_in xs n).kind) n v x cs in
             record {
               does =
                   subst (λ (o : Outcome). Does o r₂ cells left₂) (sym rest-is)
                   (does-after next-gives k d.does
-                  (two-grows (form_of (nodeIn xs n).kind) n v w (values_of u left)).keeps
+                  (two-grows (form_of (node_in xs n).kind) n v w (values_of u left)).keeps
                   d₂);
               kept = kept-all;
             }

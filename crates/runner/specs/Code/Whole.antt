@@ -6,20 +6,20 @@ use Rattle.std.proofs.Math.Path.{refl, ap}
 use Rattle.std.proofs.Common.{sym, subst, ◌∙◌, arith}
 use Rattle.std.proofs.lemmas.List.{take-append-le}
 use Rattle.std.proofs.Math.Seq.{take-length}
-use Rattle.script.specs.Code.Forms.{treeIn}
+use Rattle.script.specs.Code.Forms.{tree_in}
 use Rattle.script.specs.Code.Root.{Rooted, rooted, root-formed, root-tree, root-size}
-use Rattle.script.specs.Flat.{nodesIn, tableIn}
-use Rattle.script.specs.Limits.{nodeLimit, entryLimit}
-use Rattle.script.specs.Table.{tableTest}
+use Rattle.script.specs.Flat.{nodes_in, table_in}
+use Rattle.script.specs.Limits.{node_limit, entry_limit}
+use Rattle.script.specs.Table.{table_test}
 use Rattle.script.specs.Table.Laws.{passes}
 use Rattle.script.specs.Tree.{Expr, root, tree_of}
 use Rattle.script.specs.declared.Ran.{Ran}
 use Rattle.script.specs.declared.Refusal.{Refusal}
 use Rattle.script.specs.declared.Value.{Value}
 use Rattle.rules.specs.Evaluation.{Outcome, gave, failed, eval}
-use Rattle.rules.specs.Running.{Run, values_of, allValid, usedLimit, lentLimit, rightCells, rightValues, finished, runTest, runTable}
-use Rattle.rules.specs.Running.Laws.{Bytes, bytes-values, length-values, values-in-range}
-use Rattle.rules.specs.Running.Room.{cells_fit, values-fit}
+use Rattle.rules.specs.Running.{Run, values_of, all_valid, used_limit, lent_limit, right_cells, right_values, finished, run_test, run_table}
+use Rattle.rules.specs.Running.Laws.{Bytes, bytes-values, length-values, values_in_range}
+use Rattle.rules.specs.Running.Room.{cells_fit, values_fit}
 use Rattle.operators.specs.Steps.{Holds, Does, Ready, Runs}
 use Rattle.operators.specs.Steps.Values.{holds-values}
 use Rattle.operators.specs.declared.Step.{Step}
@@ -28,111 +28,111 @@ use Rattle.runner.specs.Answered.{Answered}
 
 -- a table, values and cells that a run can take
 pub record Runnable (table : List ℕ) (nodes entries : ℕ) (values cells : List ℕ) (used : ℕ) : Type 0 where
-  pub nodesRooted : Rooted table nodes
-  pub entriesMost : entries ≤ entryLimit
-  pub valuesCount : length values ≡ 5 * entries
-  pub valuesValid : allValid used entries values ≡ true
-  pub usedMost : used ≤ usedLimit
-  pub lent : 5 * lentLimit ≤ length cells
-  pub cellsValid : allValid used used cells ≡ true
+  pub nodes_rooted : Rooted table nodes
+  pub entries_most : entries ≤ entry_limit
+  pub values_count : length values ≡ 5 * entries
+  pub values_valid : all_valid used entries values ≡ true
+  pub used_most : used ≤ used_limit
+  pub lent : 5 * lent_limit ≤ length cells
+  pub cells_valid : all_valid used used cells ≡ true
 
 -- ---- running the last node
 
 module _ {table : List ℕ} {nodes entries : ℕ} {values cells : List ℕ} {used : ℕ} (q : Runnable table nodes entries values cells used)
     (m : ℕ) (last : suc m ≡ nodes) where
   module _ (vb : Bytes values) (env rest : List ℕ) (is : env ≡ take (length values) values ++ rest) where
-    env-holds : Holds env (values_of entries values)
-    env-holds =
+    env_holds : Holds env (values_of entries values)
+    env_holds =
         record {
           bytes =
               rw (length-values, is, take-length)
-              (take-append-le (5 * entries) values rest (omega (arith, q.valuesCount))
-              ∙ sym (bytes-values used entries values (omega (arith, q.valuesCount)) vb q.valuesValid));
-          ranged = values-in-range entries vb;
+              (take-append-le (5 * entries) values rest (omega (arith, q.values_count))
+              ∙ sym (bytes-values used entries values (omega (arith, q.values_count)) vb q.values_valid));
+          ranged = values_in_range entries vb;
         }
 
-    env-values : values_of entries env ≡ values_of entries values
-    env-values = ap (λ (n : ℕ). values_of n env) (sym (length-values entries values)) ∙ holds-values env-holds
+    env_values : values_of entries env ≡ values_of entries values
+    env_values = ap (λ (n : ℕ). values_of n env) (sym (length-values entries values)) ∙ holds-values env_holds
 
-    pub last-ready : Bytes cells → 5 * (entryLimit + nodeLimit) ≤ length env → Ready table env entries cells used m
-    last-ready cb l =
+    pub last_ready : Bytes cells → 5 * (entry_limit + node_limit) ≤ length env → Ready table env entries cells used m
+    last_ready cb l =
         record {
-          formed = root-formed q.nodesRooted m last;
+          formed = root-formed q.nodes_rooted m last;
           environment = record {
-            held = subst (λ (vs : List Value). Holds env vs) (sym env-values) env-holds;
-            room = omega (arith, l, last, q.nodesRooted.formed.most, q.entriesMost);
+            held = subst (λ (vs : List Value). Holds env vs) (sym env_values) env_holds;
+            room = omega (arith, l, last, q.nodes_rooted.formed.most, q.entries_most);
           };
           store = record {
             held = record {
-              bytes = rw length-values (sym (bytes-values used used cells (omega (arith, q.usedMost, q.lent)) cb q.cellsValid));
-              ranged = values-in-range used cb;
+              bytes = rw length-values (sym (bytes-values used used cells (omega (arith, q.used_most, q.lent)) cb q.cells_valid));
+              ranged = values_in_range used cb;
             };
             lent = q.lent;
-            room = omega (arith, root-size q.nodesRooted m last, q.usedMost, q.nodesRooted.formed.most);
+            room = omega (arith, root-size q.nodes_rooted m last, q.used_most, q.nodes_rooted.formed.most);
           };
         }
 
-    pub last-does : {envLeft left : List ℕ} {r : Step}
-        → Runs (eval (treeIn table m) (values_of entries env) (values_of used cells)) entries env envLeft r cells left
-        → Does (eval (root (take nodes (nodesIn table))) (values_of entries values) (values_of used cells)) r cells left
+    pub last-does : {env_left left : List ℕ} {r : Step}
+        → Runs (eval (tree_in table m) (values_of entries env) (values_of used cells)) entries env env_left r cells left
+        → Does (eval (root (take nodes (nodes_in table))) (values_of entries values) (values_of used cells)) r cells left
     last-does {left = left} {r = r} d =
-        subst (λ (t : Expr). Does (eval t (values_of entries values) (values_of used cells)) r cells left) (root-tree q.nodesRooted m last)
-        (subst (λ (vs : List Value). Does (eval (treeIn table m) vs (values_of used cells)) r cells left) env-values d.does)
+        subst (λ (t : Expr). Does (eval t (values_of entries values) (values_of used cells)) r cells left) (root-tree q.nodes_rooted m last)
+        (subst (λ (vs : List Value). Does (eval (tree_in table m) vs (values_of used cells)) r cells left) env_values d.does)
 
 -- ---- the ways through the call
 
-finishedBy : Step → List ℕ → Run
-finishedBy (Gave v u) left = record { answer = Ran.Gave v u; cells = left }
-finishedBy (Failed n u) left = record { answer = Ran.Failed n u; cells = left }
+finished_by : Step → List ℕ → Run
+finished_by (Gave v u) left = record { answer = Ran.Gave v u; cells = left }
+finished_by (Failed n u) left = record { answer = Ran.Failed n u; cells = left }
 
-finished-is : (o : Outcome) {r : Step} {cells left : List ℕ} → Does o r cells left → finishedBy r left ≡ finished cells o
-unfolding finishedBy
+finished-is : (o : Outcome) {r : Step} {cells left : List ℕ} → Does o r cells left → finished_by r left ≡ finished cells o
+unfolding finished_by
 finished-is (gave v cs) d = rw (d.answer, d.leaves) refl
 finished-is (failed n cs) d = rw (d.answer, d.leaves) refl
 
 module _ (table : List ℕ) (nodes : ℕ) (es : List ℕ) (entries : ℕ) (values cells : List ℕ) (used : ℕ) where
-  pub table-refused : {e : Refusal} → tableTest (tableIn table nodes es entries) ≡ some e → Answered table nodes es entries values cells used (Ran.Refused e) cells
-  unfolding runTable
+  pub table-refused : {e : Refusal} → table_test (table_in table nodes es entries) ≡ some e → Answered table nodes es entries values cells used (Ran.Refused e) cells
+  unfolding run_table
   table-refused p = rw p refl
 
-  module _ (p : tableTest (tableIn table nodes es entries) ≡ none) where
-    pub few-entries : entries ≤ entryLimit
-    few-entries = (passes (tableIn table nodes es entries) p).entriesMost
+  module _ (p : table_test (table_in table nodes es entries) ≡ none) where
+    pub few-entries : entries ≤ entry_limit
+    few-entries = (passes (table_in table nodes es entries) p).entries_most
 
-    pub cells-refused : rightCells cells used ≡ false → Answered table nodes es entries values cells used (Ran.Refused Refusal.BadCells) cells
-    unfolding runTable runTest
+    pub cells-refused : right_cells cells used ≡ false → Answered table nodes es entries values cells used (Ran.Refused Refusal.BadCells) cells
+    unfolding run_table run_test
     cells-refused e = rw (p, e) refl
 
-    module _ (c : rightCells cells used ≡ true) where
-      pub values-refused : rightValues entries values cells used ≡ false → Answered table nodes es entries values cells used (Ran.Refused Refusal.BadValues) cells
-      unfolding runTable runTest
+    module _ (c : right_cells cells used ≡ true) where
+      pub values-refused : right_values entries values cells used ≡ false → Answered table nodes es entries values cells used (Ran.Refused Refusal.BadValues) cells
+      unfolding run_table run_test
       values-refused e = rw (p, c, e) refl
 
-      module _ (v : rightValues entries values cells used ≡ true) where
+      module _ (v : right_values entries values cells used ≡ true) where
         pub runnable : Runnable table nodes entries values cells used
         runnable =
             let a = cells_fit cells used c in
-            let b = values-fit entries values cells used v in
+            let b = values_fit entries values cells used v in
             record {
-              nodesRooted = rooted table nodes es entries p;
-              entriesMost = few-entries;
-              valuesCount = b.counts;
-              valuesValid = b.valuesValid;
-              usedMost = a.0;
+              nodes_rooted = rooted table nodes es entries p;
+              entries_most = few-entries;
+              values_count = b.counts;
+              values_valid = b.values_valid;
+              used_most = a.0;
               lent = a.1;
-              cellsValid = b.cellsValid;
+              cells_valid = b.cells_valid;
             }
 
-        run_is : finished cells (eval (root (take nodes (nodesIn table))) (values_of entries values) (values_of used cells)) ≡ runTable (tableIn table nodes es entries) values cells used
-        unfolding runTable runTest tree_of
+        run_is : finished cells (eval (root (take nodes (nodes_in table))) (values_of entries values) (values_of used cells)) ≡ run_table (table_in table nodes es entries) values cells used
+        unfolding run_table run_test tree_of
         run_is = rw (p, c, v) refl
 
         module _ {r : Step} {left : List ℕ}
-            (d : Does (eval (root (take nodes (nodesIn table))) (values_of entries values) (values_of used cells)) r cells left) where
-          pub run-gave : {x : Value} {u : ℕ} → r ≡ Gave x u → Answered table nodes es entries values cells used (Ran.Gave x u) left
-          unfolding finishedBy
-          run-gave e = ap (λ (s : Step). finishedBy s left) (sym e) ∙ finished-is _ d ∙ run_is
+            (d : Does (eval (root (take nodes (nodes_in table))) (values_of entries values) (values_of used cells)) r cells left) where
+          pub run_gave : {x : Value} {u : ℕ} → r ≡ Gave x u → Answered table nodes es entries values cells used (Ran.Gave x u) left
+          unfolding finished_by
+          run_gave e = ap (λ (s : Step). finished_by s left) (sym e) ∙ finished-is _ d ∙ run_is
 
-          pub run-failed : {n u : ℕ} → r ≡ Failed n u → Answered table nodes es entries values cells used (Ran.Failed n u) left
-          unfolding finishedBy
-          run-failed e = ap (λ (s : Step). finishedBy s left) (sym e) ∙ finished-is _ d ∙ run_is
+          pub run_failed : {n u : ℕ} → r ≡ Failed n u → Answered table nodes es entries values cells used (Ran.Failed n u) left
+          unfolding finished_by
+          run_failed e = ap (λ (s : Step). finished_by s left) (sym e) ∙ finished-is _ d ∙ run_is

@@ -5,12 +5,12 @@ use native.Mathlib.Omega.{arith}
 use lib.Seq.{length-take-le}
 use Rattle.trial.specs.Given.Laws.{count_most}
 use Rattle.trial.specs.Places.Laws.{text-after}
-use Rattle.runs.specs.Given.Laws.{no-values, no_cells, no_text, ran}
+use Rattle.runs.specs.Given.Laws.{no_values, no_cells, no_text, ran}
 use Rattle.runs.proofs.try_given.Statement.{statement}
 use Rattle.runs.proofs.try_given.Tie as tie
 
 returns : tie.Need-returns
-returns c = no-values _ _ _ _ _ _ c.before.before.before.before.bytes-line.ensures c.enum_told.given.1
+returns c = no_values _ _ _ _ _ _ c.before.before.before.before.bytes-line.ensures c.enum_told.given.1
 
 returns-2 : tie.Need-returns-2
 returns-2 c =

@@ -4,15 +4,15 @@ use mathlib.Core.Path.{sym}
 use native.Mathlib.Omega.{arith}
 use lib.Seq.{length-take-le}
 use Rattle.trial.specs.Numbers.Laws.{second-most}
-use Rattle.trial.specs.Places.Laws.{name-within}
+use Rattle.trial.specs.Places.Laws.{name_within}
 use Rattle.runs.proofs.try_run.Statement.{statement}
 use Rattle.runs.proofs.try_run.Tie as tie
 
 part-say-end : tie.Need-slice-bounds-say-end
-part-say-end c = let h = name-within _ _ c.before.name-end.ensures c.if1.false in omega arith
+part-say-end c = let h = name_within _ _ c.before.name-end.ensures c.if1.false in omega arith
 
 add-try-given : tie.Need-overflow-add-try-given
-add-try-given c = let h = name-within _ _ c.before.before.before.before.before.before.name-end.ensures c.before.before.before.before.before.if1.false in omega arith
+add-try-given c = let h = name_within _ _ c.before.before.before.before.before.before.name-end.ensures c.before.before.before.before.before.if1.false in omega arith
 
 slice-aggregate-try-given-2 : tie.Need-slice-aggregate-try-given-2
 slice-aggregate-try-given-2 c = sym (length-take-le _ _ (search rules))

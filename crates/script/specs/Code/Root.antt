@@ -5,12 +5,12 @@ use Rattle.std.proofs.Math.Option.{none}
 use Rattle.std.proofs.Math.Path.{sym, ap}
 use Rattle.std.proofs.Common.{subst, ◌∙◌, arith, length-take-le}
 use Prim.Native.Nat.{ℕ, suc, ◌≤◌, pred}
-use Rattle.script.specs.Code.Forms.{treeIn}
-use Rattle.script.specs.Flat.{FormedNodes, nodesIn, tableIn}
-use Rattle.script.specs.Flat.Laws.{length-nodesIn, nodesIn-holds}
-use Rattle.script.specs.Table.{tableTest}
+use Rattle.script.specs.Code.Forms.{tree_in}
+use Rattle.script.specs.Flat.{FormedNodes, nodes_in, table_in}
+use Rattle.script.specs.Flat.Laws.{length-nodes_in, nodes_in-holds}
+use Rattle.script.specs.Table.{table_test}
 use Rattle.script.specs.Table.Laws.{Sound, passes}
-use Rattle.script.specs.Tree.{size, treeAt, trees, root}
+use Rattle.script.specs.Tree.{size, tree_at, trees, root}
 use Rattle.script.specs.Tree.Laws.{trees-take}
 use Rattle.script.specs.Tree.Size.{size-root}
 
@@ -18,17 +18,17 @@ use Rattle.script.specs.Tree.Size.{size-root}
 pub record Rooted (table : List ℕ) (nodes : ℕ) : Type 0 where
   pub least : 1 ≤ nodes
   pub formed : FormedNodes table nodes
-  pub sound : Sound (take nodes (nodesIn table))
+  pub sound : Sound (take nodes (nodes_in table))
 
-pub rooted : (table : List ℕ) (nodes : ℕ) (es : List ℕ) (entries : ℕ) → tableTest (tableIn table nodes es entries) ≡ none → Rooted table nodes
+pub rooted : (table : List ℕ) (nodes : ℕ) (es : List ℕ) (entries : ℕ) → table_test (table_in table nodes es entries) ≡ none → Rooted table nodes
 rooted table nodes es entries p =
-    let s = passes (tableIn table nodes es entries) p in
+    let s = passes (table_in table nodes es entries) p in
     record {
-      least = s.nodesLeast;
+      least = s.nodes_least;
       formed = record {
-        most = s.nodesMost;
-        room = omega (arith, s.nodesMost, s.lentNodes, length-nodesIn table);
-        formed = λ i h. s.sound.formed i (omega (arith, h, s.nodesLength));
+        most = s.nodes_most;
+        room = omega (arith, s.nodes_most, s.lent_nodes, length-nodes_in table);
+        formed = λ i h. s.sound.formed i (omega (arith, h, s.nodes_length));
       };
       sound = s.sound;
     }
@@ -37,15 +37,15 @@ module _ {table : List ℕ} {nodes : ℕ} (q : Rooted table nodes) (m : ℕ) (la
   pub root-formed : FormedNodes table (suc m)
   root-formed = subst (λ (n : ℕ). FormedNodes table n) (sym last) q.formed
 
-  nodes-length : length (take nodes (nodesIn table)) ≡ nodes
-  nodes-length = length-take-le nodes (nodesIn table) (nodesIn-holds table nodes q.formed.room)
+  nodes-length : length (take nodes (nodes_in table)) ≡ nodes
+  nodes-length = length-take-le nodes (nodes_in table) (nodes_in-holds table nodes q.formed.room)
 
-  pub root-tree : treeIn table m ≡ root (take nodes (nodesIn table))
-  unfolding treeIn root
+  pub root-tree : tree_in table m ≡ root (take nodes (nodes_in table))
+  unfolding tree_in root
   root-tree =
-      let p : pred (length (take nodes (nodesIn table))) ≡ m = ap pred (nodes-length ∙ sym last) in
-      sym (trees-take (nodesIn table) nodes m (nodesIn-holds table nodes q.formed.room) (omega arith))
-      ∙ ap (λ (i : ℕ). treeAt (trees (take nodes (nodesIn table))) i) (sym p)
+      let p : pred (length (take nodes (nodes_in table))) ≡ m = ap pred (nodes-length ∙ sym last) in
+      sym (trees-take (nodes_in table) nodes m (nodes_in-holds table nodes q.formed.room) (omega arith))
+      ∙ ap (λ (i : ℕ). tree_at (trees (take nodes (nodes_in table))) i) (sym p)
 
-  pub root-size : size (treeIn table m) ≡ nodes
-  root-size = ap size root-tree ∙ size-root (take nodes (nodesIn table)) q.sound (omega (arith, nodes-length, q.least)) ∙ nodes-length
+  pub root-size : size (tree_in table m) ≡ nodes
+  root-size = ap size root-tree ∙ size-root (take nodes (nodes_in table)) q.sound (omega (arith, nodes-length, q.least)) ∙ nodes-length

@@ -3,9 +3,9 @@
 use Rattle.std.specs.Prelude.{true, List, [], ◌∷◌, ◌++◌, ◌≡◌, refl, ℕ, zero, suc, ◌+◌, ◌*◌, ◌/◌, ◌≤◌, ◌<◌, leb, length, get_or, take, drop, set}
 use Rattle.std.proofs.Common.{sym, ap, ◌∙◌, arith, drop-set-lt, le-leb}
 use Rattle.std.proofs.lemmas.List.Edits.{sets}
-use Rattle.script.specs.Flat.{numbersOf, nodeWidth, flat, nodesIn, HasNode}
-use Rattle.script.specs.Limits.{nodeLimit}
-use Rattle.script.specs.Table.{node_of, nodeAt}
+use Rattle.script.specs.Flat.{numbers_of, node_width, flat, nodes_in, HasNode}
+use Rattle.script.specs.Limits.{node_limit}
+use Rattle.script.specs.Table.{node_of, node_at}
 use Rattle.script.specs.declared.Node.{Node}
 
 -- the place of a node's first number, by steps
@@ -13,44 +13,44 @@ unfoldable first : ℕ → ℕ
 first zero = zero
 first (suc i) = suc (suc (suc (suc (first i))))
 
-first-is : (i : ℕ) → first i ≡ nodeWidth * i
+first-is : (i : ℕ) → first i ≡ node_width * i
 unfolding first
 first-is zero = refl
 first-is (suc i) = let h = first-is i in omega arith
 
 -- ---- how many nodes
 
-numbers-width : (n : Node) → length (numbersOf n) ≡ nodeWidth
+numbers-width : (n : Node) → length (numbers_of n) ≡ node_width
 numbers-width n = refl
 
-pub length-nodesIn : (xs : List ℕ) → length (nodesIn xs) ≡ length xs / nodeWidth
-unfolding nodesIn
-length-nodesIn (k ∷ a ∷ b ∷ c ∷ xs) = let h = length-nodesIn xs in omega arith
-length-nodesIn (k ∷ a ∷ b ∷ []) = refl
-length-nodesIn (k ∷ a ∷ []) = refl
-length-nodesIn (k ∷ []) = refl
-length-nodesIn [] = refl
+pub length-nodes_in : (xs : List ℕ) → length (nodes_in xs) ≡ length xs / node_width
+unfolding nodes_in
+length-nodes_in (k ∷ a ∷ b ∷ c ∷ xs) = let h = length-nodes_in xs in omega arith
+length-nodes_in (k ∷ a ∷ b ∷ []) = refl
+length-nodes_in (k ∷ a ∷ []) = refl
+length-nodes_in (k ∷ []) = refl
+length-nodes_in [] = refl
 
 -- as many nodes as the list has room for
-pub nodesIn-holds : (xs : List ℕ) (n : ℕ) → nodeWidth * n ≤ length xs → n ≤ length (nodesIn xs)
-nodesIn-holds xs n h = let l = length-nodesIn xs in omega arith
+pub nodes_in-holds : (xs : List ℕ) (n : ℕ) → node_width * n ≤ length xs → n ≤ length (nodes_in xs)
+nodes_in-holds xs n h = let l = length-nodes_in xs in omega arith
 
 -- lent numbers that are enough for a table's nodes
-pub enough-nodes : (xs : List ℕ) → nodeLimit ≤ length xs / nodeWidth → leb nodeLimit (length (nodesIn xs)) ≡ true
-enough-nodes xs h = let l = length-nodesIn xs in le-leb nodeLimit (length (nodesIn xs)) (omega arith)
+pub enough-nodes : (xs : List ℕ) → node_limit ≤ length xs / node_width → leb node_limit (length (nodes_in xs)) ≡ true
+enough-nodes xs h = let l = length-nodes_in xs in le-leb node_limit (length (nodes_in xs)) (omega arith)
 
-pub nodesIn-below : (xs : List ℕ) (i : ℕ) → HasNode xs i → i < length (nodesIn xs)
-nodesIn-below xs i h = let l = length-nodesIn xs in omega arith
+pub nodes_in-below : (xs : List ℕ) (i : ℕ) → HasNode xs i → i < length (nodes_in xs)
+nodes_in-below xs i h = let l = length-nodes_in xs in omega arith
 
-pub length-flat : (ns : List Node) → length (flat ns) ≡ nodeWidth * length ns
+pub length-flat : (ns : List Node) → length (flat ns) ≡ node_width * length ns
 unfolding flat
 length-flat [] = refl
 length-flat (n ∷ ns) = let h = length-flat ns in omega arith
 
 -- ---- one node
 
-node-first : (xs : List ℕ) (i : ℕ) → suc (suc (suc (first i))) < length xs → nodeAt (nodesIn xs) i ≡ node_of (get_or xs (first i) 0) (get_or xs (suc (first i)) 0) (get_or xs (suc (suc (first i))) 0) (get_or xs (suc (suc (suc (first i)))) 0)
-unfolding first nodesIn
+node-first : (xs : List ℕ) (i : ℕ) → suc (suc (suc (first i))) < length xs → node_at (nodes_in xs) i ≡ node_of (get_or xs (first i) 0) (get_or xs (suc (first i)) 0) (get_or xs (suc (suc (first i))) 0) (get_or xs (suc (suc (suc (first i)))) 0)
+unfolding first nodes_in
 node-first [] i h = absurd (omega arith)
 node-first (k ∷ []) i h = absurd (omega arith)
 node-first (k ∷ a ∷ []) i h = absurd (omega arith)
@@ -60,29 +60,29 @@ node-first (k ∷ a ∷ b ∷ c ∷ xs) (suc i) h = node-first xs i (omega arith
 
 -- the places as the code writes them
 module _ (i : ℕ) where
-  place-0 : nodeWidth * i ≡ first i
-  place-0 = sym (first-is i)
+  place_0 : node_width * i ≡ first i
+  place_0 = sym (first-is i)
 
-  place-1 : nodeWidth * i + 1 ≡ suc (first i)
-  place-1 = let h = first-is i in omega arith
+  place_1 : node_width * i + 1 ≡ suc (first i)
+  place_1 = let h = first-is i in omega arith
 
-  place-2 : nodeWidth * i + 2 ≡ suc (suc (first i))
-  place-2 = let h = first-is i in omega arith
+  place_2 : node_width * i + 2 ≡ suc (suc (first i))
+  place_2 = let h = first-is i in omega arith
 
-  place-3 : nodeWidth * i + 3 ≡ suc (suc (suc (first i)))
-  place-3 = let h = first-is i in omega arith
+  place_3 : node_width * i + 3 ≡ suc (suc (suc (first i)))
+  place_3 = let h = first-is i in omega arith
 
 first_below : (xs : List ℕ) (i : ℕ) → HasNode xs i → suc (suc (suc (first i))) < length xs
 first_below xs i h = let f = first-is i in omega arith
 
 -- the node at place i
-pub nodeAt-nodesIn : (xs : List ℕ) (i : ℕ) → HasNode xs i
-    → nodeAt (nodesIn xs) i ≡ node_of (get_or xs (nodeWidth * i) 0) (get_or xs (nodeWidth * i + 1) 0) (get_or xs (nodeWidth * i + 2) 0) (get_or xs (nodeWidth * i + 3) 0)
-nodeAt-nodesIn xs i h =
-    rw (place-1 i, place-2 i, place-3 i, place-0 i) (node-first xs i (first_below xs i h))
+pub node_at-nodes_in : (xs : List ℕ) (i : ℕ) → HasNode xs i
+    → node_at (nodes_in xs) i ≡ node_of (get_or xs (node_width * i) 0) (get_or xs (node_width * i + 1) 0) (get_or xs (node_width * i + 2) 0) (get_or xs (node_width * i + 3) 0)
+node_at-nodes_in xs i h =
+    rw (place_1 i, place_2 i, place_3 i, place_0 i) (node-first xs i (first_below xs i h))
 
-put_first : (xs : List ℕ) (i : ℕ) (n : Node) → suc (suc (suc (first i))) < length xs → nodesIn (sets xs (first i) (numbersOf n)) ≡ set (nodesIn xs) i n
-unfolding first nodesIn
+put_first : (xs : List ℕ) (i : ℕ) (n : Node) → suc (suc (suc (first i))) < length xs → nodes_in (sets xs (first i) (numbers_of n)) ≡ set (nodes_in xs) i n
+unfolding first nodes_in
 put_first [] i n h = absurd (omega arith)
 put_first (k ∷ []) i n h = absurd (omega arith)
 put_first (k ∷ a ∷ []) i n h = absurd (omega arith)
@@ -91,14 +91,14 @@ put_first (k ∷ a ∷ b ∷ c ∷ xs) zero n h = refl
 put_first (k ∷ a ∷ b ∷ c ∷ xs) (suc i) n h = ap (◌∷◌ (node_of k a b c)) (put_first xs i n (omega arith))
 
 -- the node n stored at place i
-pub nodesIn-sets : (xs : List ℕ) (i : ℕ) (n : Node) → HasNode xs i → nodesIn (sets xs (nodeWidth * i) (numbersOf n)) ≡ set (nodesIn xs) i n
-nodesIn-sets xs i n h = rw (place-0 i) (put_first xs i n (first_below xs i h))
+pub nodes_in-sets : (xs : List ℕ) (i : ℕ) (n : Node) → HasNode xs i → nodes_in (sets xs (node_width * i) (numbers_of n)) ≡ set (nodes_in xs) i n
+nodes_in-sets xs i n h = rw (place_0 i) (put_first xs i n (first_below xs i h))
 
 -- the stores of a node's numbers, as the code writes their places
-pub stores-sets : (xs : List ℕ) (i : ℕ) (n : Node)
-    → set (set (set (set xs (nodeWidth * i) n.kind) (nodeWidth * i + 1) n.a) (nodeWidth * i + 2) n.b) (nodeWidth * i + 3) n.c
-    ≡ sets xs (nodeWidth * i) (numbersOf n)
-stores-sets xs i n = rw (place-1 i, place-2 i, place-3 i, place-0 i) refl
+pub stores_sets : (xs : List ℕ) (i : ℕ) (n : Node)
+    → set (set (set (set xs (node_width * i) n.kind) (node_width * i + 1) n.a) (node_width * i + 2) n.b) (node_width * i + 3) n.c
+    ≡ sets xs (node_width * i) (numbers_of n)
+stores_sets xs i n = rw (place_1 i, place_2 i, place_3 i, place_0 i) refl
 
 -- stores before a place change nothing from there on
 pub drop-sets : (n : ℕ) (vs l : List ℕ) (i : ℕ) → i + length vs ≤ n → drop n (sets l i vs) ≡ drop n l
@@ -107,13 +107,13 @@ drop-sets n (v ∷ vs) l i h = drop-sets n vs (set l i v) (suc i) (omega arith) 
 
 -- ---- there and back
 
-pub nodesIn-flat : (ns : List Node) (ys : List ℕ) → nodesIn (flat ns ++ ys) ≡ ns ++ nodesIn ys
-unfolding flat nodesIn
-nodesIn-flat [] ys = refl
-nodesIn-flat (n ∷ ns) ys = ap (◌∷◌ n) (nodesIn-flat ns ys)
+pub nodes_in-flat : (ns : List Node) (ys : List ℕ) → nodes_in (flat ns ++ ys) ≡ ns ++ nodes_in ys
+unfolding flat nodes_in
+nodes_in-flat [] ys = refl
+nodes_in-flat (n ∷ ns) ys = ap (◌∷◌ n) (nodes_in-flat ns ys)
 
-take-first : (xs : List ℕ) (n : ℕ) → take n (nodesIn xs) ≡ nodesIn (take (first n) xs)
-unfolding first nodesIn
+take-first : (xs : List ℕ) (n : ℕ) → take n (nodes_in xs) ≡ nodes_in (take (first n) xs)
+unfolding first nodes_in
 take-first xs zero = refl
 take-first [] (suc n) = refl
 take-first (k ∷ []) (suc n) = refl
@@ -121,8 +121,8 @@ take-first (k ∷ a ∷ []) (suc n) = refl
 take-first (k ∷ a ∷ b ∷ []) (suc n) = refl
 take-first (k ∷ a ∷ b ∷ c ∷ xs) (suc n) = ap (◌∷◌ (node_of k a b c)) (take-first xs n)
 
-drop-first : (xs : List ℕ) (n : ℕ) → drop n (nodesIn xs) ≡ nodesIn (drop (first n) xs)
-unfolding first nodesIn
+drop-first : (xs : List ℕ) (n : ℕ) → drop n (nodes_in xs) ≡ nodes_in (drop (first n) xs)
+unfolding first nodes_in
 drop-first xs zero = refl
 drop-first [] (suc n) = refl
 drop-first (k ∷ []) (suc n) = refl
@@ -131,14 +131,14 @@ drop-first (k ∷ a ∷ b ∷ []) (suc n) = refl
 drop-first (k ∷ a ∷ b ∷ c ∷ xs) (suc n) = drop-first xs n
 
 -- the first n nodes, and those after them
-pub take-nodesIn : (xs : List ℕ) (n : ℕ) → take n (nodesIn xs) ≡ nodesIn (take (nodeWidth * n) xs)
-take-nodesIn xs n = rw (place-0 n) (take-first xs n)
+pub take-nodes_in : (xs : List ℕ) (n : ℕ) → take n (nodes_in xs) ≡ nodes_in (take (node_width * n) xs)
+take-nodes_in xs n = rw (place_0 n) (take-first xs n)
 
-pub drop-nodesIn : (xs : List ℕ) (n : ℕ) → drop n (nodesIn xs) ≡ nodesIn (drop (nodeWidth * n) xs)
-drop-nodesIn xs n = rw (place-0 n) (drop-first xs n)
+pub drop-nodes_in : (xs : List ℕ) (n : ℕ) → drop n (nodes_in xs) ≡ nodes_in (drop (node_width * n) xs)
+drop-nodes_in xs n = rw (place_0 n) (drop-first xs n)
 
-flat-first : (xs : List ℕ) (n : ℕ) → first n ≤ length xs → flat (take n (nodesIn xs)) ≡ take (first n) xs
-unfolding first nodesIn flat
+flat-first : (xs : List ℕ) (n : ℕ) → first n ≤ length xs → flat (take n (nodes_in xs)) ≡ take (first n) xs
+unfolding first nodes_in flat
 flat-first xs zero h = refl
 flat-first [] (suc n) h = absurd (omega arith)
 flat-first (k ∷ []) (suc n) h = absurd (omega arith)
@@ -147,5 +147,5 @@ flat-first (k ∷ a ∷ b ∷ []) (suc n) h = absurd (omega arith)
 flat-first (k ∷ a ∷ b ∷ c ∷ xs) (suc n) h = rw (flat-first xs n (omega arith)) refl
 
 -- the numbers of the first n nodes
-pub flat-nodesIn : (xs : List ℕ) (n : ℕ) → nodeWidth * n ≤ length xs → flat (take n (nodesIn xs)) ≡ take (nodeWidth * n) xs
-flat-nodesIn xs n h = rw (place-0 n) (flat-first xs n (rw (place-0 n) at h))
+pub flat-nodes_in : (xs : List ℕ) (n : ℕ) → node_width * n ≤ length xs → flat (take n (nodes_in xs)) ≡ take (node_width * n) xs
+flat-nodes_in xs n h = rw (place_0 n) (flat-first xs n (rw (place_0 n) at h))

@@ -2,11 +2,11 @@
 use Rattle.std.specs.Prelude.{◌≡◌, refl, List, [], ◌∷◌, ◌++◌, map, ℕ, suc, ◌-◌, length, replicate}
 use Rattle.std.proofs.Math.Option.{Option, none, some}
 use Rattle.script.specs.Answers.{number_of, place_of}
-use Rattle.script.specs.Limits.{nodeLimit, entryLimit}
+use Rattle.script.specs.Limits.{node_limit, entry_limit}
 use Rattle.script.specs.Rows.{rows, row_of}
-use Rattle.script.specs.Rows.Kinds.{kindCount}
-use Rattle.script.specs.Table.{Table, node_of, unused, wellFormed, operands, timesIn, uses, symsAround, tooDeep, treeTest, nodesTest, tableTest}
-use Rattle.script.specs.Tests.{lowestFrom}
+use Rattle.script.specs.Rows.Kinds.{kind_count}
+use Rattle.script.specs.Table.{Table, node_of, unused, well_formed, operands, times_in, uses, syms_around, too_deep, tree_test, nodes_test, table_test}
+use Rattle.script.specs.Tests.{lowest_from}
 use Rattle.script.specs.declared.Node.{Node}
 use Rattle.script.specs.declared.Place.{Place}
 use Rattle.script.specs.declared.Place.TheVariants.{Nowhere, At}
@@ -17,10 +17,10 @@ use Rattle.script.specs.declared.Refusal.{Refusal}
 abbrev pub lend : List ℕ → List Node → Table
 lend es ns =
     record {
-      lentNodes = ns ++ replicate (nodeLimit - length ns) unused;
-      nodeCount = length ns;
-      lentEntries = es ++ replicate (entryLimit - length es) 0;
-      entryCount = length es;
+      lent_nodes = ns ++ replicate (node_limit - length ns) unused;
+      node_count = length ns;
+      lent_entries = es ++ replicate (entry_limit - length es) 0;
+      entry_count = length es;
     }
 
 abbrev pub int' : ℕ → Node
@@ -81,7 +81,7 @@ pub record Case : Type 0 where
   pub answer : Tested
 
 abbrev asking : Case → Tested
-asking c = told (tableTest c.table)
+asking c = told (table_test c.table)
 
 abbrev right : Case → Tested
 right c = c.answer
@@ -91,7 +91,7 @@ tests es ns a = record { table = lend es ns; answer = a }
 
 -- so many lent nodes and entries, and the counts
 abbrev lent_as : ℕ → ℕ → ℕ → ℕ → Tested → Case
-lent_as ns n es m a = record { table = record { lentNodes = replicate ns unused; nodeCount = n; lentEntries = replicate es 0; entryCount = m }; answer = a }
+lent_as ns n es m a = record { table = record { lent_nodes = replicate ns unused; node_count = n; lent_entries = replicate es 0; entry_count = m }; answer = a }
 
 unfoldable pub cases : List Case
 cases =
@@ -107,7 +107,7 @@ cases =
     -- 4: an operand that is no earlier node, also the node itself; a kind with no word; a number out of its range; an unused operand; before 5
     ∷ tests [] (true' ∷ true' ∷ add' 1 2 ∷ []) (unsound 4 (At 2))
     ∷ tests [] (sym' 0 ∷ []) (unsound 4 (At 0))
-    ∷ tests [] (true' ∷ node_of kindCount 0 0 0 ∷ node_of (suc kindCount) 0 0 0 ∷ []) (unsound 4 (At 1))
+    ∷ tests [] (true' ∷ node_of kind_count 0 0 0 ∷ node_of (suc kind_count) 0 0 0 ∷ []) (unsound 4 (At 1))
     ∷ tests [] (var' 144 ∷ []) (unsound 4 (At 0))
     ∷ tests [] (var' 143 ∷ []) sound
     ∷ tests [] (int' 4294967296 ∷ []) (unsound 4 (At 0))
@@ -123,6 +123,6 @@ cases =
     ∷ tests [] (int' 1 ∷ sym' 0 ∷ typed' 1 ∷ sym' 2 ∷ sym' 3 ∷ sym' 4 ∷ sym' 5 ∷ []) (unsound 13 (At 1))
     ∷ []
 
-pub cases-hold : map asking cases ≡ map right cases
-unfolding cases rows row_of wellFormed operands timesIn uses symsAround tooDeep treeTest nodesTest tableTest lowestFrom
-cases-hold = refl
+pub cases_hold : map asking cases ≡ map right cases
+unfolding cases rows row_of well_formed operands times_in uses syms_around too_deep tree_test nodes_test table_test lowest_from
+cases_hold = refl

@@ -23,25 +23,25 @@ and-digit (suc zero) (suc (suc y)) p q = absurd (omega arith)
 and-digit (suc (suc x)) zero p q = absurd (omega arith)
 and-digit (suc (suc x)) (suc y) p q = absurd (omega arith)
 
-xor-digit : (x y : ℕ) → x < 2 → y < 2 → eqb (bit_xor x y) 1 ≡ not (beq (eqb x 1) (eqb y 1))
-xor-digit zero zero p q = refl
-xor-digit zero (suc zero) p q = refl
-xor-digit zero (suc (suc y)) p q = absurd (omega arith)
-xor-digit (suc zero) zero p q = refl
-xor-digit (suc zero) (suc zero) p q = refl
-xor-digit (suc zero) (suc (suc y)) p q = absurd (omega arith)
-xor-digit (suc (suc x)) zero p q = absurd (omega arith)
-xor-digit (suc (suc x)) (suc y) p q = absurd (omega arith)
+xor_digit : (x y : ℕ) → x < 2 → y < 2 → eqb (bit_xor x y) 1 ≡ not (beq (eqb x 1) (eqb y 1))
+xor_digit zero zero p q = refl
+xor_digit zero (suc zero) p q = refl
+xor_digit zero (suc (suc y)) p q = absurd (omega arith)
+xor_digit (suc zero) zero p q = refl
+xor_digit (suc zero) (suc zero) p q = refl
+xor_digit (suc zero) (suc (suc y)) p q = absurd (omega arith)
+xor_digit (suc (suc x)) zero p q = absurd (omega arith)
+xor_digit (suc (suc x)) (suc y) p q = absurd (omega arith)
 
 pub bit-and : (a b k : ℕ) → bit (bit_and a b) k ≡ (bit a k && bit b k)
 unfolding bit
 bit-and a b zero = ap (λ (x : ℕ). eqb x 1) (and_mod a b 1) ∙ and-digit (a % 2) (b % 2) (omega arith) (omega arith)
 bit-and a b (suc k) = ap (λ (x : ℕ). bit x k) (and_shr a b 1) ∙ bit-and (a / 2) (b / 2) k
 
-pub bit-xor : (a b k : ℕ) → bit (bit_xor a b) k ≡ not (beq (bit a k) (bit b k))
+pub bit_xor_lem : (a b k : ℕ) → bit (bit_xor a b) k ≡ not (beq (bit a k) (bit b k))
 unfolding bit
-bit-xor a b zero = ap (λ (x : ℕ). eqb x 1) (xor_mod a b 1) ∙ xor-digit (a % 2) (b % 2) (omega arith) (omega arith)
-bit-xor a b (suc k) = ap (λ (x : ℕ). bit x k) (xor_shr a b 1) ∙ bit-xor (a / 2) (b / 2) k
+bit_xor_lem a b zero = ap (λ (x : ℕ). eqb x 1) (xor_mod a b 1) ∙ xor_digit (a % 2) (b % 2) (omega arith) (omega arith)
+bit_xor_lem a b (suc k) = ap (λ (x : ℕ). bit x k) (xor_shr a b 1) ∙ bit_xor_lem (a / 2) (b / 2) k
 
 not_digit : (x y : ℕ) → x + y ≡ 1 → eqb x 1 ≡ not (eqb y 1)
 not_digit zero zero h = absurd (omega arith)
@@ -55,40 +55,40 @@ not_digit (suc (suc x)) (suc y) h = absurd (omega arith)
 not-half : (p a : ℕ) → a < p * 2 → (p * 2 - 1 - a) / 2 ≡ p - 1 - a / 2
 not-half p a h = omega arith
 
-not-odd : (p a : ℕ) → a < p * 2 → (p * 2 - 1 - a) % 2 + a % 2 ≡ 1
-not-odd p a h = omega arith
+not_odd : (p a : ℕ) → a < p * 2 → (p * 2 - 1 - a) % 2 + a % 2 ≡ 1
+not_odd p a h = omega arith
 
-half-less : (p a : ℕ) → a < p * 2 → a / 2 < p
-half-less p a h = omega arith
+half_less : (p a : ℕ) → a < p * 2 → a / 2 < p
+half_less p a h = omega arith
 
 pub bit_not : (n a k : ℕ) → k < n → a < 2 ^ n → bit (2 ^ n - 1 - a) k ≡ not (bit a k)
 unfolding bit
 bit_not zero a k h s = absurd (omega arith)
 bit_not (suc n) a zero h s =
     let t : a < 2 ^ n * 2 = rw (pow-suc 2 n) at s in
-    rw (pow-suc 2 n) (not_digit ((2 ^ n * 2 - 1 - a) % 2) (a % 2) (not-odd (2 ^ n) a t))
+    rw (pow-suc 2 n) (not_digit ((2 ^ n * 2 - 1 - a) % 2) (a % 2) (not_odd (2 ^ n) a t))
 bit_not (suc n) a (suc k) h s =
     let t : a < 2 ^ n * 2 = rw (pow-suc 2 n) at s in
-    rw (pow-suc 2 n, not-half (2 ^ n) a t) (bit_not n (a / 2) k (omega arith) (half-less (2 ^ n) a t))
+    rw (pow-suc 2 n, not-half (2 ^ n) a t) (bit_not n (a / 2) k (omega arith) (half_less (2 ^ n) a t))
 
 -- ---- `or` keeps what each word has
 
-pub or-first-most : (a b : ℕ) → a ≤ bit_or a b
-or-first-most a b = let s = or_add_and a b in let l = and_le_r a b in omega arith
+pub or_first-most : (a b : ℕ) → a ≤ bit_or a b
+or_first-most a b = let s = or_add_and a b in let l = and_le_r a b in omega arith
 
-pub or-second-most : (a b : ℕ) → b ≤ bit_or a b
-or-second-most a b = let s = or_add_and a b in let l = and_le_l a b in omega arith
+pub or_second-most : (a b : ℕ) → b ≤ bit_or a b
+or_second-most a b = let s = or_add_and a b in let l = and_le_l a b in omega arith
 
-odd-digit : (x : ℕ) → x < 2 → bit_or 1 x ≡ 1
-odd-digit zero h = refl
-odd-digit (suc zero) h = refl
-odd-digit (suc (suc x)) h = absurd (omega arith)
+odd_digit : (x : ℕ) → x < 2 → bit_or 1 x ≡ 1
+odd_digit zero h = refl
+odd_digit (suc zero) h = refl
+odd_digit (suc (suc x)) h = absurd (omega arith)
 
-pub or-first-odd : (a b : ℕ) → a % 2 ≡ 1 → bit_or a b % 2 ≡ 1
-or-first-odd a b e = or_mod a b 1 ∙ ap (λ (x : ℕ). bit_or x (b % 2)) e ∙ odd-digit (b % 2) (omega arith)
+pub or_first_odd : (a b : ℕ) → a % 2 ≡ 1 → bit_or a b % 2 ≡ 1
+or_first_odd a b e = or_mod a b 1 ∙ ap (λ (x : ℕ). bit_or x (b % 2)) e ∙ odd_digit (b % 2) (omega arith)
 
-pub or-second-odd : (a b : ℕ) → b % 2 ≡ 1 → bit_or a b % 2 ≡ 1
-or-second-odd a b e = ap (λ (x : ℕ). x % 2) (or_comm a b) ∙ or-first-odd b a e
+pub or_second_odd : (a b : ℕ) → b % 2 ≡ 1 → bit_or a b % 2 ≡ 1
+or_second_odd a b e = ap (λ (x : ℕ). x % 2) (or_comm a b) ∙ or_first_odd b a e
 
 -- ---- words with no bit, and with one
 
@@ -105,7 +105,7 @@ pub record BitOf (n a : ℕ) : Type 0 where
 pub some-bit : (n a : ℕ) → a < 2 ^ n → (a ≡ 0 → ⊥) → BitOf n a
 unfolding bit
 some-bit zero a s h = absurd (h (omega arith))
-some-bit (suc n) a s h = go (eqb (a % 2) 1) refl (some-bit n (a / 2) (half-less (2 ^ n) a (rw (pow-suc 2 n) at s)))
+some-bit (suc n) a s h = go (eqb (a % 2) 1) refl (some-bit n (a / 2) (half_less (2 ^ n) a (rw (pow-suc 2 n) at s)))
   where
     go : (t : Bool) → eqb (a % 2) 1 ≡ t → ((a / 2 ≡ 0 → ⊥) → BitOf n (a / 2)) → BitOf (suc n) a
     go true e r = record { at = 0; below = omega arith; is = e }
@@ -126,7 +126,7 @@ pub bit_high : (n b p k : ℕ) → p < 2 ^ n → bit (b * 2 ^ n + p) (n + k) ≡
 unfolding bit
 bit_high zero b p k s = let e : b * 1 + p ≡ b = omega arith in rw (e, zero-add k)
 bit_high (suc n) b p k s =
-    rw (suc-add n k) (ap (λ (x : ℕ). bit x (n + k)) (block_half b n p) ∙ bit_high n b (p / 2) k (half-less (2 ^ n) p (rw (pow-suc 2 n) at s)))
+    rw (suc-add n k) (ap (λ (x : ℕ). bit x (n + k)) (block_half b n p) ∙ bit_high n b (p / 2) k (half_less (2 ^ n) p (rw (pow-suc 2 n) at s)))
 
 -- ---- a test of all numbers below one
 

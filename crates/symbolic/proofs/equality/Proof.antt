@@ -1,7 +1,7 @@
 -- `symbolic::equality` meets its contract: a row for the equality of two values of one type. Assumes nothing.
 use borrow.Author.Rules.{rules}
 use native.Mathlib.Omega.{arith}
-use Rattle.workspace.specs.Rules.Operators.{equality-wrong, truths-equal, words-required, words-equal, references-equal}
+use Rattle.workspace.specs.Rules.Operators.{equality-wrong, truths-equal, words_required, words-equal, references-equal}
 use Rattle.workspace.specs.State.Laws.{room-space}
 use Rattle.symbolic.proofs.equality.Statement.{statement}
 use Rattle.symbolic.proofs.equality.Tie as tie
@@ -14,7 +14,7 @@ equal-words-requires c κs =
     let at-match = c.before in
     let at-if1 = at-match.before in
     let at-start = at-if1.before.before in
-    words-required at-start.args.n at-start.args.t at-start.args.q at-start.args.u at-start.args.s at-start.requires
+    words_required at-start.args.n at-start.args.t at-start.args.q at-start.args.u at-start.args.s at-start.requires
     at-match.match.keys1 at-if1.if1.false
 
 push-requires : tie.Need-push-requires

@@ -3,7 +3,7 @@ use borrow.Author.Rules.{rules}
 use Rattle.script.specs.Code.Forms.{form_of}
 use Rattle.script.specs.Rows.{rows, row_of}
 use Rattle.script.specs.Rows.Laws.{none_left, but}
-use Rattle.workspace.specs.Rules.Operators.{one-other}
+use Rattle.workspace.specs.Rules.Operators.{one_other}
 use Rattle.symbolic.proofs.one.Statement.{statement}
 use Rattle.symbolic.proofs.one.Tie as tie
 
@@ -22,7 +22,7 @@ returns-3 c = rw c.before.before.before.before.match.keys3 c.before.before.read_
 returns-4 : tie.Need-returns-4
 returns-4 c =
     let d = c.match.rest in
-    one-other c.before.before.args.n c.before.before.args.t c.before.before.args.q c.before.before.args.kind (but d.0.0.1 (but d.0.1 (but d.1 none_left)))
+    one_other c.before.before.args.n c.before.before.args.t c.before.before.args.q c.before.before.args.kind (but d.0.0.1 (but d.0.1 (but d.1 none_left)))
 
 pub one_spec : {M : Type 1} → statement M
 one_spec =

@@ -2,12 +2,12 @@
 use borrow.Author.Rules.{rules}
 use native.Mathlib.Omega.{arith}
 use borrow.Author.Tests.{not-true, not-false}
-use Rattle.workspace.specs.Rules.Memory.{get-wrong, get_value, get-stopped, get-fresh}
+use Rattle.workspace.specs.Rules.Memory.{get_wrong, get_value, get_stopped, get_fresh}
 use Rattle.symbolic.proofs.read_cell.Statement.{statement}
 use Rattle.symbolic.proofs.read_cell.Tie as tie
 
 returns : tie.Need-returns
-returns c = get-wrong c.before.before.args.n c.before.before.args.t c.before.before.args.q c.if1.true
+returns c = get_wrong c.before.before.args.n c.before.before.args.t c.before.before.args.q c.if1.true
 
 lookup-requires : tie.Need-lookup-requires
 lookup-requires c κs = (omega (arith, c.before.before.before.requires.writes), c.before.before.before.requires.lent)
@@ -22,7 +22,7 @@ returns-2 c =
     let at-lookup = at-enum-told.before.before in
     let at-if1 = at-lookup.before.before in
     let at-start = at-if1.before.before in
-    get-stopped at-start.args.n at-start.args.t at-start.args.q at-if1.if1.false at-lookup.lookup.ensures at-enum-told.enum_told.given.1
+    get_stopped at-start.args.n at-start.args.t at-start.args.q at-if1.if1.false at-lookup.lookup.ensures at-enum-told.enum_told.given.1
     at-consistent.consistent.ensures (not-true _ c.if2.true)
 
 returns-3 : tie.Need-returns-3
@@ -42,7 +42,7 @@ returns-4 c =
     let at-lookup = at-enum-told.before.before in
     let at-if1 = at-lookup.before.before in
     let at-start = at-if1.before.before in
-    get-fresh at-start.args.n at-start.args.t at-start.args.q at-if1.if1.false at-lookup.lookup.ensures at-enum-told.enum_told.given.1
+    get_fresh at-start.args.n at-start.args.t at-start.args.q at-if1.if1.false at-lookup.lookup.ensures at-enum-told.enum_told.given.1
     at-consistent.consistent.ensures (not-false _ at-if2.if2.false) at-fresh.fresh.ensures
 
 pub read-cell-spec : {M : Type 1} → statement M

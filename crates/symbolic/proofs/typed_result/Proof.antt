@@ -3,7 +3,7 @@ use borrow.Author.Rules.{rules}
 use mathlib.Core.Path.{refl}
 use native.Mathlib.Omega.{arith}
 use borrow.Author.Tests.{not-true, not-false}
-use Rattle.workspace.specs.Rules.Memory.{block-stopped, emptied-room, block_made}
+use Rattle.workspace.specs.Rules.Memory.{block_stopped, emptied-room, block_made}
 use Rattle.symbolic.proofs.typed_result.Statement.{statement}
 use Rattle.symbolic.proofs.typed_result.Tie as tie
 
@@ -11,7 +11,7 @@ consistent-requires : tie.Need-consistent-requires
 consistent-requires c κs = (omega (arith, c.before.before.requires.writes), c.before.before.requires.lent)
 
 returns : tie.Need-returns
-returns c = block-stopped c.before.before.before.before.args.n c.before.before.before.before.args.t c.before.consistent.ensures (not-true _ c.if1.true)
+returns c = block_stopped c.before.before.before.before.args.n c.before.before.before.before.args.t c.before.consistent.ensures (not-true _ c.if1.true)
 
 forget-requires : tie.Need-forget-requires
 forget-requires c κs = c.before.before.before.before.before.requires.lent

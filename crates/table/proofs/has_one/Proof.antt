@@ -1,13 +1,13 @@
 -- `table::has_one` meets its contract: five kinds have one operand that is a node. Assumes nothing.
 use mathlib.Core.Path.{sym}
-use Rattle.script.specs.Code.Forms.{not-one}
-use Rattle.script.specs.Rows.{rows, row_of, operandCount, takesOf, nodeOperands}
+use Rattle.script.specs.Code.Forms.{not_one}
+use Rattle.script.specs.Rows.{rows, row_of, operand_count, takes_of, node_operands}
 use Rattle.script.specs.Rows.Laws.{none_left, but}
 use Rattle.table.proofs.has_one.Statement.{statement}
 use Rattle.table.proofs.has_one.Tie as tie
 
 pub has-one-spec : {M : Type 1} → statement M
-unfolding nodeOperands takesOf operandCount row_of rows
+unfolding node_operands takes_of operand_count row_of rows
 has-one-spec =
     tie.close
     (tie.spec
@@ -18,4 +18,4 @@ has-one-spec =
     (λ c. rw c.match.keys5)
     λ c.
     let r = c.match.rest in
-    sym (not-one c.before.args.kind (but r.0.1 (but r.1 (but r.0.0.0.0.1 (but r.0.0.0.1 (but r.0.0.1 none_left)))))))
+    sym (not_one c.before.args.kind (but r.0.1 (but r.1 (but r.0.0.0.0.1 (but r.0.0.0.1 (but r.0.0.1 none_left)))))))

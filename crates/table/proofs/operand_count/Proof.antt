@@ -3,7 +3,7 @@ use borrow.Author.Rules.{rules}
 use mathlib.Core.Path.{sym}
 use native.Mathlib.Omega.{arith}
 use Rattle.script.specs.Rows.{rows}
-use Rattle.script.specs.Rows.Laws.{operand-counts, operands-most, no-operands}
+use Rattle.script.specs.Rows.Laws.{operand-counts, operands-most, no_operands}
 use Rattle.table.proofs.operand_count.Statement.{statement}
 use Rattle.table.proofs.operand_count.Tie as tie
 
@@ -22,4 +22,4 @@ operand-count-spec =
     (λ c. search rules)
     cast-result
     (λ c. operand-counts c.before.args.kind)
-    (λ c. sym (no-operands c.before.args.kind c.if1.false)))
+    (λ c. sym (no_operands c.before.args.kind c.if1.false)))

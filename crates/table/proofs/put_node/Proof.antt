@@ -2,7 +2,7 @@
 use borrow.Author.Rules.{rules}
 use native.Mathlib.Omega.{arith}
 use lib.ListN.{length-set}
-use Rattle.script.specs.Flat.Laws.{stores-sets}
+use Rattle.script.specs.Flat.Laws.{stores_sets}
 use Rattle.table.proofs.put_node.Statement.{statement}
 use Rattle.table.proofs.put_node.Tie as tie
 
@@ -23,4 +23,4 @@ put-node-spec =
     (λ c. search rules)
     (λ c. simp length-set (omega arith))
     (λ c. search rules)
-    (λ c. stores-sets c.args.table.now c.args.i c.args.n))
+    (λ c. stores_sets c.args.table.now c.args.i c.args.n))

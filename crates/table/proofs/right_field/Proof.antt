@@ -1,6 +1,6 @@
 -- `table::right_field` meets its contract: each `return` is one case of the kind's row. Assumes nothing.
 use borrow.Author.Rules.{rules}
-use Rattle.script.specs.Code.TableTests.Laws.{right-number, right-earlier, right_zero, right-no-kind}
+use Rattle.script.specs.Code.TableTests.Laws.{right-number, right-earlier, right_zero, right_no_kind}
 use Rattle.script.specs.Rows.{rows}
 use Rattle.table.proofs.right_field.Statement.{statement}
 use Rattle.table.proofs.right_field.Tie as tie
@@ -28,7 +28,7 @@ returns-3 c =
 
 returns-4 : tie.Need-returns-4
 unfolding rows
-returns-4 c = let a = c.before.args in right-no-kind a.kind a.k a.o a.i c.if1.false
+returns-4 c = let a = c.before.args in right_no_kind a.kind a.k a.o a.i c.if1.false
 
 pub right-field-spec : {M : Type 1} → statement M
 right-field-spec =

@@ -2,7 +2,7 @@
 use borrow.Author.Rules.{rules}
 use mathlib.Core.Path.{sym, ◌∙◌}
 use Rattle.script.specs.Rows.{row_of}
-use Rattle.script.specs.Code.TableTests.Laws.{first-wrong, second-wrong, third-says}
+use Rattle.script.specs.Code.TableTests.Laws.{first-wrong, second-wrong, third_says}
 use Rattle.table.proofs.well_formed.Statement.{statement}
 use Rattle.table.proofs.well_formed.Tie as tie
 
@@ -10,7 +10,7 @@ returns : tie.Need-returns
 returns c =
     let a = c.before.before.before.before.before.before.args in
     c.right-field3.ensures
-    ∙ third-says a.i a.n (row_of a.n.kind) (sym c.before.before.before.before.right-field.ensures ∙ c.before.before.before.if1.true) (sym c.before.before.right-field2.ensures ∙ c.before.if2.true)
+    ∙ third_says a.i a.n (row_of a.n.kind) (sym c.before.before.before.before.right-field.ensures ∙ c.before.before.before.if1.true) (sym c.before.before.right-field2.ensures ∙ c.before.if2.true)
 
 returns-2 : tie.Need-returns-2
 returns-2 c =

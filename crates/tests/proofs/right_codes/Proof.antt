@@ -4,13 +4,13 @@ use borrow.Author.Rules.{rules}
 use Prim.Native.Nat.{ℕ, ◌≤◌, ◌<◌, ◌-◌}
 use native.Mathlib.Omega.{arith}
 use lib.ListN.{get_or}
-use Rattle.script.specs.Limits.{typeLimit}
+use Rattle.script.specs.Limits.{type_limit}
 use Rattle.tests.specs.Lowest.{code-wrong, codes-right}
 use Rattle.tests.proofs.right_codes.Statement.{statement}
 use Rattle.tests.proofs.right_codes.Tie as tie
 
 abbrev invariant-loop : tie.invariant-loop
-invariant-loop entries count i₀ i = (i ≤ count) × ((k : ℕ) → k < i → get_or entries k 0 ≤ typeLimit)
+invariant-loop entries count i₀ i = (i ≤ count) × ((k : ℕ) → k < i → get_or entries k 0 ≤ type_limit)
 
 abbrev decreases-loop : tie.decreases-loop
 decreases-loop entries count i₀ i = count - i

@@ -4,7 +4,7 @@ use mathlib.Core.Bool.{not}
 use mathlib.Core.Path.{◌≡◌, sym, ap, ◌∙◌}
 use Prim.Native.Nat.{◌-◌}
 use Rattle.script.specs.Code.TableTests.Laws.{formed-is}
-use Rattle.script.specs.Tests.Loops.{Looked, look, look-on}
+use Rattle.script.specs.Tests.Loops.{Looked, look, look_on}
 use Rattle.tests.specs.Lowest.{malformed, operands-refused, operands-passed}
 use Rattle.tests.proofs.test_operands.Statement.{statement}
 use Rattle.tests.proofs.test_operands.Tie as tie
@@ -32,7 +32,7 @@ returns c =
 loop-again : tie.Need-loop-preserved invariant-loop decreases-loop
 loop-again c =
     let a = c.before.before.before.before.before.before.args in
-    look-on (malformed a.table.now a.nodes) a.nodes c.before.before.before.before.loop.i c.before.before.before.before.loop.invariant c.before.before.before.loop-test.true (sym (tested c.before) ∙ c.if1.false)
+    look_on (malformed a.table.now a.nodes) a.nodes c.before.before.before.before.loop.i c.before.before.before.before.loop.invariant c.before.before.before.loop-test.true (sym (tested c.before) ∙ c.if1.false)
 
 returns-2 : tie.Need-returns-2 invariant-loop decreases-loop
 returns-2 c =

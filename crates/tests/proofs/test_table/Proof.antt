@@ -1,7 +1,7 @@
 -- `tests::test_table` meets its contract: 32 and 2, then the tests of what is used. Assumes nothing.
 use borrow.Author.Rules.{rules}
 use mathlib.Core.Path.{◌∙◌}
-use Rattle.tests.specs.Whole.{table-few-nodes, table-few-entries, table-too-many, table-within, table-lent}
+use Rattle.tests.specs.Whole.{table-few-nodes, table-few-entries, table_too_many, table-within, table-lent}
 use Rattle.tests.proofs.test_table.Statement.{statement}
 use Rattle.tests.proofs.test_table.Tie as tie
 
@@ -21,7 +21,7 @@ returns-3 : tie.Need-returns-3
 returns-3 c =
     let a = c.before.before.before.before.before.before.before.args in
     let s = c.before.before.of in
-    table-too-many a.table.now a.nodes a.entries.now a.entry-count c.before.before.before.before.if1.false c.before.before.before.if2.false s.result s.ensures c.enum_told.given.1
+    table_too_many a.table.now a.nodes a.entries.now a.entry-count c.before.before.before.before.if1.false c.before.before.before.if2.false s.result s.ensures c.enum_told.given.1
 
 returns-4 : tie.Need-returns-4
 returns-4 c =

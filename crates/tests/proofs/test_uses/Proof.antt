@@ -2,8 +2,8 @@
 use borrow.Author.Rules.{rules}
 use mathlib.Core.Path.{ap, ◌∙◌}
 use lib.ListN.{take}
-use Rattle.script.specs.Flat.{nodesIn}
-use Rattle.script.specs.Flat.{testedBy}
+use Rattle.script.specs.Flat.{nodes_in}
+use Rattle.script.specs.Flat.{tested_by}
 use Rattle.tests.specs.Counts.{counts-uses, formed-length}
 use Rattle.tests.specs.Whole.{zeros-made}
 use Rattle.tests.proofs.test_uses.Statement.{statement}
@@ -16,7 +16,7 @@ returns : tie.Need-returns
 returns c =
     let a = c.before.before.before.before.before.before.args in
     c.test-counts.ensures
-    ∙ ap testedBy (counts-uses (take a.nodes (nodesIn a.table.now)) _ a.nodes (formed-length a.table.now a.nodes c.before.before.before.before.before.before.requires) c.before.before.before.count-uses.ensures)
+    ∙ ap tested_by (counts-uses (take a.nodes (nodes_in a.table.now)) _ a.nodes (formed-length a.table.now a.nodes c.before.before.before.before.before.before.requires) c.before.before.before.count-uses.ensures)
 
 pub test-uses-spec : {M : Type 1} → statement M
 test-uses-spec =

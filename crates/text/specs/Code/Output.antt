@@ -3,7 +3,7 @@ use Rattle.std.specs.Prelude.{Bool, List, [], ◌∷◌, ◌≡◌, ℕ, ◌+◌
 use Rattle.std.proofs.Math.Option.{Option, none, some}
 use Rattle.std.proofs.lemmas.List.Edits.{sets}
 use Rattle.script.specs.Rows.{Row, row_of}
-use Rattle.script.specs.Table.{Table, nodesOf, entriesOf}
+use Rattle.script.specs.Table.{Table, nodes_of, entries_of}
 use Rattle.script.specs.Tests.{pick}
 use Rattle.text.specs.Bytes.{tab}
 use Rattle.text.specs.Writing.{digits, text_of}
@@ -15,20 +15,20 @@ pub mod Passed
 -- the bytes are stored from place `at` on, as far as they fit, and the place after them is given
 pub record Put (bytes : List ℕ) (at : ℕ) (out : List ℕ) (next : ℕ) (out' : List ℕ) : Type 0 where
   pub next-is : next ≡ at + length bytes
-  pub bytes-are : out' ≡ sets out at bytes
+  pub bytes_are : out' ≡ sets out at bytes
 
-abbrev pub wordBy : Option Row → List ℕ
-wordBy none = []
-wordBy (some r) = r.word
+abbrev pub word_by : Option Row → List ℕ
+word_by none = []
+word_by (some r) = r.word
 
 -- the word of a kind
 unfoldable pub word_of : ℕ → List ℕ
-word_of k = wordBy (row_of k)
+word_of k = word_by (row_of k)
 
 -- an operand after a tab, where it is wanted
-abbrev pub operandIf : Bool → ℕ → List ℕ
-operandIf wanted o = pick wanted (tab ∷ digits o) []
+abbrev pub operand_if : Bool → ℕ → List ℕ
+operand_if wanted o = pick wanted (tab ∷ digits o) []
 
 -- the text of a table
-abbrev pub textIn : Table → List ℕ
-textIn t = text_of (entriesOf t) (nodesOf t)
+abbrev pub text_in : Table → List ℕ
+text_in t = text_of (entries_of t) (nodes_of t)

@@ -2,11 +2,11 @@
 -- believed: the laws tie it to the grammar. Assumes nothing.
 use Rattle.std.specs.Prelude.{Bool, true, false, ◌&&◌, ◌||◌, List, [], ◌∷◌, ℕ, ◌+◌, leb, eqb, length}
 use Rattle.std.proofs.Math.Option.{Option, none, some}
-use Rattle.script.specs.Rows.{Row, row_of, numberUpTo}
+use Rattle.script.specs.Rows.{Row, row_of, number_up_to}
 use Rattle.script.specs.Tests.{pick, all}
 use Rattle.text.specs.Bytes.{lf, tab}
-use Rattle.text.specs.Fields.{given, isDigit, valueAfter, decimalUpTo}
-use Rattle.text.specs.Grammar.{Line, entryLine, nodeLine, up_to, node_by, entryFrom, line_of, parts}
+use Rattle.text.specs.Fields.{given, is_digit, value_after, decimal_up_to}
+use Rattle.text.specs.Grammar.{Line, entry_line, node_line, up_to, node_by, entry_from, line_of, parts}
 use Rattle.text.specs.declared.Said.{Said}
 use Rattle.text.specs.declared.Operand.{Operand}
 use Rattle.text.specs.declared.Scanned.{Scanned}
@@ -14,9 +14,9 @@ pub mod Laws
 pub mod Lines
 pub mod Nodes
 
-abbrev pub saidBy : Option ℕ → Said
-saidBy none = Said.Nothing
-saidBy (some n) = Said.Number n
+abbrev pub said_by : Option ℕ → Said
+said_by none = Said.Nothing
+said_by (some n) = Said.Number n
 
 -- ---- bytes
 
@@ -24,69 +24,69 @@ abbrev pub starts_with : ℕ → List ℕ → Bool
 starts_with b [] = false
 starts_with b (c ∷ cs) = eqb c b
 
-abbrev pub endsField : ℕ → Bool
-endsField c = eqb c tab || eqb c lf
+abbrev pub ends_field : ℕ → Bool
+ends_field c = eqb c tab || eqb c lf
 
 -- up to the next tab or LF
-unfoldable pub fieldIn : List ℕ → List ℕ
-fieldIn [] = []
-fieldIn (c ∷ cs) = pick (endsField c) [] (c ∷ fieldIn cs)
+unfoldable pub field_in : List ℕ → List ℕ
+field_in [] = []
+field_in (c ∷ cs) = pick (ends_field c) [] (c ∷ field_in cs)
 
 -- the end of a field: a tab, an LF or the text's end
-abbrev pub fieldEnds : List ℕ → Bool
-fieldEnds [] = true
-fieldEnds (c ∷ cs) = endsField c
+abbrev pub field_ends : List ℕ → Bool
+field_ends [] = true
+field_ends (c ∷ cs) = ends_field c
 
 -- up to the next LF
-unfoldable pub lineIn : List ℕ → List ℕ
-lineIn [] = []
-lineIn (c ∷ cs) = pick (eqb c lf) [] (c ∷ lineIn cs)
+unfoldable pub line_in : List ℕ → List ℕ
+line_in [] = []
+line_in (c ∷ cs) = pick (eqb c lf) [] (c ∷ line_in cs)
 
 -- an LF follows
-unfoldable pub lineEnds : List ℕ → Bool
-lineEnds [] = false
-lineEnds (c ∷ cs) = pick (eqb c lf) true (lineEnds cs)
+unfoldable pub line_ends : List ℕ → Bool
+line_ends [] = false
+line_ends (c ∷ cs) = pick (eqb c lf) true (line_ends cs)
 
 -- the fields that follow the end of a field, in the same line
-abbrev pub fieldsAfter : List ℕ → List (List ℕ)
-fieldsAfter [] = []
-fieldsAfter (c ∷ cs) = pick (eqb c tab) (parts tab (lineIn cs)) []
+abbrev pub fields_after : List ℕ → List (List ℕ)
+fields_after [] = []
+fields_after (c ∷ cs) = pick (eqb c tab) (parts tab (line_in cs)) []
 
 -- ---- numbers
 
 -- the number that digits make after n
-unfoldable pub numberAfter : ℕ → ℕ → List ℕ → Option ℕ
-numberAfter m n cs = given (all isDigit cs && leb (valueAfter n cs) m) (valueAfter n cs)
+unfoldable pub number_after : ℕ → ℕ → List ℕ → Option ℕ
+number_after m n cs = given (all is_digit cs && leb (value_after n cs) m) (value_after n cs)
 
-abbrev pub largestBy : Option Row → ℕ
-largestBy none = up_to none
-largestBy (some r) = up_to (numberUpTo r.form)
+abbrev pub largest_by : Option Row → ℕ
+largest_by none = up_to none
+largest_by (some r) = up_to (number_up_to r.form)
 
 -- ---- lines
 
-abbrev pub operandBy : Option ℕ → ℕ → Operand
-operandBy none at = Operand.Bad
-operandBy (some n) at = Operand.Is n at
+abbrev pub operand_by : Option ℕ → ℕ → Operand
+operand_by none at = Operand.Bad
+operand_by (some n) at = Operand.Is n at
 
 -- an operand, if one is wanted, and the place after it
 abbrev pub operand_at : Bool → ℕ → ℕ → List ℕ → Operand
 operand_at false m at cs = Operand.Is 0 at
 operand_at true m at [] = Operand.Bad
-operand_at true m at (c ∷ cs) = pick (eqb c tab) (operandBy (decimalUpTo m (fieldIn cs)) (at + 1 + length (fieldIn cs))) Operand.Bad
+operand_at true m at (c ∷ cs) = pick (eqb c tab) (operand_by (decimal_up_to m (field_in cs)) (at + 1 + length (field_in cs))) Operand.Bad
 
 -- a line that ends in LF, and the place after it
 abbrev pub located : Bool → Option Line → ℕ → Scanned
 located false l at = Scanned.Bad
 located true none at = Scanned.Bad
-located true (some (entryLine t)) at = Scanned.Entry t at
-located true (some (nodeLine n)) at = Scanned.Node n at
+located true (some (entry_line t)) at = Scanned.Entry t at
+located true (some (node_line n)) at = Scanned.Node n at
 
 -- a line, and its rest after the word `entry` or the word of a kind
 unfoldable pub line_at : ℕ → List ℕ → Scanned
-line_at at cs = located (lineEnds cs) (line_of (lineIn cs)) (at + length (lineIn cs) + 1)
+line_at at cs = located (line_ends cs) (line_of (line_in cs)) (at + length (line_in cs) + 1)
 
-unfoldable pub entryAfter : ℕ → List ℕ → Scanned
-entryAfter at cs = located (lineEnds cs) (entryFrom (fieldsAfter cs)) (at + length (lineIn cs) + 1)
+unfoldable pub entry_after : ℕ → List ℕ → Scanned
+entry_after at cs = located (line_ends cs) (entry_from (fields_after cs)) (at + length (line_in cs) + 1)
 
-unfoldable pub nodeAfter : ℕ → ℕ → List ℕ → Scanned
-nodeAfter k at cs = located (lineEnds cs) (node_by k (row_of k) (fieldsAfter cs)) (at + length (lineIn cs) + 1)
+unfoldable pub node_after : ℕ → ℕ → List ℕ → Scanned
+node_after k at cs = located (line_ends cs) (node_by k (row_of k) (fields_after cs)) (at + length (line_in cs) + 1)

@@ -4,31 +4,31 @@ use Rattle.std.proofs.Math.Path.{refl}
 use Rattle.std.proofs.Common.{ap}
 use Rattle.std.proofs.Math.Seq.{drop-cons, drop-length}
 use borrow.Author.Tests.{eq-eqb, ne_eqb}
-use Rattle.text.specs.Fields.{sameBytes}
+use Rattle.text.specs.Fields.{same_bytes}
 
 -- ---- byte strings
 
-pub same-lengths : (a b : List ℕ) → (length a ≡ length b → ⊥) → sameBytes a b ≡ false
-unfolding sameBytes
-same-lengths [] [] h = absurd (h refl)
-same-lengths [] (d ∷ b) h = refl
-same-lengths (c ∷ a) [] h = refl
-same-lengths (c ∷ a) (d ∷ b) h = go (eqb c d) (same-lengths a b (λ e. h (ap suc e)))
+pub same_lengths : (a b : List ℕ) → (length a ≡ length b → ⊥) → same_bytes a b ≡ false
+unfolding same_bytes
+same_lengths [] [] h = absurd (h refl)
+same_lengths [] (d ∷ b) h = refl
+same_lengths (c ∷ a) [] h = refl
+same_lengths (c ∷ a) (d ∷ b) h = go (eqb c d) (same_lengths a b (λ e. h (ap suc e)))
   where
-    go : (t : Bool) → sameBytes a b ≡ false → t && sameBytes a b ≡ false
+    go : (t : Bool) → same_bytes a b ≡ false → t && same_bytes a b ≡ false
     go true e = e
     go false e = refl
 
 -- at a place of both
 module _ (a b : List ℕ) (i : ℕ) (h : i < length a) (k : i < length b) where
-  pub same-differ : (get_or a i 0 ≡ get_or b i 0 → ⊥) → sameBytes (drop i a) (drop i b) ≡ false
-  unfolding sameBytes
+  pub same-differ : (get_or a i 0 ≡ get_or b i 0 → ⊥) → same_bytes (drop i a) (drop i b) ≡ false
+  unfolding same_bytes
   same-differ n = rw (drop-cons a i 0 h, drop-cons b i 0 k, ne_eqb (get_or a i 0) (get_or b i 0) n) refl
 
-  pub same_next : get_or a i 0 ≡ get_or b i 0 → sameBytes (drop i a) (drop i b) ≡ sameBytes (drop (suc i) a) (drop (suc i) b)
-  unfolding sameBytes
+  pub same_next : get_or a i 0 ≡ get_or b i 0 → same_bytes (drop i a) (drop i b) ≡ same_bytes (drop (suc i) a) (drop (suc i) b)
+  unfolding same_bytes
   same_next e = rw (drop-cons a i 0 h, drop-cons b i 0 k, eq-eqb (get_or a i 0) (get_or b i 0) e) refl
 
-pub same_end : (a b : List ℕ) → length a ≡ length b → sameBytes (drop (length a) a) (drop (length a) b) ≡ true
-unfolding sameBytes
+pub same_end : (a b : List ℕ) → length a ≡ length b → same_bytes (drop (length a) a) (drop (length a) b) ≡ true
+unfolding same_bytes
 same_end a b e = rw (drop-length a, e, drop-length b) refl

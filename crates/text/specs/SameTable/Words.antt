@@ -6,14 +6,14 @@ use Rattle.std.proofs.Math.Path.{refl}
 use Rattle.std.proofs.Common.{ap}
 use Rattle.std.proofs.Math.Dec.{leb}
 use borrow.Author.Tests.{not-true, not-false, eqb-true, leb-true}
-use Rattle.script.specs.Rows.{Row, rows, row_of, numberUpTo, operandCount}
-use Rattle.script.specs.Rows.Kinds.{kindCount}
+use Rattle.script.specs.Rows.{Row, rows, row_of, number_up_to, operand_count}
+use Rattle.script.specs.Rows.Kinds.{kind_count}
 use Rattle.script.specs.Rows.Laws.{row-kind, operands-most}
-use Rattle.script.specs.Tests.{all, lowestFrom}
-use Rattle.script.specs.Tests.Laws.{all-getElem?, lowest-none, true-or-false}
-use Rattle.text.specs.Bytes.{tab, lf, entryWord}
-use Rattle.text.specs.Fields.{sameBytes, kindNamed}
-use Rattle.text.specs.SameTable.Parts.{Free, isFree, is_free}
+use Rattle.script.specs.Tests.{all, lowest_from}
+use Rattle.script.specs.Tests.Laws.{all_get_elem?, lowest-none, true_or_false}
+use Rattle.text.specs.Bytes.{tab, lf, entry_word}
+use Rattle.text.specs.Fields.{same_bytes, kind_named}
+use Rattle.text.specs.SameTable.Parts.{Free, is_free, is_free_lem}
 
 -- ---- the kind of a word
 
@@ -23,21 +23,21 @@ is_some (some j) k = eqb j k
 
 is-some-true : (o : Option ℕ) (k : ℕ) → is_some o k ≡ true → o ≡ some k
 unfolding is_some
-is-some-true none k e = absurd (true-or-false false e refl)
+is-some-true none k e = absurd (true_or_false false e refl)
 is-some-true (some j) k e = ap some (eqb-true j k e)
 
 -- the word of the kind is the word of no lower kind
-tellsKind : Option Row → ℕ → Bool
-tellsKind none k = true
-tellsKind (some r) k = is_some (kindNamed r.word) k
+tells_kind : Option Row → ℕ → Bool
+tells_kind none k = true
+tells_kind (some r) k = is_some (kind_named r.word) k
 
-tells-kind : (k : ℕ) → k < kindCount → not (tellsKind (row_of k) k) ≡ false
-unfolding row_of rows lowestFrom tellsKind is_some kindNamed sameBytes
-tells-kind k h = lowest-none (λ k. not (tellsKind (row_of k) k)) kindCount refl k h
+tells-kind : (k : ℕ) → k < kind_count → not (tells_kind (row_of k) k) ≡ false
+unfolding row_of rows lowest_from tells_kind is_some kind_named same_bytes
+tells-kind k h = lowest-none (λ k. not (tells_kind (row_of k) k)) kind_count refl k h
 
-pub word-kind : (k : ℕ) (r : Row) → row_of k ≡ some r → kindNamed r.word ≡ some k
-unfolding tellsKind
-word-kind k r e = is-some-true _ k (rw e at (not-false (tellsKind (row_of k) k) (tells-kind k (row-kind k r e))))
+pub word-kind : (k : ℕ) (r : Row) → row_of k ≡ some r → kind_named r.word ≡ some k
+unfolding tells_kind
+word-kind k r e = is-some-true _ k (rw e at (not-false (tells_kind (row_of k) k) (tells-kind k (row-kind k r e))))
 
 -- ---- what every row passes
 
@@ -48,26 +48,26 @@ width (some m) = 11
 
 row-passes : (p : Row → Bool) → all p rows ≡ true → (k : ℕ) (r : Row) → row_of k ≡ some r → p r ≡ true
 unfolding row_of
-row-passes p a k r e = all-getElem? p rows a k r e
+row-passes p a k r e = all_get_elem? p rows a k r e
 
 module _ (k : ℕ) (r : Row) (e : row_of k ≡ some r) where
-  pub not_entry : sameBytes entryWord r.word ≡ false
-  unfolding rows sameBytes
-  not_entry = not-true _ (row-passes (λ r. not (sameBytes entryWord r.word)) refl k r e)
+  pub not_entry : same_bytes entry_word r.word ≡ false
+  unfolding rows same_bytes
+  not_entry = not-true _ (row-passes (λ r. not (same_bytes entry_word r.word)) refl k r e)
 
   pub word-tab : Free tab r.word
   unfolding rows
-  word-tab = is_free tab r.word (row-passes (λ r. isFree tab r.word) refl k r e)
+  word-tab = is_free_lem tab r.word (row-passes (λ r. is_free tab r.word) refl k r e)
 
   pub word-lf : Free lf r.word
   unfolding rows
-  word-lf = is_free lf r.word (row-passes (λ r. isFree lf r.word) refl k r e)
+  word-lf = is_free_lem lf r.word (row-passes (λ r. is_free lf r.word) refl k r e)
 
   pub row-most : r.count ≤ 3
-  unfolding operandCount
+  unfolding operand_count
   row-most = rw e at (operands-most k)
 
   -- the longest lines are those of `int` and `if`
-  pub row-width : length r.word + r.count * width (numberUpTo r.form) ≤ 14
+  pub row-width : length r.word + r.count * width (number_up_to r.form) ≤ 14
   unfolding rows
-  row-width = leb-true _ 14 (row-passes (λ r. leb (length r.word + r.count * width (numberUpTo r.form)) 14) refl k r e)
+  row-width = leb-true _ 14 (row-passes (λ r. leb (length r.word + r.count * width (number_up_to r.form)) 14) refl k r e)

@@ -3,7 +3,7 @@ use borrow.Author.Rules.{rules}
 use mathlib.Core.Path.{◌≡◌, refl}
 use Prim.Native.Nat.{◌-◌}
 use lib.ListN.{length}
-use Rattle.texts.specs.Frames.{lent, afterFrames}
+use Rattle.texts.specs.Frames.{lent, after_frames}
 use Rattle.texts.specs.Frames.Laws.{Going, starts, ends, malformed, on}
 use Rattle.texts.proofs.try_all.Statement.{statement}
 use Rattle.texts.proofs.try_all.Tie as tie
@@ -11,7 +11,7 @@ use Rattle.texts.proofs.try_all.Tie as tie
 abbrev invariant-loop : tie.invariant-loop
 invariant-loop input table₀ entries₀ out₀ at₀ t7 table entries out at =
     (length table ≡ length table₀) × (length entries ≡ length entries₀) × (length out ≡ length out₀)
-    × Going input at (lent table entries out) (afterFrames input (length input) 0 (lent table₀ entries₀ out₀))
+    × Going input at (lent table entries out) (after_frames input (length input) 0 (lent table₀ entries₀ out₀))
 
 abbrev decreases-loop : tie.decreases-loop
 decreases-loop input table₀ entries₀ out₀ at₀ t7 table entries out at = length input - at

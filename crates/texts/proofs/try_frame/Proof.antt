@@ -3,7 +3,7 @@ use borrow.Author.Rules.{rules}
 use mathlib.Core.Path.{sym}
 use native.Mathlib.Omega.{arith}
 use lib.Seq.{length-take-le}
-use Rattle.trial.specs.Places.Laws.{name-within}
+use Rattle.trial.specs.Places.Laws.{name_within}
 use Rattle.texts.specs.Frames.Laws.{no_header, no_name, no_text, no_end, no_room, framed}
 use Rattle.texts.proofs.try_frame.Statement.{statement}
 use Rattle.texts.proofs.try_frame.Tie as tie
@@ -15,10 +15,10 @@ returns-2 : tie.Need-returns-2
 returns-2 c = no_name _ _ _ _ c.before.before.before.before.before.header_at.ensures c.before.before.before.length.given.1 c.before.name-end.ensures c.if1.true
 
 add-from : tie.Need-overflow-add-from
-add-from c = let h = name-within _ _ c.before.name-end.ensures c.if1.false in omega arith
+add-from c = let h = name_within _ _ c.before.name-end.ensures c.if1.false in omega arith
 
 sub-if2 : tie.Need-overflow-sub-if2
-sub-if2 c = let h = name-within _ _ c.before.name-end.ensures c.if1.false in omega arith
+sub-if2 c = let h = name_within _ _ c.before.name-end.ensures c.if1.false in omega arith
 
 returns-3 : tie.Need-returns-3
 returns-3 c = no_text _ _ _ _ c.before.before.before.before.before.before.header_at.ensures c.before.before.before.before.length.given.1 c.before.before.name-end.ensures c.before.if1.false c.if2.true

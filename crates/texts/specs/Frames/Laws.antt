@@ -9,47 +9,47 @@ use Rattle.trial.specs.declared.Header.{Header}
 use Rattle.trial.specs.declared.Header.TheVariants as header
 use Rattle.trial.specs.Numbers.{largest, header_at}
 use Rattle.trial.specs.Numbers.Laws as known
-use Rattle.trial.specs.Numbers.Laws.{BothWithin, header-within, header-past}
-use Rattle.trial.specs.Places.{nameEnd}
-use Rattle.trial.specs.Places.Laws.{name-least}
+use Rattle.trial.specs.Numbers.Laws.{BothWithin, header_within, header_past}
+use Rattle.trial.specs.Places.{name_end}
+use Rattle.trial.specs.Places.Laws.{name_least}
 use Rattle.texts.specs.Rounds.{Tried}
-use Rattle.texts.specs.Frames.{Frame, is_whole, frame_of, frameIn, frameBy, frame_at, nextBy, Lent, lent, afterFrame, Framed, afterFrames}
+use Rattle.texts.specs.Frames.{Frame, is_whole, frame_of, frame_in, frame_by, frame_at, next_by, Lent, lent, after_frame, Framed, after_frames}
 
 -- ---- one frame
 
-no-frame : {o : Option Frame} {l : Lent} → o ≡ none → Framed o l 0 l
-no-frame e = record { next-is = rw e refl; left_is = rw e refl }
+no_frame : {o : Option Frame} {l : Lent} → o ≡ none → Framed o l 0 l
+no_frame e = record { next-is = rw e refl; left_is = rw e refl }
 
 module _ (input : List ℕ) (room at : ℕ) (l : Lent) {h : Header} (e : h ≡ header_at input at) where
   pub no_header : h ≡ Header.Bad → Framed (frame_at input room at) l 0 l
   unfolding frame_at
-  no_header b = no-frame (rw (← e, b) refl)
+  no_header b = no_frame (rw (← e, b) refl)
 
-  module _ {size share name stop : ℕ} (b : h ≡ Header.Is size share name) (s : stop ≡ nameEnd input name) where
-    by-header : frame_at input room at ≡ frameIn input room size share name stop
+  module _ {size share name stop : ℕ} (b : h ≡ Header.Is size share name) (s : stop ≡ name_end input name) where
+    by_header : frame_at input room at ≡ frame_in input room size share name stop
     unfolding frame_at
-    by-header = rw (← e, b, ← s) refl
+    by_header = rw (← e, b, ← s) refl
 
     pub no_name : stop ≤ name → Framed (frame_at input room at) l 0 l
-    no_name n = no-frame (by-header ∙ rw (le-ltb name stop n) refl)
+    no_name n = no_frame (by_header ∙ rw (le-ltb name stop n) refl)
 
     module _ (n : name < stop) where
       pub no_text : length input - (stop + 1) ≤ size → Framed (frame_at input room at) l 0 l
-      no_text t = no-frame (by-header ∙ rw (lt-ltb name stop n, le-ltb size (length input - (stop + 1)) t) refl)
+      no_text t = no_frame (by_header ∙ rw (lt-ltb name stop n, le-ltb size (length input - (stop + 1)) t) refl)
 
       module _ (t : size < length input - (stop + 1)) where
         pub no_end : (get_or input (stop + 1 + size) 0 ≡ 10 → ⊥) → Framed (frame_at input room at) l 0 l
-        no_end f = no-frame
-            (by-header ∙ rw (lt-ltb name stop n, lt-ltb size (length input - (stop + 1)) t, ne_eqb (get_or input (stop + 1 + size) 0) 10 f) refl)
+        no_end f = no_frame
+            (by_header ∙ rw (lt-ltb name stop n, lt-ltb size (length input - (stop + 1)) t, ne_eqb (get_or input (stop + 1 + size) 0) 10 f) refl)
 
         module _ (f : get_or input (stop + 1 + size) 0 ≡ 10) where
           pub no_room : room < share → Framed (frame_at input room at) l 0 l
-          no_room r = no-frame (by-header
+          no_room r = no_frame (by_header
               ∙ rw (lt-ltb name stop n, lt-ltb size (length input - (stop + 1)) t, eq-eqb (get_or input (stop + 1 + size) 0) 10 f, lt-leb share room r) refl)
 
           module _ (r : share ≤ room) where
             is-frame : frame_at input room at ≡ some (frame_of input size share stop)
-            is-frame = by-header
+            is-frame = by_header
                 ∙ rw (lt-ltb name stop n, lt-ltb size (length input - (stop + 1)) t, eq-eqb (get_or input (stop + 1 + size) 0) 10 f, le-leb share room r) refl
 
             pub framed : {table₁ entries₁ out₁ : List ℕ}
@@ -70,22 +70,22 @@ pub data Onward (at : ℕ) : Option Frame → Type 0 where
 
 frame-onward : (input : List ℕ) (room at : ℕ) → Onward at (frame_at input room at)
 unfolding frame_at
-frame-onward input room at = go (header_at input at) (header-within input at)
+frame-onward input room at = go (header_at input at) (header_within input at)
   where
     whole : (size share name stop : ℕ) → at < name → name ≤ stop → (b : Bool)
         → Onward at (cond b (some (frame_of input size share stop)) none)
     whole size share name stop h l true = let m : at < stop + 1 + size + 1 = omega arith in goes m
     whole size share name stop h l false = stays
 
-    go : (h : Header) → BothWithin largest at h → Onward at (frameBy input room h)
+    go : (h : Header) → BothWithin largest at h → Onward at (frame_by input room h)
     go header.Bad w = stays
-    go (header.Is size share name) (known.a-header f s l) =
-        whole size share name (nameEnd input name) l (name-least input name) (is_whole input room size share name (nameEnd input name))
+    go (header.Is size share name) (known.a_header f s l) =
+        whole size share name (name_end input name) l (name_least input name) (is_whole input room size share name (name_end input name))
 
 -- past the end there is none
 frame_past : (input : List ℕ) (room at : ℕ) → length input ≤ at → frame_at input room at ≡ none
 unfolding frame_at
-frame_past input room at h = rw (header-past input at h) refl
+frame_past input room at h = rw (header_past input at h) refl
 
 -- ---- all frames
 
@@ -93,22 +93,22 @@ frame_past input room at h = rw (header-past input at h) refl
 pub record Going (input : List ℕ) (at : ℕ) (l m : Lent) : Type 0 where
   pub turns : ℕ
   pub enough : length input ≤ at + turns
-  pub rest : afterFrames input turns at l ≡ m
+  pub rest : after_frames input turns at l ≡ m
 
 module _ (input : List ℕ) where
-  pub starts : (l : Lent) → Going input 0 l (afterFrames input (length input) 0 l)
+  pub starts : (l : Lent) → Going input 0 l (after_frames input (length input) 0 l)
   starts l = record { turns = length input; enough = omega arith; rest = refl }
 
   module _ (at : ℕ) where
     -- a turn, after which there is a frame left or none
-    turn-none : (k : ℕ) (l : Lent) → frame_at input (length l.out) at ≡ none → afterFrames input k at l ≡ l
-    unfolding afterFrames
+    turn-none : (k : ℕ) (l : Lent) → frame_at input (length l.out) at ≡ none → after_frames input k at l ≡ l
+    unfolding after_frames
     turn-none zero l e = refl
     turn-none (suc k) l e = rw e refl
 
     turn-some : (k : ℕ) (l : Lent) {f : Frame} → frame_at input (length l.out) at ≡ some f
-        → afterFrames input (suc k) at l ≡ afterFrames input k f.next (afterFrame (some f) l)
-    unfolding afterFrames
+        → after_frames input (suc k) at l ≡ after_frames input k f.next (after_frame (some f) l)
+    unfolding after_frames
     turn-some k l e = rw e refl
 
     module _ {l m : Lent} (g : Going input at l m) where
@@ -119,15 +119,15 @@ module _ (input : List ℕ) where
         pub malformed : r ≤ at → n ≡ m
         malformed h = go (frame_at input (length l.out) at) refl (frame-onward input (length l.out) at) w.next-is w.left_is
           where
-            go : (o : Option Frame) → frame_at input (length l.out) at ≡ o → Onward at o → r ≡ nextBy o → n ≡ afterFrame o l → n ≡ m
+            go : (o : Option Frame) → frame_at input (length l.out) at ≡ o → Onward at o → r ≡ next_by o → n ≡ after_frame o l → n ≡ m
             go none e a p q = q ∙ sym (turn-none g.turns l e) ∙ g.rest
             go (some f) e (goes a) p q = absurd (omega arith)
 
         pub on : at < length input → at < r → Going input r n m
         on i h = go (frame_at input (length l.out) at) refl w.next-is w.left_is g.turns g.enough g.rest
           where
-            go : (o : Option Frame) → frame_at input (length l.out) at ≡ o → r ≡ nextBy o → n ≡ afterFrame o l
-                → (k : ℕ) → length input ≤ at + k → afterFrames input k at l ≡ m → Going input r n m
+            go : (o : Option Frame) → frame_at input (length l.out) at ≡ o → r ≡ next_by o → n ≡ after_frame o l
+                → (k : ℕ) → length input ≤ at + k → after_frames input k at l ≡ m → Going input r n m
             go none e p q k c d = absurd (omega arith)
             go (some f) e p q zero c d = absurd (omega arith)
             go (some f) e p q (suc k) c d = record { turns = k; enough = omega arith; rest = rw (p, q) (sym (turn-some k l e) ∙ d) }

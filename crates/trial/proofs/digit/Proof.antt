@@ -1,20 +1,20 @@
 -- `trial::digit` meets its contract. Assumes nothing.
 use borrow.Author.Rules.{rules}
 use borrow.Author.Tests.{le-leb, lt-leb}
-use Rattle.trial.specs.Numbers.{digitOf}
+use Rattle.trial.specs.Numbers.{digit_of}
 use Rattle.trial.proofs.digit.Statement.{statement}
 use Rattle.trial.proofs.digit.Tie as tie
 
 returns : tie.Need-returns
-unfolding digitOf
+unfolding digit_of
 returns c = simp (le-leb _ _ c.before.if1.true, le-leb _ _ c.if2.true)
 
 returns-2 : tie.Need-returns-2
-unfolding digitOf
+unfolding digit_of
 returns-2 c = simp (le-leb _ _ c.before.if1.true, lt-leb _ _ c.if2.false)
 
 returns-3 : tie.Need-returns-3
-unfolding digitOf
+unfolding digit_of
 returns-3 c = simp (lt-leb _ _ c.if1.false)
 
 pub digit-spec : {M : Type 1} → statement M

@@ -1,7 +1,7 @@
 -- `trial::header_at` meets its contract: both numbers are read by `number_until`. Assumes nothing.
 use borrow.Author.Rules.{rules}
 use mathlib.Core.Path.{sym, ◌∙◌}
-use Rattle.trial.specs.Numbers.Laws.{no-first, no_second, header_is}
+use Rattle.trial.specs.Numbers.Laws.{no_first, no_second, header_is}
 use Rattle.trial.proofs.header_at.Statement.{statement}
 use Rattle.trial.proofs.header_at.Tie as tie
 
@@ -16,7 +16,7 @@ returns-2 c =
     sym (no_second a.input.now a.at (sym c.before.before.before.before.before.before.number-until.ensures ∙ c.before.before.before.before.first.given.1) (sym c.before.before.number-until2.ensures ∙ c.enum_told.given.1))
 
 returns-3 : tie.Need-returns-3
-returns-3 c = let a = c.before.before.before.before.args in sym (no-first a.input.now a.at (sym c.before.before.number-until.ensures ∙ c.enum-told2.given.1))
+returns-3 c = let a = c.before.before.before.before.args in sym (no_first a.input.now a.at (sym c.before.before.number-until.ensures ∙ c.enum-told2.given.1))
 
 pub header-at-spec : {M : Type 1} → statement M
 header-at-spec =

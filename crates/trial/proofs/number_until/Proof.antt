@@ -6,13 +6,13 @@ use Prim.Native.Nat.{◌≤◌, ◌-◌}
 use native.Mathlib.Numerals.{add-one}
 use native.Mathlib.Omega.{arith}
 use lib.ListN.{length, drop, get_or}
-use Rattle.trial.specs.Numbers.{largest, numberFrom, number_at}
-use Rattle.trial.specs.Numbers.Laws.{digit-most, number_past, number-none, number-starts, number-stops, number-bad, number-on, number-too-large, number-ends}
+use Rattle.trial.specs.Numbers.{largest, number_from, number_at}
+use Rattle.trial.specs.Numbers.Laws.{digit-most, number_past, number-none, number-starts, number-stops, number_bad, number_on, number_too_large, number-ends}
 use Rattle.trial.proofs.number_until.Statement.{statement}
 use Rattle.trial.proofs.number_until.Tie as tie
 
 abbrev invariant-loop : tie.invariant-loop
-invariant-loop input at stop value₀ i₀ value i = (value ≤ largest) × (numberFrom stop value i (drop i input) ≡ number_at stop input at)
+invariant-loop input at stop value₀ i₀ value i = (value ≤ largest) × (number_from stop value i (drop i input) ≡ number_at stop input at)
 
 abbrev decreases-loop : tie.decreases-loop
 decreases-loop input at stop value₀ i₀ value i = length input - i
@@ -36,13 +36,13 @@ returns-4 : tie.Need-returns-4 invariant-loop decreases-loop
 returns-4 c =
     let a = c.before.before.before.before.before.before.before.before.before.before.args in
     let l = c.before.before.before.before.before.loop in
-    sym (number-bad a.stop a.input.now l.i (omega arith) l.value c.before.before.if3.false (sym c.before.digit.ensures ∙ c.if4.true)) ∙ l.invariant.1
+    sym (number_bad a.stop a.input.now l.i (omega arith) l.value c.before.before.if3.false (sym c.before.digit.ensures ∙ c.if4.true)) ∙ l.invariant.1
 
 returns-5 : tie.Need-returns-5 invariant-loop decreases-loop
 returns-5 c =
     let a = c.before.before.before.before.before.before.before.before.before.before.before.args in
     let l = c.before.before.before.before.before.before.loop in
-    sym (number-too-large a.stop a.input.now l.i (omega arith) l.value c.before.before.before.if3.false c.if5.true (λ e. c.before.if4.false (c.before.before.digit.ensures ∙ e))) ∙ l.invariant.1
+    sym (number_too_large a.stop a.input.now l.i (omega arith) l.value c.before.before.before.if3.false c.if5.true (λ e. c.before.if4.false (c.before.before.digit.ensures ∙ e))) ∙ l.invariant.1
 
 add-value : tie.Need-overflow-add-value invariant-loop decreases-loop
 add-value c =
@@ -56,7 +56,7 @@ loop-again c =
     let l = c.before.before.before.before.before.before.loop in
     let e = c.before.before.digit.ensures in
     let m = digit-most (get_or a.input.now l.i 0) in
-    (omega arith, rw (add-one l.i, e) (sym (number-on a.stop a.input.now l.i (omega arith) l.value c.before.before.before.if3.false (λ d. c.before.if4.false (e ∙ d))) ∙ l.invariant.1))
+    (omega arith, rw (add-one l.i, e) (sym (number_on a.stop a.input.now l.i (omega arith) l.value c.before.before.before.if3.false (λ d. c.before.if4.false (e ∙ d))) ∙ l.invariant.1))
 
 returns-6 : tie.Need-returns-6 invariant-loop decreases-loop
 returns-6 c =

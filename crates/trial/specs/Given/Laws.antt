@@ -11,7 +11,7 @@ use Rattle.trial.specs.declared.Number.{Number}
 use Rattle.trial.specs.declared.given.Byte.{Byte}
 use Rattle.trial.specs.declared.given.Byte.TheVariants as byte
 use Rattle.trial.specs.Numbers.{number_at}
-use Rattle.trial.specs.Given.{byte_at, Line, line, after, lineBy, bytesFrom, lineIn, bytesLine}
+use Rattle.trial.specs.Given.{byte_at, Line, line, after, line_by, bytes_from, line_in, bytes_line}
 
 -- ---- a byte
 
@@ -21,18 +21,18 @@ module _ (input : List ℕ) (at : ℕ) {v next : ℕ} where
     unfolding byte_at
     byte_more h = rw (e, le-leb v 255 h) refl
 
-    pub byte-large : 255 < v → byte_at input at ≡ Byte.Bad
+    pub byte_large : 255 < v → byte_at input at ≡ Byte.Bad
     unfolding byte_at
-    byte-large h = rw (e, lt-leb v 255 h) refl
+    byte_large h = rw (e, lt-leb v 255 h) refl
 
   module _ (n : number_at 32 input at ≡ Number.Bad) (e : number_at 10 input at ≡ Number.Is v next) where
     pub byte_last : v ≤ 255 → byte_at input at ≡ Byte.Last v next
     unfolding byte_at
     byte_last h = rw (n, e, le-leb v 255 h) refl
 
-    pub byte-last-large : 255 < v → byte_at input at ≡ Byte.Bad
+    pub byte-last_large : 255 < v → byte_at input at ≡ Byte.Bad
     unfolding byte_at
-    byte-last-large h = rw (n, e, lt-leb v 255 h) refl
+    byte-last_large h = rw (n, e, lt-leb v 255 h) refl
 
 pub byte-none : (input : List ℕ) (at : ℕ) → number_at 32 input at ≡ Number.Bad → number_at 10 input at ≡ Number.Bad → byte_at input at ≡ Byte.Bad
 unfolding byte_at
@@ -41,36 +41,36 @@ byte-none input at n e = rw (n, e) refl
 -- ---- a line: at its start
 
 module _ (input : List ℕ) (at : ℕ) (out : List ℕ) where
-  pub line-past : length input ≤ at → bytesLine input at out ≡ line Number.Bad out
-  unfolding bytesLine
+  pub line-past : length input ≤ at → bytes_line input at out ≡ line Number.Bad out
+  unfolding bytes_line
   line-past h = rw drop_of_length-le refl
 
-  pub line-empty : at < length input → get_or input at 0 ≡ 10 → bytesLine input at out ≡ line (Number.Is 0 (suc at)) out
-  unfolding bytesLine
+  pub line-empty : at < length input → get_or input at 0 ≡ 10 → bytes_line input at out ≡ line (Number.Is 0 (suc at)) out
+  unfolding bytes_line
   line-empty h e = rw (drop-cons input at 0 h, eq-eqb (get_or input at 0) 10 e) refl
 
-  pub line-starts : at < length input → (get_or input at 0 ≡ 10 → ⊥) → bytesLine input at out ≡ bytesFrom input 0 at out
-  unfolding bytesLine
+  pub line-starts : at < length input → (get_or input at 0 ≡ 10 → ⊥) → bytes_line input at out ≡ bytes_from input 0 at out
+  unfolding bytes_line
   line-starts h n = rw (drop-cons input at 0 h, ne_eqb (get_or input at 0) 10 n) refl
 
 -- ---- and after n bytes, which stand in the lent bytes already
 
 abbrev pub going : List ℕ → ℕ → ℕ → List ℕ → Line
-going input n i out = after (take n out) (bytesFrom input n i (drop n out))
+going input n i out = after (take n out) (bytes_from input n i (drop n out))
 
 module _ (input : List ℕ) (n i : ℕ) (out : List ℕ) where
   pub line-full : length out ≤ n → going input n i out ≡ line Number.Bad out
-  unfolding bytesFrom
+  unfolding bytes_from
   line-full h = rw (drop_of_length-le out h, take_all n out h, append-nil out) refl
 
   module _ (h : n < length out) where
     at_byte : going input n i out
-        ≡ after (take n out) (lineBy (byte_at input i) n (get_or out n 0) (drop (suc n) out) (λ next. bytesFrom input (suc n) next (drop (suc n) out)))
-    unfolding bytesFrom
+        ≡ after (take n out) (line_by (byte_at input i) n (get_or out n 0) (drop (suc n) out) (λ next. bytes_from input (suc n) next (drop (suc n) out)))
+    unfolding bytes_from
     at_byte = rw (drop-cons out n 0 h) refl
 
-    pub line-bad : byte_at input i ≡ Byte.Bad → going input n i out ≡ line Number.Bad out
-    line-bad e = at_byte ∙ rw (e, ← split_at out n 0 h) refl
+    pub line_bad : byte_at input i ≡ Byte.Bad → going input n i out ≡ line Number.Bad out
+    line_bad e = at_byte ∙ rw (e, ← split_at out n 0 h) refl
 
     module _ {b next : ℕ} where
       pub line-last : byte_at input i ≡ Byte.Last b next → going input n i out ≡ line (Number.Is (n + 1) next) (set out n b)
@@ -89,30 +89,30 @@ data Counted (n : ℕ) : Number → Type 0 where
 count : {n v next : ℕ} → Counted n (Number.Is v next) → v ≤ n
 count (counted h) = h
 
-from-counted : (m : ℕ) (input : List ℕ) (n i : ℕ) (out : List ℕ) → n + length out ≤ m → Counted m (bytesFrom input n i out).answer
-unfolding bytesFrom
+from-counted : (m : ℕ) (input : List ℕ) (n i : ℕ) (out : List ℕ) → n + length out ≤ m → Counted m (bytes_from input n i out).answer
+unfolding bytes_from
 from-counted m input n i [] h = no_line
 from-counted m input n i (o ∷ os) h = go (byte_at input i) (λ next. from-counted m input (suc n) next os (omega arith))
   where
-    go : (b : Byte) → ((next : ℕ) → Counted m (bytesFrom input (suc n) next os).answer)
-        → Counted m (lineBy b n o os (λ next. bytesFrom input (suc n) next os)).answer
+    go : (b : Byte) → ((next : ℕ) → Counted m (bytes_from input (suc n) next os).answer)
+        → Counted m (line_by b n o os (λ next. bytes_from input (suc n) next os)).answer
     go (byte.More b next) ih = ih next
     go (byte.Last b next) ih = counted {v = suc n} {next = next} (omega arith)
     go byte.Bad ih = no_line
 
-line-counted : (input : List ℕ) (at : ℕ) (out : List ℕ) → Counted (length out) (bytesLine input at out).answer
-unfolding bytesLine
+line-counted : (input : List ℕ) (at : ℕ) (out : List ℕ) → Counted (length out) (bytes_line input at out).answer
+unfolding bytes_line
 line-counted input at out = go (drop at input)
   where
-    some : (b : Bool) → Counted (length out) (cond b (line (Number.Is 0 (suc at)) out) (bytesFrom input 0 at out)).answer
+    some : (b : Bool) → Counted (length out) (cond b (line (Number.Is 0 (suc at)) out) (bytes_from input 0 at out)).answer
     some true = counted {v = 0} {next = suc at} (omega arith)
     some false = from-counted (length out) input 0 at out (omega arith)
 
-    go : (cs : List ℕ) → Counted (length out) (lineIn input at out cs).answer
+    go : (cs : List ℕ) → Counted (length out) (line_in input at out cs).answer
     go [] = no_line
     go (c ∷ cs) = some (eqb c 10)
 
 -- a line has no more bytes than are lent
-pub count_most : (input : List ℕ) (at : ℕ) (out : List ℕ) {r : Number} {left : List ℕ} {v next : ℕ} → line r left ≡ bytesLine input at out
+pub count_most : (input : List ℕ) (at : ℕ) (out : List ℕ) {r : Number} {left : List ℕ} {v next : ℕ} → line r left ≡ bytes_line input at out
     → r ≡ Number.Is v next → v ≤ length out
 count_most input at out e f = count (rw (← e, f) at (line-counted input at out))

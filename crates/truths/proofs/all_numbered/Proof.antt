@@ -2,7 +2,7 @@
 use borrow.Author.Rules.{rules}
 use Prim.Native.Nat.{◌-◌}
 use native.Mathlib.Omega.{arith}
-use Rattle.rows.specs.Code.Leaves.{Numbered, numbered, numbered-on, numbered-not, numbered-end}
+use Rattle.rows.specs.Code.Leaves.{Numbered, numbered, numbered_on, numbered-not, numbered_end}
 use Rattle.truths.proofs.all_numbered.Statement.{statement}
 use Rattle.truths.proofs.all_numbered.Tie as tie
 
@@ -26,7 +26,7 @@ is-numbered-requires c κs =
     ((e, p.0.lent), omega arith)
 
 loop-again : tie.Need-loop-preserved invariant-loop decreases-loop
-loop-again c = numbered-on c.before.is-numbered.result c.before.before.before.before.loop.invariant c.before.before.before.loop-test.true c.before.is-numbered.ensures c.if1.true
+loop-again c = numbered_on c.before.is-numbered.result c.before.before.before.before.loop.invariant c.before.before.before.loop-test.true c.before.is-numbered.ensures c.if1.true
 
 returns : tie.Need-returns invariant-loop decreases-loop
 returns c =
@@ -34,7 +34,7 @@ returns c =
     numbered-not a.space.now a.order.now a.numbers.now a.count c.before.before.before.before.loop.j c.before.is-numbered.result c.before.before.before.loop-test.true c.before.is-numbered.ensures c.if1.false
 
 returns-2 : tie.Need-returns-2 invariant-loop decreases-loop
-returns-2 c = numbered-end c.before.loop.invariant c.loop-test.false
+returns-2 c = numbered_end c.before.loop.invariant c.loop-test.false
 
 pub all-numbered-spec : {M : Type 1} → statement M
 all-numbered-spec =

@@ -2,7 +2,7 @@
 use borrow.Author.Rules.{rules}
 use Prim.Native.Nat.{◌-◌}
 use native.Mathlib.Omega.{arith}
-use Rattle.rows.specs.Code.Leaves.{Evaluating, evaluating, evaluating-on, evaluating-end}
+use Rattle.rows.specs.Code.Leaves.{Evaluating, evaluating, evaluating_on, evaluating_end}
 use Rattle.truths.proofs.evaluate.Statement.{statement}
 use Rattle.truths.proofs.evaluate.Tie as tie
 
@@ -29,10 +29,10 @@ evaluate-row-requires c κs =
     ((e, p.0.lent), (omega arith, omega arith))
 
 loop-again : tie.Need-loop-preserved invariant-loop decreases-loop
-loop-again c = evaluating-on _ c.before.before.before.before.before.before.loop.invariant c.before.before.before.before.before.loop-test.true c.before.before.evaluate-row.ensures
+loop-again c = evaluating_on _ c.before.before.before.before.before.before.loop.invariant c.before.before.before.before.before.loop-test.true c.before.before.evaluate-row.ensures
 
 returns : tie.Need-returns invariant-loop decreases-loop
-returns c = evaluating-end c.before.loop.invariant c.loop-test.false
+returns c = evaluating_end c.before.loop.invariant c.loop-test.false
 
 pub evaluate-spec : {M : Type 1} → statement M
 evaluate-spec =

@@ -1,16 +1,16 @@
 -- `truths::list_row` meets its contract: by the test. Assumes nothing.
 use borrow.Author.Rules.{rules}
 use borrow.Author.Tests.{lt-ltb, le-ltb}
-use Rattle.rows.specs.Code.{countAfter, listedRow}
+use Rattle.rows.specs.Code.{count_after, listed_row}
 use Rattle.truths.proofs.list_row.Statement.{statement}
 use Rattle.truths.proofs.list_row.Tie as tie
 
 returns : tie.Need-returns
-unfolding countAfter listedRow
+unfolding count_after listed_row
 returns c = (simp (lt-ltb _ _ c.if1.true), simp (lt-ltb _ _ c.if1.true))
 
 returns-2 : tie.Need-returns-2
-unfolding countAfter listedRow
+unfolding count_after listed_row
 returns-2 c = (simp (le-ltb _ _ c.if1.false), simp (le-ltb _ _ c.if1.false))
 
 pub list-row-spec : {M : Type 1} → statement M

@@ -1,7 +1,7 @@
 -- `truths::list_rows` meets its contract: the rows passed are listed. Assumes nothing.
 use borrow.Author.Rules.{rules}
 use Prim.Native.Nat.{◌-◌}
-use Rattle.rows.specs.Code.Leaves.{Listing, listing, listing-on, listing-end}
+use Rattle.rows.specs.Code.Leaves.{Listing, listing, listing_on, listing_end}
 use Rattle.truths.proofs.list_rows.Statement.{statement}
 use Rattle.truths.proofs.list_rows.Tie as tie
 
@@ -15,10 +15,10 @@ loop-holds : tie.Need-loop-init invariant-loop decreases-loop
 loop-holds c = let a = c.before.before.args in listing a.marks.now a.n a.least a.order.now
 
 loop-again : tie.Need-loop-preserved invariant-loop decreases-loop
-loop-again c = listing-on _ _ c.before.before.before.before.before.loop.invariant c.before.before.before.before.loop-test.true c.before.before.before.before.before.before.before.before.requires.lent c.before.before.list-row.ensures.0 c.before.before.list-row.ensures.1
+loop-again c = listing_on _ _ c.before.before.before.before.before.loop.invariant c.before.before.before.before.loop-test.true c.before.before.before.before.before.before.before.before.requires.lent c.before.before.list-row.ensures.0 c.before.before.list-row.ensures.1
 
 returns : tie.Need-returns invariant-loop decreases-loop
-returns c = listing-end c.before.loop.invariant c.loop-test.false
+returns c = listing_end c.before.loop.invariant c.loop-test.false
 
 pub list-rows-spec : {M : Type 1} → statement M
 list-rows-spec =

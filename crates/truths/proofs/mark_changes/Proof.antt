@@ -2,7 +2,7 @@
 use borrow.Author.Rules.{rules}
 use Prim.Native.Nat.{◌-◌}
 use native.Mathlib.Omega.{arith}
-use Rattle.rows.specs.Code.Leaves.{Changing, changing, changing-on, changing-end}
+use Rattle.rows.specs.Code.Leaves.{Changing, changing, changing_on, changing_end}
 use Rattle.truths.proofs.mark_changes.Statement.{statement}
 use Rattle.truths.proofs.mark_changes.Tie as tie
 
@@ -29,10 +29,10 @@ change-row-requires c κs =
     ((e, p.0.lent), (omega arith, omega arith))
 
 loop-again : tie.Need-loop-preserved invariant-loop decreases-loop
-loop-again c = changing-on _ c.before.before.before.before.before.before.loop.invariant c.before.before.before.before.before.loop-test.true c.before.before.change-row.ensures
+loop-again c = changing_on _ c.before.before.before.before.before.before.loop.invariant c.before.before.before.before.before.loop-test.true c.before.before.change-row.ensures
 
 returns : tie.Need-returns invariant-loop decreases-loop
-returns c = changing-end c.before.loop.invariant c.loop-test.false
+returns c = changing_end c.before.loop.invariant c.loop-test.false
 
 pub mark-changes-spec : {M : Type 1} → statement M
 mark-changes-spec =

@@ -2,7 +2,7 @@
 use borrow.Author.Rules.{rules}
 use Prim.Native.Nat.{◌-◌}
 use native.Mathlib.Omega.{arith}
-use Rattle.rows.specs.Code.Leaves.{Numbering, numbering, numbering-on, numbering-end}
+use Rattle.rows.specs.Code.Leaves.{Numbering, numbering, numbering_on, numbering_end}
 use Rattle.truths.proofs.number_atoms.Statement.{statement}
 use Rattle.truths.proofs.number_atoms.Tie as tie
 
@@ -31,10 +31,10 @@ number-row-requires c κs =
     ((e, p.0.lent), (omega arith, omega arith))
 
 loop-again : tie.Need-loop-preserved invariant-loop decreases-loop
-loop-again c = numbering-on _ _ c.before.before.before.before.before.before.loop.invariant c.before.before.before.before.before.loop-test.true c.before.before.number-row.ensures.0 c.before.before.number-row.ensures.1
+loop-again c = numbering_on _ _ c.before.before.before.before.before.before.loop.invariant c.before.before.before.before.before.loop-test.true c.before.before.number-row.ensures.0 c.before.before.number-row.ensures.1
 
 returns : tie.Need-returns invariant-loop decreases-loop
-returns c = numbering-end c.before.loop.invariant c.loop-test.false
+returns c = numbering_end c.before.loop.invariant c.loop-test.false
 
 pub number-atoms-spec : {M : Type 1} → statement M
 number-atoms-spec =

@@ -2,45 +2,45 @@
 use borrow.Author.Rules.{rules}
 use mathlib.Core.Path.{sym, ◌∙◌}
 use native.Mathlib.Omega.{arith}
-use Rattle.rows.specs.Code.{patternOf}
-use Rattle.rows.specs.Code.Laws.{past, pattern-many}
+use Rattle.rows.specs.Code.{pattern_of}
+use Rattle.rows.specs.Code.Laws.{past, pattern_many}
 use Rattle.truths.proofs.pattern.Statement.{statement}
 use Rattle.truths.proofs.pattern.Tie as tie
 
 returns : tie.Need-returns
-unfolding patternOf
+unfolding pattern_of
 returns c = simp c.match.keys1
 
 returns-2 : tie.Need-returns-2
-unfolding patternOf
+unfolding pattern_of
 returns-2 c = simp c.match.keys2
 
 returns-3 : tie.Need-returns-3
-unfolding patternOf
+unfolding pattern_of
 returns-3 c = simp c.match.keys3
 
 returns-4 : tie.Need-returns-4
-unfolding patternOf
+unfolding pattern_of
 returns-4 c = simp c.match.keys4
 
 returns-5 : tie.Need-returns-5
-unfolding patternOf
+unfolding pattern_of
 returns-5 c = simp c.match.keys5
 
 returns-6 : tie.Need-returns-6
-unfolding patternOf
+unfolding pattern_of
 returns-6 c = simp c.match.keys6
 
 returns-7 : tie.Need-returns-7
-unfolding patternOf
+unfolding pattern_of
 returns-7 c = rw c.before.match.keys7 c.spread.ensures
 
 returns-8 : tie.Need-returns-8
-unfolding patternOf
+unfolding pattern_of
 returns-8 c = rw c.before.match.keys8 c.spread2.ensures
 
 returns-9 : tie.Need-returns-9
-unfolding patternOf
+unfolding pattern_of
 returns-9 c = rw c.before.match.keys9 c.spread3.ensures
 
 returns-10 : tie.Need-returns-10
@@ -49,7 +49,7 @@ returns-10 c =
     let m = c.before.before.args.m in
     let h = past m 3 (past m 2 (past m 1 (past m 0 (omega arith) d.0.0.0.0.0.0.0.0.1) d.0.0.0.0.0.0.0.1) d.0.0.0.0.0.0.1) d.0.0.0.0.0.1 in
     let g = past m 8 (past m 7 (past m 6 (past m 5 (past m 4 h d.0.0.0.0.1) d.0.0.0.1) d.0.0.1) d.0.1) d.1 in
-    c.spread4.ensures ∙ sym (pattern-many m c.before.before.args.block g)
+    c.spread4.ensures ∙ sym (pattern_many m c.before.before.args.block g)
 
 pub pattern-spec : {M : Type 1} → statement M
 pattern-spec =

@@ -1,13 +1,13 @@
 -- `types::bind_type` meets its contract: a `let` puts the type behind the last variable's, every other kind changes nothing. Assumes nothing.
 use borrow.Author.Rules.{rules}
-use Rattle.workspace.specs.Rules.Types.{bind-type-let, bind-type-other}
+use Rattle.workspace.specs.Rules.Types.{bind-type_let, bind-type-other}
 use Rattle.types.proofs.bind_type.Statement.{statement}
 use Rattle.types.proofs.bind_type.Tie as tie
 
 returns : tie.Need-returns
 returns c =
     let s = c.before.before in
-    bind-type-let s.args.node s.args.depth s.args.t s.args.space.now s.requires.0 s.requires.1 c.if1.true
+    bind-type_let s.args.node s.args.depth s.args.t s.args.space.now s.requires.0 s.requires.1 c.if1.true
 
 returns-2 : tie.Need-returns-2
 returns-2 c =

@@ -3,17 +3,17 @@ use borrow.Author.Rules.{rules}
 use Rattle.script.specs.Code.Forms.{form_of}
 use Rattle.script.specs.Rows.{rows, row_of}
 use Rattle.script.specs.Rows.Laws.{none_left, but}
-use Rattle.workspace.specs.Rules.{leafType}
+use Rattle.workspace.specs.Rules.{leaf_type}
 use Rattle.workspace.specs.Rules.Types.{leaf-type-other}
 use Rattle.types.proofs.leaf_type.Statement.{statement}
 use Rattle.types.proofs.leaf_type.Tie as tie
 
 returns : tie.Need-returns
-unfolding leafType form_of row_of rows
+unfolding leaf_type form_of row_of rows
 returns c = rw c.match.keys1
 
 returns-2 : tie.Need-returns-2
-unfolding leafType form_of row_of rows
+unfolding leaf_type form_of row_of rows
 returns-2 c = rw c.before.match.keys2 c.variable-type.ensures
 
 returns-3 : tie.Need-returns-3

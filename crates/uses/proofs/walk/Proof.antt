@@ -4,14 +4,14 @@ use mathlib.Core.Path.{◌≡◌, ◌∙◌}
 use Prim.Native.Nat.{◌≤◌, ◌-◌}
 use native.Mathlib.Omega.{arith}
 use lib.ListN.{take}
-use Rattle.script.specs.Flat.{nodesIn}
+use Rattle.script.specs.Flat.{nodes_in}
 use Rattle.uses.specs.Walk.{walk}
 use Rattle.uses.specs.Walk.Laws.{walk_none, walk-fits, walk_turn, walk_end}
 use Rattle.uses.proofs.walk.Statement.{statement}
 use Rattle.uses.proofs.walk.Tie as tie
 
 abbrev invariant-loop : tie.invariant-loop
-invariant-loop table nodes s₀ i₀ s i = (i ≤ nodes) × (s ≡ walk (take i (nodesIn table)))
+invariant-loop table nodes s₀ i₀ s i = (i ≤ nodes) × (s ≡ walk (take i (nodes_in table)))
 
 abbrev decreases-loop : tie.decreases-loop
 decreases-loop table nodes s₀ i₀ s i = nodes - i

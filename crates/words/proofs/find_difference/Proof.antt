@@ -1,14 +1,14 @@
 -- `words::find_difference` meets its contract. The loop's invariant: no row passed is the atom. Assumes nothing.
 use Rattle.std.proofs.Common.{◌-◌, sym, ◌∙◌, arith, rules}
-use Rattle.script.specs.Tests.Loops.{Looked, look, look-on}
-use Rattle.terms.specs.Search.{first-here, first-end}
-use Rattle.terms.specs.Terms.{countIn}
-use Rattle.words.specs.Words.{isFound}
+use Rattle.script.specs.Tests.Loops.{Looked, look, look_on}
+use Rattle.terms.specs.Search.{first-here, first_end}
+use Rattle.terms.specs.Terms.{count_in}
+use Rattle.words.specs.Words.{is_found}
 use Rattle.words.proofs.find_difference.Statement.{statement}
 use Rattle.words.proofs.find_difference.Tie as tie
 
 abbrev invariant-loop : tie.invariant-loop
-invariant-loop space wanted n i₀ i = Looked (isFound space wanted) (countIn space) i
+invariant-loop space wanted n i₀ i = Looked (is_found space wanted) (count_in space) i
 
 abbrev decreases-loop : tie.decreases-loop
 decreases-loop space wanted n i₀ i = n - i
@@ -17,7 +17,7 @@ shared-slice-read-n : tie.Need-shared-slice-read-n invariant-loop decreases-loop
 shared-slice-read-n c = let p = c.before.before.before.requires in omega arith
 
 loop-holds : tie.Need-loop-init invariant-loop decreases-loop
-loop-holds c = let a = c.before.before.before.args in look (isFound a.space.now a.wanted.now) (countIn a.space.now)
+loop-holds c = let a = c.before.before.before.args in look (is_found a.space.now a.wanted.now) (count_in a.space.now)
 
 is-found-requires : tie.Need-is-found-requires invariant-loop decreases-loop
 is-found-requires c κs =
@@ -28,21 +28,21 @@ returns : tie.Need-returns invariant-loop decreases-loop
 returns c =
     let a = c.before.before.before.before.before.before.before.args in
     let l = c.before.before.before.loop in
-    first-here (isFound a.space.now a.wanted.now) (countIn a.space.now) l.i l.invariant c.before.before.loop-test.true
+    first-here (is_found a.space.now a.wanted.now) (count_in a.space.now) l.i l.invariant c.before.before.loop-test.true
     (sym c.before.is_found.ensures ∙ c.if1.true)
 
 loop-again : tie.Need-loop-preserved invariant-loop decreases-loop
 loop-again c =
     let a = c.before.before.before.before.before.before.before.args in
     let l = c.before.before.before.loop in
-    look-on (isFound a.space.now a.wanted.now) (countIn a.space.now) l.i l.invariant c.before.before.loop-test.true
+    look_on (is_found a.space.now a.wanted.now) (count_in a.space.now) l.i l.invariant c.before.before.loop-test.true
     (sym c.before.is_found.ensures ∙ c.if1.false)
 
 returns-2 : tie.Need-returns-2 invariant-loop decreases-loop
 returns-2 c =
     let a = c.before.before.before.before.before.args in
     let l = c.before.loop in
-    first-end (isFound a.space.now a.wanted.now) (countIn a.space.now) l.i l.invariant c.loop-test.false
+    first_end (is_found a.space.now a.wanted.now) (count_in a.space.now) l.i l.invariant c.loop-test.false
 
 pub find-difference-spec : {M : Type 1} → statement M
 find-difference-spec =

@@ -7,10 +7,10 @@ use Rattle.std.proofs.lemmas.List.{length-replicate, set-get_or}
 use borrow.Author.Tests.{eqb-true, ltb-true, ltb-false, eq-eqb, ne_eqb, lt-ltb, le-ltb}
 use Rattle.script.specs.Tests.{pick}
 use Rattle.script.specs.Tests.Laws.{both_true, true-both}
-use Rattle.terms.specs.Places.{rowLimit, symbolLimit}
-use Rattle.terms.specs.Terms.{row_in, ofNumber, ofSum, ofSymbol}
+use Rattle.terms.specs.Places.{row_limit, symbol_limit}
+use Rattle.terms.specs.Terms.{row_in, of_number, of_sum, of_symbol}
 use Rattle.terms.specs.declared.Row.{Row}
-use Rattle.words.specs.Sums.{placeCount, added, joins, isSymbol, spread, gather, passed, rows_to, startWeights, subtracted, noNumbers, numbersOf, alike, same_numbers, oppositeNumbers, Room, Two}
+use Rattle.words.specs.Sums.{place_count, added, joins, is_symbol, spread, gather, passed, rows_to, start_weights, subtracted, no_numbers, numbers_of, alike, same_numbers, opposite_numbers, Room, Two}
 
 -- ---- tests of numbers
 
@@ -20,23 +20,23 @@ differs x y n = ap not (ne_eqb x y n)
 pub agrees : (x y : ℕ) → x ≡ y → not (x == y) ≡ false
 agrees x y e = ap not (eq-eqb x y e)
 
-pub product-fits : (v w : ℕ) → v < 2 ^ 32 → w < 2 ^ 32 → v * w < 2 ^ 64
-product-fits v w h k = lt_of_le_of_lt (mul-le-mul_left v (le_of_lt k)) (mul-lt-mul_of_pos_right h (lit< tt))
+pub product_fits : (v w : ℕ) → v < 2 ^ 32 → w < 2 ^ 32 → v * w < 2 ^ 64
+product_fits v w h k = lt_of_le_of_lt (mul-le-mul_left v (le_of_lt k)) (mul-lt-mul_of_pos_right h (lit< tt))
 
 -- ---- rows
 
 module _ (row : Row) (op i : ℕ) where
-  pub joins-op : (row.op ≢ op) → false ≡ joins row op i
+  pub joins_op : (row.op ≢ op) → false ≡ joins row op i
   unfolding joins
-  joins-op n = rw (ne_eqb row.op op n) refl
+  joins_op n = rw (ne_eqb row.op op n) refl
 
-  pub joins-a : row.op ≡ op → i ≤ row.a → false ≡ joins row op i
+  pub joins_a : row.op ≡ op → i ≤ row.a → false ≡ joins row op i
   unfolding joins
-  joins-a e l = rw (eq-eqb row.op op e, le-ltb row.a i l) refl
+  joins_a e l = rw (eq-eqb row.op op e, le-ltb row.a i l) refl
 
-  pub joins-b : row.op ≡ op → row.a < i → nat_lt row.b i ≡ joins row op i
+  pub joins_b : row.op ≡ op → row.a < i → nat_lt row.b i ≡ joins row op i
   unfolding joins
-  joins-b e l = rw (eq-eqb row.op op e, lt-ltb row.a i l) refl
+  joins_b e l = rw (eq-eqb row.op op e, lt-ltb row.a i l) refl
 
 -- what the test tells
 pub record Joined (row : Row) (op i : ℕ) : Type 0 where
@@ -58,32 +58,32 @@ joined-joins row op i j =
     (true-both (nat_lt row.a i) (nat_lt row.b i) (lt-ltb row.a i j.first) (lt-ltb row.b i j.second))
 
 pub other-joins : (row : Row) (op i : ℕ) → (row.op ≢ op) → joins row op i ≡ false
-other-joins row op i n = sym (joins-op row op i n)
+other-joins row op i n = sym (joins_op row op i n)
 
 module _ (row : Row) where
-  pub symbol-op : (row.op ≢ ofSymbol) → false ≡ isSymbol row
-  unfolding isSymbol
-  symbol-op n = rw (ne_eqb row.op ofSymbol n) refl
+  pub symbol_op : (row.op ≢ of_symbol) → false ≡ is_symbol row
+  unfolding is_symbol
+  symbol_op n = rw (ne_eqb row.op of_symbol n) refl
 
-  pub symbol-a : row.op ≡ ofSymbol → nat_lt row.a symbolLimit ≡ isSymbol row
-  unfolding isSymbol
-  symbol-a e = rw (eq-eqb row.op ofSymbol e) refl
+  pub symbol_a : row.op ≡ of_symbol → nat_lt row.a symbol_limit ≡ is_symbol row
+  unfolding is_symbol
+  symbol_a e = rw (eq-eqb row.op of_symbol e) refl
 
 -- what the test tells
 pub record SymbolOf (row : Row) : Type 0 where
-  pub is : row.op ≡ ofSymbol
-  pub below : row.a < symbolLimit
+  pub is : row.op ≡ of_symbol
+  pub below : row.a < symbol_limit
 
-pub symbol-of : (row : Row) → isSymbol row ≡ true → SymbolOf row
-unfolding isSymbol
-symbol-of row t =
-    let u = both_true (row.op == ofSymbol) (nat_lt row.a symbolLimit) t in
-    record { is = eqb-true row.op ofSymbol u.0; below = ltb-true row.a symbolLimit u.1 }
+pub symbol_of : (row : Row) → is_symbol row ≡ true → SymbolOf row
+unfolding is_symbol
+symbol_of row t =
+    let u = both_true (row.op == of_symbol) (nat_lt row.a symbol_limit) t in
+    record { is = eqb-true row.op of_symbol u.0; below = ltb-true row.a symbol_limit u.1 }
 
-pub of-symbol : (row : Row) → SymbolOf row → isSymbol row ≡ true
-unfolding isSymbol
-of-symbol row s =
-    true-both (row.op == ofSymbol) (nat_lt row.a symbolLimit) (eq-eqb row.op ofSymbol s.is) (lt-ltb row.a symbolLimit s.below)
+pub of_symbol_lem : (row : Row) → SymbolOf row → is_symbol row ≡ true
+unfolding is_symbol
+of_symbol_lem row s =
+    true-both (row.op == of_symbol) (nat_lt row.a symbol_limit) (eq-eqb row.op of_symbol s.is) (lt-ltb row.a symbol_limit s.below)
 
 -- ---- weights
 
@@ -91,38 +91,38 @@ pub added-length : (xs : List ℕ) (at v : ℕ) → length (added xs at v) ≡ l
 added-length xs at v = length-set xs at ((slice_index xs at + v) % 2 ^ 32)
 
 module _ (xs : List ℕ) (row : Row) (i w : ℕ) where
-  pub spread-sum : (ys zs : List ℕ) → joins row ofSum i ≡ true → ys ≡ added xs row.a w → zs ≡ added ys row.b w → zs ≡ spread xs row i w
+  pub spread_sum : (ys zs : List ℕ) → joins row of_sum i ≡ true → ys ≡ added xs row.a w → zs ≡ added ys row.b w → zs ≡ spread xs row i w
   unfolding spread
-  spread-sum ys zs t e f = rw t (f ∙ ap (λ (l : List ℕ). added l row.b w) e)
+  spread_sum ys zs t e f = rw t (f ∙ ap (λ (l : List ℕ). added l row.b w) e)
 
-  pub spread-other : joins row ofSum i ≡ false → xs ≡ spread xs row i w
+  pub spread-other : joins row of_sum i ≡ false → xs ≡ spread xs row i w
   unfolding spread
   spread-other t = rw t refl
 
   pub spread-length : length (spread xs row i w) ≡ length xs
   unfolding spread
-  spread-length = go (joins row ofSum i)
+  spread-length = go (joins row of_sum i)
     where
       go : (t : Bool) → length (pick t (added (added xs row.a w) row.b w) xs) ≡ length xs
       go true = simp length-set
       go false = refl
 
 module _ (xs : List ℕ) (row : Row) (w : ℕ) where
-  pub gather-number : (t : ℕ) (ys : List ℕ) → row.op ≡ ofNumber → t ≡ w * row.a % 2 ^ 32 → ys ≡ added xs 0 t → ys ≡ gather xs row w
+  pub gather-number : (t : ℕ) (ys : List ℕ) → row.op ≡ of_number → t ≡ w * row.a % 2 ^ 32 → ys ≡ added xs 0 t → ys ≡ gather xs row w
   unfolding gather
-  gather-number t ys e f g = rw (eq-eqb row.op ofNumber e) (g ∙ ap (added xs 0) f)
+  gather-number t ys e f g = rw (eq-eqb row.op of_number e) (g ∙ ap (added xs 0) f)
 
-  pub gather-symbol : (ys : List ℕ) → (row.op ≢ ofNumber) → isSymbol row ≡ true → ys ≡ added xs (row.a + 1) w → ys ≡ gather xs row w
+  pub gather-symbol : (ys : List ℕ) → (row.op ≢ of_number) → is_symbol row ≡ true → ys ≡ added xs (row.a + 1) w → ys ≡ gather xs row w
   unfolding gather
-  gather-symbol ys n t e = rw (ne_eqb row.op ofNumber n, t) e
+  gather-symbol ys n t e = rw (ne_eqb row.op of_number n, t) e
 
-  pub gather-other : (row.op ≢ ofNumber) → isSymbol row ≡ false → xs ≡ gather xs row w
+  pub gather-other : (row.op ≢ of_number) → is_symbol row ≡ false → xs ≡ gather xs row w
   unfolding gather
-  gather-other n t = rw (ne_eqb row.op ofNumber n, t) refl
+  gather-other n t = rw (ne_eqb row.op of_number n, t) refl
 
   pub gather-length : length (gather xs row w) ≡ length xs
   unfolding gather
-  gather-length = go (row.op == ofNumber) (isSymbol row)
+  gather-length = go (row.op == of_number) (is_symbol row)
     where
       go : (t u : Bool) → length (pick t (added xs 0 (w * row.a % 2 ^ 32)) (pick u (added xs (row.a + 1) w) xs)) ≡ length xs
       go true u = simp length-set
@@ -143,7 +143,7 @@ added-zero xs at h = ap (slice_set xs at) (same (slice_index xs at) (h.below at)
 
 pub spread-zero : (xs : List ℕ) (row : Row) (i : ℕ) → Reduced xs → spread xs row i 0 ≡ xs
 unfolding spread
-spread-zero xs row i h = go (joins row ofSum i)
+spread-zero xs row i h = go (joins row of_sum i)
   where
     go : (t : Bool) → pick t (added (added xs row.a 0) row.b 0) xs ≡ xs
     go true = ap (λ (l : List ℕ). added l row.b 0) (added-zero xs row.a h) ∙ added-zero xs row.b h
@@ -151,7 +151,7 @@ spread-zero xs row i h = go (joins row ofSum i)
 
 pub gather-zero : (xs : List ℕ) (row : Row) → Reduced xs → gather xs row 0 ≡ xs
 unfolding gather
-gather-zero xs row h = go (row.op == ofNumber) (isSymbol row)
+gather-zero xs row h = go (row.op == of_number) (is_symbol row)
   where
     go : (t u : Bool) → pick t (added xs 0 (0 * row.a % 2 ^ 32)) (pick u (added xs (row.a + 1) 0) xs) ≡ xs
     go true u = rw (zero-mul row.a) (added-zero xs 0 h)
@@ -168,8 +168,8 @@ pub record Passing (ws : List ℕ) (top : ℕ) (weights₀ numbers₀ : List ℕ
   pub reduced : Reduced numbers
   pub rest : passed ws i weights numbers ≡ passed ws top weights₀ numbers₀
 
-pub passing-start : (ws : List ℕ) (top : ℕ) (weights numbers : List ℕ) → Reduced numbers → Passing ws top weights numbers top weights numbers
-passing-start ws top weights numbers h = record { within = omega arith; weighted = refl; placed = refl; reduced = h; rest = refl }
+pub passing_start : (ws : List ℕ) (top : ℕ) (weights numbers : List ℕ) → Reduced numbers → Passing ws top weights numbers top weights numbers
+passing_start ws top weights numbers h = record { within = omega arith; weighted = refl; placed = refl; reduced = h; rest = refl }
 
 passed-next : (ws : List ℕ) (i j : ℕ) (weights numbers : List ℕ) → i ≡ suc j
     → passed ws i weights numbers
@@ -177,11 +177,11 @@ passed-next : (ws : List ℕ) (i j : ℕ) (weights numbers : List ℕ) → i ≡
 unfolding passed
 passed-next ws i j weights numbers e = rw e refl
 
-pub passing-next : {ws : List ℕ} {top : ℕ} {weights₀ numbers₀ : List ℕ} {i : ℕ} {weights numbers : List ℕ} (j : ℕ) (row : Row) (xs ys : List ℕ)
+pub passing_next : {ws : List ℕ} {top : ℕ} {weights₀ numbers₀ : List ℕ} {i : ℕ} {weights numbers : List ℕ} (j : ℕ) (row : Row) (xs ys : List ℕ)
     → Passing ws top weights₀ numbers₀ i weights numbers → i ≡ suc j → row ≡ row_in ws j
     → xs ≡ spread weights row j (slice_index weights j) → ys ≡ gather numbers row (slice_index weights j) → Reduced ys
     → Passing ws top weights₀ numbers₀ j xs ys
-passing-next {ws} {i = i} {weights = weights} {numbers = numbers} j row xs ys p e r s g h = record {
+passing_next {ws} {i = i} {weights = weights} {numbers = numbers} j row xs ys p e r s g h = record {
   within = omega arith;
   weighted = ap length s ∙ spread-length weights row j (slice_index weights j) ∙ p.weighted;
   placed = ap length g ∙ gather-length numbers row (slice_index weights j) ∙ p.placed;
@@ -190,17 +190,17 @@ passing-next {ws} {i = i} {weights = weights} {numbers = numbers} j row xs ys p 
 }
 
 -- a row of weight 0 is left out
-pub passing-skip : {ws : List ℕ} {top : ℕ} {weights₀ numbers₀ : List ℕ} {i : ℕ} {weights numbers : List ℕ} (j : ℕ)
+pub passing_skip : {ws : List ℕ} {top : ℕ} {weights₀ numbers₀ : List ℕ} {i : ℕ} {weights numbers : List ℕ} (j : ℕ)
     → Passing ws top weights₀ numbers₀ i weights numbers → i ≡ suc j → Reduced weights → slice_index weights j ≡ 0
     → Passing ws top weights₀ numbers₀ j weights numbers
-passing-skip {ws} {weights = weights} {numbers = numbers} j p e h z =
+passing_skip {ws} {weights = weights} {numbers = numbers} j p e h z =
     let row = row_in ws j in
-    passing-next j row weights numbers p e refl (rw z (sym (spread-zero weights row j h))) (rw z (sym (gather-zero numbers row p.reduced))) p.reduced
+    passing_next j row weights numbers p e refl (rw z (sym (spread-zero weights row j h))) (rw z (sym (gather-zero numbers row p.reduced))) p.reduced
 
-pub passing-end : {ws : List ℕ} {top : ℕ} {weights₀ numbers₀ : List ℕ} {i : ℕ} {weights numbers : List ℕ}
+pub passing_end : {ws : List ℕ} {top : ℕ} {weights₀ numbers₀ : List ℕ} {i : ℕ} {weights numbers : List ℕ}
     → Passing ws top weights₀ numbers₀ i weights numbers → i ≤ 0 → numbers ≡ passed ws top weights₀ numbers₀
 unfolding passed
-passing-end {ws} {i = i} {weights = weights} {numbers = numbers} p h =
+passing_end {ws} {i = i} {weights = weights} {numbers = numbers} p h =
     let e : i ≡ 0 = omega arith in (rw e at p.rest)
 
 pub passed_length : (ws : List ℕ) (i : ℕ) (weights numbers : List ℕ) → length (passed ws i weights numbers) ≡ length numbers
@@ -224,9 +224,9 @@ pub record Reach (p q n : ℕ) : Type 0 where
   pub second : q < n
   pub most : (l : ℕ) → p < l → q < l → n ≤ l
 
-pub rows-reach : (p q : ℕ) → Reach p q (rows_to p q)
+pub rows_reach : (p q : ℕ) → Reach p q (rows_to p q)
 unfolding rows_to
-rows-reach p q = go (nat_lt p q) refl
+rows_reach p q = go (nat_lt p q) refl
   where
     go : (t : Bool) → nat_lt p q ≡ t → Reach p q (pick t (q + 1) (p + 1))
     go true e = let h = ltb-true p q e in record { first = omega arith; second = omega arith; most = λ l u v. omega arith }
@@ -237,17 +237,17 @@ rows-reach p q = go (nat_lt p q) refl
 -- the zeros, and after each of the two stores
 pub record Started (p q n : ℕ) (weights : List ℕ) : Type 0 where
   pub rows : n ≡ rows_to p q
-  pub is : weights ≡ startWeights p q
+  pub is : weights ≡ start_weights p q
 
-pub started : (p q n : ℕ) (xs ys : List ℕ) → n ≡ rows_to p q → xs ≡ added (replicate rowLimit 0) p 1 → ys ≡ added xs q 4294967295 → Started p q n ys
+pub started : (p q n : ℕ) (xs ys : List ℕ) → n ≡ rows_to p q → xs ≡ added (replicate row_limit 0) p 1 → ys ≡ added xs q 4294967295 → Started p q n ys
 started p q n xs ys r e f = record { rows = r; is = f ∙ ap (λ (l : List ℕ). added l q 4294967295) e }
 
 -- room for the pass
-pub start-room : {ws : List ℕ} {p q n : ℕ} {weights : List ℕ} (numbers : List ℕ) → Two ws p q → placeCount ≤ length numbers → Started p q n weights
+pub start-room : {ws : List ℕ} {p q n : ℕ} {weights : List ℕ} (numbers : List ℕ) → Two ws p q → place_count ≤ length numbers → Started p q n weights
     → Room ws n weights numbers
 start-room {p = p} {q = q} numbers t h s = record {
   lent = t.lent;
-  within = rw s.rows ((rows-reach p q).most rowLimit t.first t.second);
+  within = rw s.rows ((rows_reach p q).most row_limit t.first t.second);
   weighted = rw s.is (simp (length-set, length-replicate) (omega arith));
   placed = h;
 }
@@ -257,10 +257,10 @@ pub start-passed : {p q n : ℕ} {weights : List ℕ} (ws numbers ys : List ℕ)
 start-passed ws numbers ys s e = rw (s.rows, s.is) at e
 
 pub subtracted-length : (ws : List ℕ) (p q : ℕ) (numbers : List ℕ) → length (subtracted ws p q numbers) ≡ length numbers
-subtracted-length ws p q numbers = passed_length ws (rows_to p q) (startWeights p q) numbers
+subtracted-length ws p q numbers = passed_length ws (rows_to p q) (start_weights p q) numbers
 
-pub numbers-length : (ws : List ℕ) (p q : ℕ) (ys : List ℕ) → ys ≡ numbersOf ws p q → length ys ≡ placeCount
-numbers-length ws p q ys e = ap length e ∙ subtracted-length ws p q noNumbers
+pub numbers-length : (ws : List ℕ) (p q : ℕ) (ys : List ℕ) → ys ≡ numbers_of ws p q → length ys ≡ place_count
+numbers-length ws p q ys e = ap length e ∙ subtracted-length ws p q no_numbers
 
 -- ---- one atom
 
@@ -268,6 +268,6 @@ pub alike_same : (xs ys : List ℕ) → same_numbers xs ys ≡ true → true ≡
 unfolding alike
 alike_same xs ys t = rw t refl
 
-pub alike-opposite : (xs ys : List ℕ) → same_numbers xs ys ≡ false → oppositeNumbers xs ys ≡ alike xs ys
+pub alike-opposite : (xs ys : List ℕ) → same_numbers xs ys ≡ false → opposite_numbers xs ys ≡ alike xs ys
 unfolding alike
 alike-opposite xs ys t = rw t refl

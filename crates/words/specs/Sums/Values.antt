@@ -10,12 +10,12 @@ use Rattle.std.proofs.lemmas.List.{length-replicate, get_or_at}
 use Rattle.std.proofs.Math.Seq.{get_or-set_other}
 use Rattle.std.proofs.lemmas.Bool.{eqb-false}
 use Rattle.script.specs.Tests.{pick}
-use Rattle.rules.specs.Demand3.Congruence.{Same, same_refl, same-eq, same-trans, same-mod, same-plus, same-times}
-use Rattle.terms.specs.Places.{rowLimit}
-use Rattle.terms.specs.Terms.{row_in, ofNumber, ofSum}
+use Rattle.rules.specs.Demand3.Congruence.{Same, same_refl, same_eq, same_trans, same_mod, same-plus, same_times}
+use Rattle.terms.specs.Places.{row_limit}
+use Rattle.terms.specs.Terms.{row_in, of_number, of_sum}
 use Rattle.terms.specs.declared.Row.{Row}
-use Rattle.words.specs.Sums.{placeCount, added, joins, isSymbol, spread, gather, passed, rows_to, startWeights, noNumbers, numbersOf}
-use Rattle.words.specs.Sums.Laws.{joined, symbol-of, other-joins, spread-sum, spread-other, spread-length, gather-number, gather-symbol, gather-other, gather-length, added-length, rows-reach}
+use Rattle.words.specs.Sums.{place_count, added, joins, is_symbol, spread, gather, passed, rows_to, start_weights, no_numbers, numbers_of}
+use Rattle.words.specs.Sums.Laws.{joined, symbol_of, other-joins, spread_sum, spread-other, spread-length, gather-number, gather-symbol, gather-other, gather-length, added-length, rows_reach}
 
 abbrev pub modulus : ℕ
 modulus = 2 ^ 32
@@ -35,35 +35,35 @@ unit-other k at n = rw (ne_eqb k at n) refl
 -- ---- what a row is
 
 pub data RowCase (row : Row) (i : ℕ) : Type 0 where
-  a_number : row.op ≡ ofNumber → RowCase row i
-  aSymbol : (row.op ≢ ofNumber) → isSymbol row ≡ true → RowCase row i
-  aSum : (row.op ≢ ofNumber) → isSymbol row ≡ false → joins row ofSum i ≡ true → RowCase row i
-  no_word : (row.op ≢ ofNumber) → isSymbol row ≡ false → joins row ofSum i ≡ false → RowCase row i
+  a_number : row.op ≡ of_number → RowCase row i
+  a_symbol : (row.op ≢ of_number) → is_symbol row ≡ true → RowCase row i
+  a_sum : (row.op ≢ of_number) → is_symbol row ≡ false → joins row of_sum i ≡ true → RowCase row i
+  no_word : (row.op ≢ of_number) → is_symbol row ≡ false → joins row of_sum i ≡ false → RowCase row i
 
 pub case_of : (row : Row) (i : ℕ) → RowCase row i
-case_of row i = go (row.op == ofNumber) refl (isSymbol row) refl (joins row ofSum i) refl
+case_of row i = go (row.op == of_number) refl (is_symbol row) refl (joins row of_sum i) refl
   where
-    go : (t : Bool) → (row.op == ofNumber) ≡ t → (u : Bool) → isSymbol row ≡ u → (v : Bool) → joins row ofSum i ≡ v → RowCase row i
-    go true e u f v g = a_number (eqb-true row.op ofNumber e)
-    go false e true f v g = aSymbol (eqb-false row.op ofNumber e) f
-    go false e false f true g = aSum (eqb-false row.op ofNumber e) f g
-    go false e false f false g = no_word (eqb-false row.op ofNumber e) f g
+    go : (t : Bool) → (row.op == of_number) ≡ t → (u : Bool) → is_symbol row ≡ u → (v : Bool) → joins row of_sum i ≡ v → RowCase row i
+    go true e u f v g = a_number (eqb-true row.op of_number e)
+    go false e true f v g = a_symbol (eqb-false row.op of_number e) f
+    go false e false f true g = a_sum (eqb-false row.op of_number e) f g
+    go false e false f false g = no_word (eqb-false row.op of_number e) f g
 
 -- ---- values
 
 -- by the values of the earlier rows
-unfoldable pub rowValue : ℕ → Row → ℕ → List ℕ → ℕ
-rowValue k row i vs =
-    pick (row.op == ofNumber) (row.a * unit k 0)
-    (pick (isSymbol row) (unit k (row.a + 1)) (pick (joins row ofSum i) (slice_index vs row.a + slice_index vs row.b) 0))
+unfoldable pub row_value : ℕ → Row → ℕ → List ℕ → ℕ
+row_value k row i vs =
+    pick (row.op == of_number) (row.a * unit k 0)
+    (pick (is_symbol row) (unit k (row.a + 1)) (pick (joins row of_sum i) (slice_index vs row.a + slice_index vs row.b) 0))
 
 -- the values of the rows below n
 unfoldable pub values : List ℕ → ℕ → ℕ → List ℕ
 values ws k zero = []
-values ws k (suc n) = values ws k n ++ (rowValue k (row_in ws n) n (values ws k n) ∷ [])
+values ws k (suc n) = values ws k n ++ (row_value k (row_in ws n) n (values ws k n) ∷ [])
 
 unfoldable pub value : List ℕ → ℕ → ℕ → ℕ
-value ws k i = rowValue k (row_in ws i) i (values ws k i)
+value ws k i = row_value k (row_in ws i) i (values ws k i)
 
 module _ (ws : List ℕ) (k : ℕ) where
   values_length : (n : ℕ) → length (values ws k n) ≡ n
@@ -77,28 +77,28 @@ module _ (ws : List ℕ) (k : ℕ) where
   values-at (suc n) a h = go (eq-or-lt_of_le (omega arith)) (values_length n) (values-at n a)
     where
       go : (a ≡ n) ⊎ (a < n) → length (values ws k n) ≡ n → (a < n → slice_index (values ws k n) a ≡ value ws k a)
-          → slice_index (values ws k n ++ (rowValue k (row_in ws n) n (values ws k n) ∷ [])) a ≡ value ws k a
+          → slice_index (values ws k n ++ (row_value k (row_in ws n) n (values ws k n) ∷ [])) a ≡ value ws k a
       go (inl e) l f = rw e (get_or_at (values ws k n) _ [] 0 n l)
       go (inr l) e f = get_or-append (values ws k n) _ 0 a (omega arith) ∙ f l
 
-  pub value-number : (i : ℕ) → (row_in ws i).op ≡ ofNumber → value ws k i ≡ (row_in ws i).a * unit k 0
-  unfolding value rowValue
-  value-number i e = rw (eq-eqb (row_in ws i).op ofNumber e) refl
+  pub value-number : (i : ℕ) → (row_in ws i).op ≡ of_number → value ws k i ≡ (row_in ws i).a * unit k 0
+  unfolding value row_value
+  value-number i e = rw (eq-eqb (row_in ws i).op of_number e) refl
 
-  pub value-symbol : (i : ℕ) → ((row_in ws i).op ≢ ofNumber) → isSymbol (row_in ws i) ≡ true → value ws k i ≡ unit k ((row_in ws i).a + 1)
-  unfolding value rowValue
-  value-symbol i n t = rw (ne_eqb (row_in ws i).op ofNumber n, t) refl
+  pub value-symbol : (i : ℕ) → ((row_in ws i).op ≢ of_number) → is_symbol (row_in ws i) ≡ true → value ws k i ≡ unit k ((row_in ws i).a + 1)
+  unfolding value row_value
+  value-symbol i n t = rw (ne_eqb (row_in ws i).op of_number n, t) refl
 
-  pub value-sum : (i : ℕ) → ((row_in ws i).op ≢ ofNumber) → isSymbol (row_in ws i) ≡ false → joins (row_in ws i) ofSum i ≡ true
+  pub value_sum : (i : ℕ) → ((row_in ws i).op ≢ of_number) → is_symbol (row_in ws i) ≡ false → joins (row_in ws i) of_sum i ≡ true
       → value ws k i ≡ value ws k (row_in ws i).a + value ws k (row_in ws i).b
-  unfolding value rowValue
-  value-sum i n t j =
+  unfolding value row_value
+  value_sum i n t j =
       let w = joined (row_in ws i) 2 i j in
-      rw (ne_eqb (row_in ws i).op ofNumber n, t, j, values-at i (row_in ws i).a w.first, values-at i (row_in ws i).b w.second) refl
+      rw (ne_eqb (row_in ws i).op of_number n, t, j, values-at i (row_in ws i).a w.first, values-at i (row_in ws i).b w.second) refl
 
-  pub value_none : (i : ℕ) → ((row_in ws i).op ≢ ofNumber) → isSymbol (row_in ws i) ≡ false → joins (row_in ws i) ofSum i ≡ false → value ws k i ≡ 0
-  unfolding value rowValue
-  value_none i n t j = rw (ne_eqb (row_in ws i).op ofNumber n, t, j) refl
+  pub value_none : (i : ℕ) → ((row_in ws i).op ≢ of_number) → is_symbol (row_in ws i) ≡ false → joins (row_in ws i) of_sum i ≡ false → value ws k i ≡ 0
+  unfolding value row_value
+  value_none i n t j = rw (ne_eqb (row_in ws i).op of_number n, t, j) refl
 
 -- ---- weights times values
 
@@ -134,11 +134,11 @@ module _ (v : ℕ → ℕ) where
           → Same modulus (dot (added xs a w) v n + slice_index (added xs a w) n * v n) (dot xs v n + slice_index xs n * v n + w * v a)
       go (inl e) f =
           rw (sym e, dot-above xs a ((slice_index xs a + w) % 2 ^ 32) a (omega arith), get_or-set_same xs a ((slice_index xs a + w) % 2 ^ 32) 0 l)
-          (same-trans (same-plus (same_refl (dot xs v a)) (same-times (v a) (same-mod (slice_index xs a + w))))
-          (same-eq (ap (λ (z : ℕ). dot xs v a + z) (add-mul (slice_index xs a) w (v a)) ∙ regroup _ _ _)))
+          (same_trans (same-plus (same_refl (dot xs v a)) (same_times (v a) (same_mod (slice_index xs a + w))))
+          (same_eq (ap (λ (z : ℕ). dot xs v a + z) (add-mul (slice_index xs a) w (v a)) ∙ regroup _ _ _)))
       go (inr g) f =
           rw (get_or-set_other xs a n ((slice_index xs a + w) % 2 ^ 32) 0 (λ e. omega arith))
-          (same-trans (same-plus (f g l) (same_refl (slice_index xs n * v n))) (same-eq (swap _ _ _)))
+          (same_trans (same-plus (f g l) (same_refl (slice_index xs n * v n))) (same_eq (swap _ _ _)))
 
   dot-zeros : (m n : ℕ) → dot (replicate m 0) v n ≡ 0
   unfolding dot
@@ -148,91 +148,91 @@ module _ (v : ℕ → ℕ) where
 -- ---- the pass
 
 -- y more at a place
-add-unit : (xs : List ℕ) (at y k : ℕ) → at < length xs → Same modulus (slice_index (added xs at y) k) (slice_index xs k + y * unit k at)
-add-unit xs at y k h = go (k == at) refl
+add_unit : (xs : List ℕ) (at y k : ℕ) → at < length xs → Same modulus (slice_index (added xs at y) k) (slice_index xs k + y * unit k at)
+add_unit xs at y k h = go (k == at) refl
   where
     go : (t : Bool) → (k == at) ≡ t → Same modulus (slice_index (added xs at y) k) (slice_index xs k + y * unit k at)
     go true e =
         let f = eqb-true k at e in
-        rw (unit-here k at f, f, get_or-set_same xs at ((slice_index xs at + y) % 2 ^ 32) 0 h, mul-one y) (same-mod (slice_index xs at + y))
+        rw (unit-here k at f, f, get_or-set_same xs at ((slice_index xs at + y) % 2 ^ 32) 0 h, mul-one y) (same_mod (slice_index xs at + y))
     go false e =
         let n = eqb-false k at e in
-        rw (unit-other k at n, get_or-set_other xs at k ((slice_index xs at + y) % 2 ^ 32) 0 n, mul-zero y) (same-eq (omega arith))
+        rw (unit-other k at n, get_or-set_other xs at k ((slice_index xs at + y) % 2 ^ 32) 0 n, mul-zero y) (same_eq (omega arith))
 
 -- one row: what it adds goes from its weight w to the numbers, or to the weights of its operands
-module _ (ws : List ℕ) (k i w : ℕ) (weights numbers : List ℕ) (h : i < length weights) (l : placeCount ≤ length numbers) where
-  abbrev beforeRow : ℕ
-  beforeRow = dot weights (value ws k) i + w * value ws k i + slice_index numbers k
+module _ (ws : List ℕ) (k i w : ℕ) (weights numbers : List ℕ) (h : i < length weights) (l : place_count ≤ length numbers) where
+  abbrev before_row : ℕ
+  before_row = dot weights (value ws k) i + w * value ws k i + slice_index numbers k
 
-  abbrev afterRow : ℕ
-  afterRow = dot (spread weights (row_in ws i) i w) (value ws k) i + slice_index (gather numbers (row_in ws i) w) k
+  abbrev after_row : ℕ
+  after_row = dot (spread weights (row_in ws i) i w) (value ws k) i + slice_index (gather numbers (row_in ws i) w) k
 
   later : (d x y : ℕ) → d + (x + y) ≡ d + y + x
   later d x y = omega arith
 
-  pass-number : (row_in ws i).op ≡ ofNumber → Same modulus afterRow beforeRow
+  pass-number : (row_in ws i).op ≡ of_number → Same modulus after_row before_row
   pass-number e =
-      let j = other-joins (row_in ws i) ofSum i (λ f. omega arith) in
+      let j = other-joins (row_in ws i) of_sum i (λ f. omega arith) in
       let y = w * (row_in ws i).a in
       rw (sym (spread-other weights (row_in ws i) i w j), sym (gather-number numbers (row_in ws i) w _ _ e refl refl), value-number ws k i e, sym (mul_assoc w (row_in ws i).a (unit k 0)), sym (later (dot weights (value ws k) i) (slice_index numbers k) (y * unit k 0)))
       (same-plus (same_refl (dot weights (value ws k) i))
-      (same-trans (add-unit numbers 0 (y % 2 ^ 32) k (omega arith)) (same-plus (same_refl (slice_index numbers k)) (same-times (unit k 0) (same-mod y)))))
+      (same_trans (add_unit numbers 0 (y % 2 ^ 32) k (omega arith)) (same-plus (same_refl (slice_index numbers k)) (same_times (unit k 0) (same_mod y)))))
 
-  pass-symbol : ((row_in ws i).op ≢ ofNumber) → isSymbol (row_in ws i) ≡ true → Same modulus afterRow beforeRow
+  pass-symbol : ((row_in ws i).op ≢ of_number) → is_symbol (row_in ws i) ≡ true → Same modulus after_row before_row
   pass-symbol n t =
-      let u = symbol-of (row_in ws i) t in
-      let j = other-joins (row_in ws i) ofSum i (λ f. omega arith) in
+      let u = symbol_of (row_in ws i) t in
+      let j = other-joins (row_in ws i) of_sum i (λ f. omega arith) in
       rw (sym (spread-other weights (row_in ws i) i w j), sym (gather-symbol numbers (row_in ws i) w _ n t refl), value-symbol ws k i n t, sym (later (dot weights (value ws k) i) (slice_index numbers k) (w * unit k ((row_in ws i).a + 1))))
-      (same-plus (same_refl (dot weights (value ws k) i)) (add-unit numbers ((row_in ws i).a + 1) w k (omega arith)))
+      (same-plus (same_refl (dot weights (value ws k) i)) (add_unit numbers ((row_in ws i).a + 1) w k (omega arith)))
 
-  pass-sum : ((row_in ws i).op ≢ ofNumber) → isSymbol (row_in ws i) ≡ false → joins (row_in ws i) ofSum i ≡ true → Same modulus afterRow beforeRow
-  pass-sum n t j =
+  pass_sum : ((row_in ws i).op ≢ of_number) → is_symbol (row_in ws i) ≡ false → joins (row_in ws i) of_sum i ≡ true → Same modulus after_row before_row
+  pass_sum n t j =
       let u = joined (row_in ws i) 2 i j in
       let a = (row_in ws i).a in
       let b = (row_in ws i).b in
       let m = added-length weights a w in
       let one = dot-added (value ws k) weights a w i u.first (omega arith) in
       let two = dot-added (value ws k) (added weights a w) b w i u.second (omega arith) in
-      rw (sym (spread-sum weights (row_in ws i) i w _ _ j refl refl), sym (gather-other numbers (row_in ws i) w n t), value-sum ws k i n t j, mul-add w (value ws k a) (value ws k b))
-      (same-plus (same-trans two (same-trans (same-plus one (same_refl (w * value ws k b))) (same-eq (omega arith)))) (same_refl (slice_index numbers k)))
+      rw (sym (spread_sum weights (row_in ws i) i w _ _ j refl refl), sym (gather-other numbers (row_in ws i) w n t), value_sum ws k i n t j, mul-add w (value ws k a) (value ws k b))
+      (same-plus (same_trans two (same_trans (same-plus one (same_refl (w * value ws k b))) (same_eq (omega arith)))) (same_refl (slice_index numbers k)))
 
-  pass-none : ((row_in ws i).op ≢ ofNumber) → isSymbol (row_in ws i) ≡ false → joins (row_in ws i) ofSum i ≡ false → Same modulus afterRow beforeRow
+  pass-none : ((row_in ws i).op ≢ of_number) → is_symbol (row_in ws i) ≡ false → joins (row_in ws i) of_sum i ≡ false → Same modulus after_row before_row
   pass-none n t j =
       rw (sym (spread-other weights (row_in ws i) i w j), sym (gather-other numbers (row_in ws i) w n t), value_none ws k i n t j, mul-zero w)
-      (same-eq (omega arith))
+      (same_eq (omega arith))
 
-  pass-row : RowCase (row_in ws i) i → Same modulus afterRow beforeRow
+  pass-row : RowCase (row_in ws i) i → Same modulus after_row before_row
   pass-row (a_number e) = pass-number e
-  pass-row (aSymbol n t) = pass-symbol n t
-  pass-row (aSum n t j) = pass-sum n t j
+  pass-row (a_symbol n t) = pass-symbol n t
+  pass-row (a_sum n t j) = pass_sum n t j
   pass-row (no_word n t j) = pass-none n t j
 
 module _ (ws : List ℕ) (k : ℕ) where
   -- all rows below i
-  pub passed-value : (i : ℕ) (weights numbers : List ℕ) → i ≤ length weights → placeCount ≤ length numbers
+  pub passed-value : (i : ℕ) (weights numbers : List ℕ) → i ≤ length weights → place_count ≤ length numbers
       → Same modulus (slice_index (passed ws i weights numbers) k) (dot weights (value ws k) i + slice_index numbers k)
   unfolding passed dot
-  passed-value zero weights numbers h l = same-eq (omega arith)
+  passed-value zero weights numbers h l = same_eq (omega arith)
   passed-value (suc i) weights numbers h l =
       let a = spread-length weights (row_in ws i) i (slice_index weights i) in
       let b = gather-length numbers (row_in ws i) (slice_index weights i) in
-      same-trans (passed-value i (spread weights (row_in ws i) i (slice_index weights i)) (gather numbers (row_in ws i) (slice_index weights i)) (omega arith) (omega arith))
+      same_trans (passed-value i (spread weights (row_in ws i) i (slice_index weights i)) (gather numbers (row_in ws i) (slice_index weights i)) (omega arith) (omega arith))
       (pass-row ws k i (slice_index weights i) weights numbers (omega arith) l (case_of (row_in ws i) i))
 
   -- the numbers of row p less row q
-  pub numbers-value : (p q : ℕ) → p < rowLimit → q < rowLimit
-      → Same modulus (slice_index (numbersOf ws p q) k) (value ws k p + 4294967295 * value ws k q)
+  pub numbers-value : (p q : ℕ) → p < row_limit → q < row_limit
+      → Same modulus (slice_index (numbers_of ws p q) k) (value ws k p + 4294967295 * value ws k q)
   numbers-value p q h l =
       let n = rows_to p q in
-      let r = rows-reach p q in
-      let m : rows_to p q ≤ rowLimit = r.most rowLimit h l in
-      let z = length-replicate {A = ℕ} rowLimit 0 in
-      let a = added-length (replicate rowLimit 0) p 1 in
-      let b = added-length (added (replicate rowLimit 0) p 1) q 4294967295 in
-      same-trans (passed-value n (startWeights p q) noNumbers (omega arith) (omega (arith, length-replicate {A = ℕ} placeCount 0)))
-      (same-trans (same-plus (same-trans (dot-added (value ws k) (added (replicate rowLimit 0) p 1) q 4294967295 n r.second (omega arith))
-      (same-plus (dot-added (value ws k) (replicate rowLimit 0) p 1 n r.first (omega arith)) (same_refl (4294967295 * value ws k q)))) (same_refl (slice_index noNumbers k)))
-      (same-eq (ends (dot (replicate rowLimit 0) (value ws k) n) (value ws k p) (value ws k q) (slice_index noNumbers k) (dot-zeros (value ws k) rowLimit n) (zeros-at placeCount k))))
+      let r = rows_reach p q in
+      let m : rows_to p q ≤ row_limit = r.most row_limit h l in
+      let z = length-replicate {A = ℕ} row_limit 0 in
+      let a = added-length (replicate row_limit 0) p 1 in
+      let b = added-length (added (replicate row_limit 0) p 1) q 4294967295 in
+      same_trans (passed-value n (start_weights p q) no_numbers (omega arith) (omega (arith, length-replicate {A = ℕ} place_count 0)))
+      (same_trans (same-plus (same_trans (dot-added (value ws k) (added (replicate row_limit 0) p 1) q 4294967295 n r.second (omega arith))
+      (same-plus (dot-added (value ws k) (replicate row_limit 0) p 1 n r.first (omega arith)) (same_refl (4294967295 * value ws k q)))) (same_refl (slice_index no_numbers k)))
+      (same_eq (ends (dot (replicate row_limit 0) (value ws k) n) (value ws k p) (value ws k q) (slice_index no_numbers k) (dot-zeros (value ws k) row_limit n) (zeros-at place_count k))))
     where
       ends : (d x y e : ℕ) → d ≡ 0 → e ≡ 0 → d + 1 * x + 4294967295 * y + e ≡ x + 4294967295 * y
       ends d x y e f g = omega arith

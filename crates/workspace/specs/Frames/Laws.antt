@@ -2,12 +2,12 @@
 use Rattle.std.specs.Prelude.{Bool, true, false, not, ◌&&◌, List, ◌≡◌, refl, ℕ, suc, ◌+◌, ◌*◌, ◌≤◌, ◌<◌, leb, eqb, length, get_or, set}
 use Rattle.std.proofs.lemmas.Bool.{false≢true, lt-leb}
 use Rattle.std.proofs.Common.{sym, ◌∙◌, arith, length-set, get_or-set_same, get_or-set_other, leb-true, leb-false, le-leb, eq-eqb, ne_eqb}
-use Rattle.script.specs.Code.Forms.{nodeIn, treeIn, some-operand, formed-less}
-use Rattle.script.specs.Rows.{typedForm}
-use Rattle.script.specs.Rows.Kinds.{kindFor, leafKinds}
-use Rattle.script.specs.Tree.{Expr, int, truth, var, unary, binary, ifElse, letIn, typedBlock, symBlock, size}
-use Rattle.workspace.specs.Frames.{frameIn, topIn, waits_for, Waitable, Waits, Descendable, up_to, forFirst}
-use Rattle.workspace.specs.Places.{frameWidth, goalAt, topAt}
+use Rattle.script.specs.Code.Forms.{node_in, tree_in, some-operand, formed_less}
+use Rattle.script.specs.Rows.{typed_form}
+use Rattle.script.specs.Rows.Kinds.{kind_for, leaf_kinds}
+use Rattle.script.specs.Tree.{Expr, int, truth, var, unary, binary, if_else, let_in, typed_block, sym_block, size}
+use Rattle.workspace.specs.Frames.{frame_in, top_in, waits_for, Waitable, Waits, Descendable, up_to, for_first}
+use Rattle.workspace.specs.Places.{frame_width, goal_at, top_at}
 use Rattle.workspace.specs.Rules.Nodes.{First, shaped, first_of}
 
 -- ---- a new frame
@@ -26,26 +26,26 @@ module _ (fs : List ℕ) (at a b x y top : ℕ) where
   four = set three (at + 3) y
 
   abbrev five : List ℕ
-  five = set four topAt top
+  five = set four top_at top
 
   abbrev pub stored : List ℕ
-  stored = set five goalAt top
+  stored = set five goal_at top
 
-  module _ (h : frameWidth ≤ at) (l : at + 3 < length fs) where
+  module _ (h : frame_width ≤ at) (l : at + 3 < length fs) where
     pub stored-length : length stored ≡ length fs
     stored-length = simp length-set
 
-    pub stored-frame : get_or stored goalAt 0 ≡ top
-    stored-frame = get_or-set_same five goalAt top 0 (simp length-set (omega arith))
+    pub stored-frame : get_or stored goal_at 0 ≡ top
+    stored-frame = get_or-set_same five goal_at top 0 (simp length-set (omega arith))
 
-    pub stored-top : get_or stored topAt 0 ≡ top
-    stored-top = get_or-set_other five goalAt topAt top 0 (λ e. omega arith) ∙ get_or-set_same four topAt top 0 (simp length-set (omega arith))
+    pub stored-top : get_or stored top_at 0 ≡ top
+    stored-top = get_or-set_other five goal_at top_at top 0 (λ e. omega arith) ∙ get_or-set_same four top_at top 0 (simp length-set (omega arith))
 
     behind : (k : ℕ) → 2 ≤ k → get_or stored k 0 ≡ get_or four k 0
-    behind k i = get_or-set_other five goalAt k top 0 (λ e. omega arith) ∙ get_or-set_other four topAt k top 0 (λ e. omega arith)
+    behind k i = get_or-set_other five goal_at k top 0 (λ e. omega arith) ∙ get_or-set_other four top_at k top 0 (λ e. omega arith)
 
-    pub stored-third : get_or stored (at + 3) 0 ≡ y
-    stored-third = behind (at + 3) (omega arith) ∙ get_or-set_same three (at + 3) y 0 (simp length-set (omega arith))
+    pub stored_third : get_or stored (at + 3) 0 ≡ y
+    stored_third = behind (at + 3) (omega arith) ∙ get_or-set_same three (at + 3) y 0 (simp length-set (omega arith))
 
     pub stored-second : get_or stored (at + 2) 0 ≡ x
     stored-second =
@@ -68,7 +68,7 @@ module _ (fs : List ℕ) (at a b x y top : ℕ) where
         ∙ get_or-set_other one (at + 1) at b 0 (λ e. omega arith)
         ∙ get_or-set_same fs at a 0 (omega arith)
 
-    pub stored-others : (k : ℕ) → 2 ≤ k → (at ≤ k → k < at + frameWidth → ⊥) → get_or stored k 0 ≡ get_or fs k 0
+    pub stored-others : (k : ℕ) → 2 ≤ k → (at ≤ k → k < at + frame_width → ⊥) → get_or stored k 0 ≡ get_or fs k 0
     stored-others k i d =
         behind k i
         ∙ get_or-set_other three (at + 3) k y 0 (λ e. d (omega arith) (omega arith))
@@ -77,58 +77,58 @@ module _ (fs : List ℕ) (at a b x y top : ℕ) where
         ∙ get_or-set_other fs at k a 0 (λ e. d (omega arith) (omega arith))
 
 -- in a frame with number top
-module _ (n awaits x y : ℕ) (fs : List ℕ) (w : Waitable fs) (top : ℕ) (e : top ≡ suc (topIn fs)) where
+module _ (n awaits x y : ℕ) (fs : List ℕ) (w : Waitable fs) (top : ℕ) (e : top ≡ suc (top_in fs)) where
   abbrev left : List ℕ
-  left = stored fs (frameWidth * top) n (up_to (frameIn fs) awaits) x y top
+  left = stored fs (frame_width * top) n (up_to (frame_in fs) awaits) x y top
 
-  first-place : frameWidth ≤ frameWidth * top
+  first-place : frame_width ≤ frame_width * top
   first-place = omega arith
 
-  last-place : frameWidth * top + 3 < length fs
+  last-place : frame_width * top + 3 < length fs
   last-place = omega (arith, w.lent, w.few)
 
-  pub new-frame : Waits n awaits x y fs left
-  new-frame =
+  pub new_frame : Waits n awaits x y fs left
+  new_frame =
       record {
-        same = stored-length fs (frameWidth * top) n (up_to (frameIn fs) awaits) x y top first-place last-place;
-        frame = stored-frame fs (frameWidth * top) n (up_to (frameIn fs) awaits) x y top first-place last-place ∙ e;
-        top = stored-top fs (frameWidth * top) n (up_to (frameIn fs) awaits) x y top first-place last-place ∙ e;
-        node = rw (sym e) (stored-node fs (frameWidth * top) n (up_to (frameIn fs) awaits) x y top first-place last-place);
-        up = rw (sym e) (stored-first fs (frameWidth * top) n (up_to (frameIn fs) awaits) x y top first-place last-place);
-        first = rw (sym e) (stored-second fs (frameWidth * top) n (up_to (frameIn fs) awaits) x y top first-place last-place);
-        second = rw (sym e) (stored-third fs (frameWidth * top) n (up_to (frameIn fs) awaits) x y top first-place last-place);
-        others = rw (sym e) (stored-others fs (frameWidth * top) n (up_to (frameIn fs) awaits) x y top first-place last-place);
+        same = stored-length fs (frame_width * top) n (up_to (frame_in fs) awaits) x y top first-place last-place;
+        frame = stored-frame fs (frame_width * top) n (up_to (frame_in fs) awaits) x y top first-place last-place ∙ e;
+        top = stored-top fs (frame_width * top) n (up_to (frame_in fs) awaits) x y top first-place last-place ∙ e;
+        node = rw (sym e) (stored-node fs (frame_width * top) n (up_to (frame_in fs) awaits) x y top first-place last-place);
+        up = rw (sym e) (stored-first fs (frame_width * top) n (up_to (frame_in fs) awaits) x y top first-place last-place);
+        first = rw (sym e) (stored-second fs (frame_width * top) n (up_to (frame_in fs) awaits) x y top first-place last-place);
+        second = rw (sym e) (stored_third fs (frame_width * top) n (up_to (frame_in fs) awaits) x y top first-place last-place);
+        others = rw (sym e) (stored-others fs (frame_width * top) n (up_to (frame_in fs) awaits) x y top first-place last-place);
       }
 
 -- ---- whether a node waits
 
-pub leaf-waits : (kind : ℕ) → kind < leafKinds → false ≡ waits_for kind
-leaf-waits kind h = rw (lt-leb leafKinds kind h)
+pub leaf_waits : (kind : ℕ) → kind < leaf_kinds → false ≡ waits_for kind
+leaf_waits kind h = rw (lt-leb leaf_kinds kind h)
 
-pub other-waits : (kind : ℕ) → leafKinds ≤ kind → not (eqb kind (kindFor typedForm)) ≡ waits_for kind
-other-waits kind h = rw (le-leb leafKinds kind h)
+pub other_waits : (kind : ℕ) → leaf_kinds ≤ kind → not (eqb kind (kind_for typed_form)) ≡ waits_for kind
+other_waits kind h = rw (le-leb leaf_kinds kind h)
 
-pub waits-inner : (kind : ℕ) → waits_for kind ≡ true → leafKinds ≤ kind
-waits-inner kind e = go (leb leafKinds kind) refl e
+pub waits_inner : (kind : ℕ) → waits_for kind ≡ true → leaf_kinds ≤ kind
+waits_inner kind e = go (leb leaf_kinds kind) refl e
   where
-    go : (b : Bool) → leb leafKinds kind ≡ b → (b && not (eqb kind (kindFor typedForm))) ≡ true → leafKinds ≤ kind
-    go true p f = leb-true leafKinds kind p
+    go : (b : Bool) → leb leaf_kinds kind ≡ b → (b && not (eqb kind (kind_for typed_form))) ≡ true → leaf_kinds ≤ kind
+    go true p f = leb-true leaf_kinds kind p
     go false p f = absurd (false≢true f)
 
-pub waits-other : (kind : ℕ) → waits_for kind ≡ true → kind ≡ kindFor typedForm → ⊥
-waits-other kind e f = false≢true (sym (rw (eq-eqb kind (kindFor typedForm) f) (and-false (leb leafKinds kind))) ∙ e)
+pub waits_other : (kind : ℕ) → waits_for kind ≡ true → kind ≡ kind_for typed_form → ⊥
+waits_other kind e f = false≢true (sym (rw (eq-eqb kind (kind_for typed_form) f) (and-false (leb leaf_kinds kind))) ∙ e)
   where
     and-false : (b : Bool) → (b && not true) ≡ false
     and-false true = refl
     and-false false = refl
 
 -- a node that does not wait is a leaf or a typed block
-pub waits-none : (kind : ℕ) → waits_for kind ≡ false → (kind ≡ kindFor typedForm → ⊥) → kind < leafKinds
-waits-none kind e d = go (leb leafKinds kind) refl (rw (ne_eqb kind (kindFor typedForm) d) at e)
+pub waits_none : (kind : ℕ) → waits_for kind ≡ false → (kind ≡ kind_for typed_form → ⊥) → kind < leaf_kinds
+waits_none kind e d = go (leb leaf_kinds kind) refl (rw (ne_eqb kind (kind_for typed_form) d) at e)
   where
-    go : (b : Bool) → leb leafKinds kind ≡ b → (b && not false) ≡ false → kind < leafKinds
+    go : (b : Bool) → leb leaf_kinds kind ≡ b → (b && not false) ≡ false → kind < leaf_kinds
     go true p f = absurd (false≢true (sym f))
-    go false p f = leb-false leafKinds kind p
+    go false p f = leb-false leaf_kinds kind p
 
 -- ---- down the first operands
 
@@ -139,32 +139,32 @@ size-some (truth n b) = omega arith
 size-some (var n k) = omega arith
 size-some (unary n o e) = omega arith
 size-some (binary n o e f) = omega arith
-size-some (ifElse n c e f) = omega arith
-size-some (letIn n e f) = omega arith
-size-some (typedBlock n e) = omega arith
-size-some (symBlock n e) = omega arith
+size-some (if_else n c e f) = omega arith
+size-some (let_in n e f) = omega arith
+size-some (typed_block n e) = omega arith
+size-some (sym_block n e) = omega arith
 
-module _ {table fs : List ℕ} {n : ℕ} (q : Descendable table fs n) (w : waits_for (nodeIn table n).kind ≡ true) where
-  down-first : First 0 table n (treeIn table n)
-  down-first = first_of (shaped 0 q.formed) (some-operand q.formed (waits-inner _ w))
+module _ {table fs : List ℕ} {n : ℕ} (q : Descendable table fs n) (w : waits_for (node_in table n).kind ≡ true) where
+  down_first : First 0 table n (tree_in table n)
+  down_first = first_of (shaped 0 q.formed) (some-operand q.formed (waits_inner _ w))
 
-  pub down-earlier : (nodeIn table n).a < n
-  down-earlier = down-first.earlier
+  pub down_earlier : (node_in table n).a < n
+  down_earlier = down_first.earlier
 
-  pub down-waitable : Waitable fs
-  down-waitable =
+  pub down_waitable : Waitable fs
+  down_waitable =
       record {
         lent = q.lent;
-        few = omega (arith, q.few, down-first.smaller, size-some (treeIn table (nodeIn table n).a));
+        few = omega (arith, q.few, down_first.smaller, size-some (tree_in table (node_in table n).a));
         inside = q.inside;
       }
 
-  module _ {between : List ℕ} (s : Waits n forFirst 0 0 fs between) where
-    pub down-next : Descendable table between (nodeIn table n).a
-    down-next =
+  module _ {between : List ℕ} (s : Waits n for_first 0 0 fs between) where
+    pub down_next : Descendable table between (node_in table n).a
+    down_next =
         record {
-          formed = formed-less (suc (nodeIn table n).a) (omega (arith, down-earlier)) q.formed;
+          formed = formed_less (suc (node_in table n).a) (omega (arith, down_earlier)) q.formed;
           lent = omega (arith, q.lent, s.same);
-          few = omega (arith, q.few, s.top, down-first.smaller);
+          few = omega (arith, q.few, s.top, down_first.smaller);
           inside = omega (arith, s.frame, s.top);
         }

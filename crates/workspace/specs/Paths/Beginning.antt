@@ -6,15 +6,15 @@ use Rattle.std.proofs.Common.{ap, ◌∙◌, add-one, arith, length-set, get_or-
 use Rattle.rules.specs.Paths.{start}
 use Rattle.rules.specs.Satisfiable.Laws.{true-satisfiable}
 use Rattle.rules.specs.Symbolic.{initial, Symbolic, symbol, symbols}
-use Rattle.terms.specs.Places.{symbolLimit, countAt, variablesEnd, row_at}
-use Rattle.terms.specs.Terms.{Space, pushed, Distinct, Grown, ofConstant}
+use Rattle.terms.specs.Places.{symbol_limit, count_at, variables_end, row_at}
+use Rattle.terms.specs.Terms.{Space, pushed, Distinct, Grown, of_constant}
 use Rattle.terms.specs.Terms.Laws.{pushed-length, pushed-count, pushed-above, made-constant}
 use Rattle.workspace.specs.Notes.{Bare}
 use Rattle.workspace.specs.Paths.{Fresh, Blank, Starting}
-use Rattle.workspace.specs.Places.{base_at, conditionAt, depthAt, known_at, next_at, noteAt, spaceSize, start_at, writes_at}
+use Rattle.workspace.specs.Places.{base_at, condition_at, depth_at, known_at, next_at, note_at, space_size, start_at, writes_at}
 use Rattle.workspace.specs.Rules.{Started}
-use Rattle.workspace.specs.State.{typesOn, Means, Variables, noVariable, oneMore, noWrite, PathIn, Room}
-use Rattle.workspace.specs.State.Laws.{nothing_known, still-known, types-length, variables-kept, means-at, path-kept, path-rewound, distinct-same, same-grown}
+use Rattle.workspace.specs.State.{types_on, Means, Variables, no_variable, one_more, no_write, PathIn, Room}
+use Rattle.workspace.specs.State.Laws.{nothing_known, still_known, types-length, variables-kept, means-at, path-kept, path_rewound, distinct-same, same-grown}
 
 -- one variable more is one symbol more
 symbols-last : (s : ℕ) (ts : List ℕ) (t : ℕ) → symbols s (ts ++ (t ∷ [])) ≡ symbols s ts ++ (symbol initial t (s + length ts) ∷ [])
@@ -24,39 +24,39 @@ symbols-last s (u ∷ ts) t =
     let e : suc s + length ts ≡ s + suc (length ts) = omega arith in
     ap (λ (vs : List Symbolic). symbol initial u s ∷ vs) (symbols-last (suc s) ts t ∙ rw e refl)
 
-types-last : (types : List ℕ) (i : ℕ) → symbols 0 (typesOn types (suc i)) ≡ symbols 0 (typesOn types i) ++ (symbol initial (get_or types (2 * i) 0) i ∷ [])
-unfolding typesOn
+types-last : (types : List ℕ) (i : ℕ) → symbols 0 (types_on types (suc i)) ≡ symbols 0 (types_on types i) ++ (symbol initial (get_or types (2 * i) 0) i ∷ [])
+unfolding types_on
 types-last types i =
-    let e : 0 + length (typesOn types i) ≡ i = let l = types-length types i in omega arith in
-    symbols-last 0 (typesOn types i) (get_or types (2 * i) 0)
-    ∙ ap (λ (k : ℕ). symbols 0 (typesOn types i) ++ (symbol initial (get_or types (2 * i) 0) k ∷ [])) e
+    let e : 0 + length (types_on types i) ≡ i = let l = types-length types i in omega arith in
+    symbols-last 0 (types_on types i) (get_or types (2 * i) 0)
+    ∙ ap (λ (k : ℕ). symbols 0 (types_on types i) ++ (symbol initial (get_or types (2 * i) 0) k ∷ [])) e
 
 -- ---- row 0
 
 module _ {ws : List ℕ} (b : Blank ws) where
   pub blank-space : Space ws 1
-  blank-space = record { lent = omega (arith, b.lent); room = omega (arith, b.zeros countAt) }
+  blank-space = record { lent = omega (arith, b.lent); room = omega (arith, b.zeros count_at) }
 
   blank-distinct : Distinct ws
   blank-distinct = record {
-    differences = λ i l e. absurd (omega (arith, l, b.zeros countAt));
-    different = λ i j x y h l u v. absurd (omega (arith, l, b.zeros countAt));
+    differences = λ i l e. absurd (omega (arith, l, b.zeros count_at));
+    different = λ i j x y h l u v. absurd (omega (arith, l, b.zeros count_at));
   }
 
   abbrev first-row : List ℕ
-  first-row = pushed ws ofConstant 1 0
+  first-row = pushed ws of_constant 1 0
 
   first-beyond : (k : ℕ) → row_at 1 ≤ k → get_or first-row k 0 ≡ 0
-  first-beyond k l = pushed-above blank-space ofConstant 1 0 k (omega (arith, l, b.zeros countAt)) ∙ b.zeros k
+  first-beyond k l = pushed-above blank-space of_constant 1 0 k (omega (arith, l, b.zeros count_at)) ∙ b.zeros k
 
   pub first-started : (types left : List ℕ) → left ≡ first-row → Starting types left 0
-  unfolding typesOn symbols
+  unfolding types_on symbols
   first-started types left e =
       let m = made-constant blank-space blank-distinct true 0 in
-      let c = pushed-count blank-space ofConstant 1 0 in
-      let z = b.zeros countAt in
-      let l = pushed-length blank-space ofConstant 1 0 in
-      let d = first-beyond conditionAt (omega arith) in
+      let c = pushed-count blank-space of_constant 1 0 in
+      let z = b.zeros count_at in
+      let l = pushed-length blank-space of_constant 1 0 in
+      let d = first-beyond condition_at (omega arith) in
       rw e
       (record {
         lent = omega (arith, l, b.lent);
@@ -71,18 +71,18 @@ module _ {ws : List ℕ} (b : Blank ws) where
           inside = omega arith;
           condition = rw (d ∙ sym z) m.is;
           allowed = true-satisfiable;
-          log = rw (first-beyond writes_at (omega arith), first-beyond start_at (omega arith)) noWrite;
+          log = rw (first-beyond writes_at (omega arith), first-beyond start_at (omega arith)) no_write;
           distinct = m.distinct;
           remembers = nothing_known (first-beyond known_at (omega arith));
         };
-        variables = noVariable;
+        variables = no_variable;
       })
 
 -- ---- a variable more
 
-module _ {types ws : List ℕ} {i : ℕ} (l : i < symbolLimit) (s : Starting types ws i) where
-  pub starting-room : Room ws 1
-  starting-room =
+module _ {types ws : List ℕ} {i : ℕ} (l : i < symbol_limit) (s : Starting types ws i) where
+  pub starting_room : Room ws 1
+  starting_room =
       record {
         lent = s.lent;
         rows = omega (arith, s.rows);
@@ -91,7 +91,7 @@ module _ {types ws : List ℕ} {i : ℕ} (l : i < symbolLimit) (s : Starting typ
       }
 
   module _ {q : ℕ} {xs : List ℕ} (f : Fresh initial (get_or types (2 * i) 0) ws q xs) where
-    fresh-lent : spaceSize ≤ length xs
+    fresh-lent : space_size ≤ length xs
     fresh-lent = omega (arith, f.ruled.went.same, s.lent)
 
     abbrev typed : List ℕ
@@ -117,7 +117,7 @@ module _ {types ws : List ℕ} {i : ℕ} (l : i < symbolLimit) (s : Starting typ
     placed-before : (k : ℕ) → k < 2 * i → get_or placed k 0 ≡ get_or xs k 0
     placed-before k h = placed-other k (λ e. omega arith) (λ e. omega arith)
 
-    placed-behind : (k : ℕ) → variablesEnd ≤ k → get_or placed k 0 ≡ get_or xs k 0
+    placed-behind : (k : ℕ) → variables_end ≤ k → get_or placed k 0 ≡ get_or xs k 0
     placed-behind k h = placed-other k (λ e. omega arith) (λ e. omega arith)
 
     placed-grown : Grown xs placed
@@ -128,25 +128,25 @@ module _ {types ws : List ℕ} {i : ℕ} (l : i < symbolLimit) (s : Starting typ
         let p = f.path (start i) s.path in
         path-kept (λ j h. placed-behind j (omega arith)) placed-grown (distinct-same placed-behind p.distinct) p
 
-    placed-variables : Variables placed (suc i) (symbols 0 (typesOn types (suc i)))
+    placed-variables : Variables placed (suc i) (symbols 0 (types_on types (suc i)))
     placed-variables =
         let m : Means xs (get_or types (2 * i) 0) q (symbol initial (get_or types (2 * i) 0) i) = rw s.next at (f.means s.path.distinct) in
         rw (types-last types i)
-        (oneMore
+        (one_more
         (variables-kept i (omega arith) placed-before placed-grown
         (variables-kept i (omega arith) (λ k h. f.ruled.went.before k (omega arith)) f.ruled.went.grown s.variables))
         (means-at placed-grown placed-type placed-place m))
 
     pub variable-started : Starting types placed (suc i)
     variable-started =
-        let e = placed-behind countAt (omega arith) in
+        let e = placed-behind count_at (omega arith) in
         let g = f.ruled.went.grown.grows in
         record {
           lent = omega (arith, placed-length, fresh-lent);
           rows = omega (arith, e, f.most, s.rows);
           first = omega (arith, e, g, s.first);
           next = placed-path.next;
-          condition = placed-behind conditionAt (omega arith) ∙ f.condition ∙ s.condition;
+          condition = placed-behind condition_at (omega arith) ∙ f.condition ∙ s.condition;
           writes = placed-behind writes_at (omega arith) ∙ f.writes ∙ s.writes;
           bare = λ k h m. placed-behind k (omega arith) ∙ f.ruled.notes.each k h m ∙ s.bare k h m;
           path = placed-path;
@@ -155,54 +155,54 @@ module _ {types ws : List ℕ} {i : ℕ} (l : i < symbolLimit) (s : Starting typ
 
 -- ---- the loop
 
-pub starting-on : {types ws : List ℕ} (i : ℕ) → Starting types ws (suc i) → Starting types ws (i + 1)
-starting-on i s = rw (add-one i) s
+pub starting_on : {types ws : List ℕ} (i : ℕ) → Starting types ws (suc i) → Starting types ws (i + 1)
+starting_on i s = rw (add-one i) s
 
 -- ---- all variables
 
 -- the number of the variables is noted, for the notes and for the path
-module _ {types ws : List ℕ} {depth : ℕ} (l : depth ≤ symbolLimit) (s : Starting types ws depth) where
+module _ {types ws : List ℕ} {depth : ℕ} (l : depth ≤ symbol_limit) (s : Starting types ws depth) where
   abbrev based : List ℕ
   based = set ws base_at depth
 
   abbrev counted : List ℕ
-  counted = set based depthAt depth
+  counted = set based depth_at depth
 
-  counted-other : (k : ℕ) → (k ≡ depthAt → ⊥) → (k ≡ base_at → ⊥) → get_or counted k 0 ≡ get_or ws k 0
-  counted-other k m n = get_or-set_other based depthAt k depth 0 m ∙ get_or-set_other ws base_at k depth 0 n
+  counted-other : (k : ℕ) → (k ≡ depth_at → ⊥) → (k ≡ base_at → ⊥) → get_or counted k 0 ≡ get_or ws k 0
+  counted-other k m n = get_or-set_other based depth_at k depth 0 m ∙ get_or-set_other ws base_at k depth 0 n
 
-  counted-before : (k : ℕ) → k < depthAt → get_or counted k 0 ≡ get_or ws k 0
+  counted-before : (k : ℕ) → k < depth_at → get_or counted k 0 ≡ get_or ws k 0
   counted-before k h = counted-other k (λ e. omega arith) (λ e. omega arith)
 
   counted-grown : Grown ws counted
   counted-grown =
-      let e = counted-before countAt (omega arith) in
+      let e = counted-before count_at (omega arith) in
       record { grows = omega arith; rows = λ k h i. counted-before k (omega (arith, i, s.rows)) }
 
   counted-path : PathIn counted (start depth)
   counted-path =
-      path-rewound counted-grown.rows (λ k h i. absurd (omega (arith, h, i, s.writes))) (counted-before countAt (omega arith)) (counted-before next_at (omega arith))
-      (counted-before conditionAt (omega arith)) (counted-before writes_at (omega arith)) (counted-before start_at (omega arith))
-      (still-known (λ k h. counted-other k (λ e. omega arith) (λ e. omega arith)) counted-grown s.path.remembers) s.path
+      path_rewound counted-grown.rows (λ k h i. absurd (omega (arith, h, i, s.writes))) (counted-before count_at (omega arith)) (counted-before next_at (omega arith))
+      (counted-before condition_at (omega arith)) (counted-before writes_at (omega arith)) (counted-before start_at (omega arith))
+      (still_known (λ k h. counted-other k (λ e. omega arith) (λ e. omega arith)) counted-grown s.path.remembers) s.path
 
   counted-bare : Bare depth counted
   counted-bare =
       record {
-        base = get_or-set_other based depthAt base_at depth 0 (λ e. omega arith) ∙ get_or-set_same ws base_at depth 0 (omega (arith, s.lent));
-        none = λ i h. counted-other (noteAt i + 1) (λ e. omega arith) (λ e. omega arith) ∙ s.bare (noteAt i + 1) (omega arith) (omega arith);
+        base = get_or-set_other based depth_at base_at depth 0 (λ e. omega arith) ∙ get_or-set_same ws base_at depth 0 (omega (arith, s.lent));
+        none = λ i h. counted-other (note_at i + 1) (λ e. omega arith) (λ e. omega arith) ∙ s.bare (note_at i + 1) (omega arith) (omega arith);
       }
 
   counted-length : length counted ≡ length ws
   counted-length = simp length-set
 
-  counted-started : Started depth (typesOn types depth) counted
+  counted-started : Started depth (types_on types depth) counted
   counted-started =
-      let e = counted-before countAt (omega arith) in
+      let e = counted-before count_at (omega arith) in
       record {
         lent = omega (arith, counted-length, s.lent);
         rows = omega (arith, e, s.rows);
         writes = counted-before writes_at (omega arith) ∙ s.writes;
-        depth = get_or-set_same based depthAt depth 0 (simp length-set (omega (arith, s.lent)));
+        depth = get_or-set_same based depth_at depth 0 (simp length-set (omega (arith, s.lent)));
         state = record {
           variables = variables-kept depth (omega arith) (λ k h. counted-before k (omega arith)) counted-grown s.variables;
           path = counted-path;
@@ -210,6 +210,6 @@ module _ {types ws : List ℕ} {depth : ℕ} (l : depth ≤ symbolLimit) (s : St
         bare = counted-bare;
       }
 
-pub starting-end : {types ws : List ℕ} {i : ℕ} (depth : ℕ) → depth ≤ symbolLimit → i ≤ depth → depth ≤ i → Starting types ws i
-    → Started depth (typesOn types depth) (set (set ws base_at depth) depthAt depth)
-starting-end {i = i} depth h l m s = let e : i ≡ depth = omega arith in counted-started h (rw e at s)
+pub starting_end : {types ws : List ℕ} {i : ℕ} (depth : ℕ) → depth ≤ symbol_limit → i ≤ depth → depth ≤ i → Starting types ws i
+    → Started depth (types_on types depth) (set (set ws base_at depth) depth_at depth)
+starting_end {i = i} depth h l m s = let e : i ≡ depth = omega arith in counted-started h (rw e at s)

@@ -6,25 +6,25 @@ use Rattle.std.proofs.Common.{◌∙◌, length-set, get_or-set_same, get_or-set
 use Prim.Native.Nat.{ℕ, suc, ◌+◌, ◌-◌, ◌≤◌, ◌<◌}
 use native.Mathlib.Omega.{arith}
 use borrow.Author.Tests.{le-leb, lt-leb, lt-ltb, le-ltb}
-use Rattle.script.specs.Limits.{typeLimit, nodeLimit}
-use Rattle.script.specs.Rows.{unaryForm, binaryForm, refOp, getOp, setOp}
+use Rattle.script.specs.Limits.{type_limit, node_limit}
+use Rattle.script.specs.Rows.{unary_form, binary_form, ref_op, get_op, set_op}
 use Rattle.script.specs.Tests.{pick}
 use Rattle.script.specs.declared.Refusal.TheVariants.{WrongType, TooManyReferences, InconsistentLog}
 use Rattle.rules.specs.Paths.{Path, ends, stops, taken, forget, consistent, lookup, fresh}
-use Rattle.rules.specs.Symbolic.{Sum, Formula, made, Symbolic, aWord, aTruth, aReference, symbol, other}
-use Rattle.rules.specs.SymbolicRules.{got, unaryExec, binaryExec, typedResult}
-use Rattle.terms.specs.Places.{countAt, symbolLimit, rowLimit}
-use Rattle.terms.specs.Terms.{countIn, Grown}
-use Rattle.terms.specs.Terms.Laws.{grown-trans, still-distinct}
-use Rattle.workspace.specs.Log.{written, FoundAs, found_none, found_some, emptied, consistentIn, lookupIn}
+use Rattle.rules.specs.Symbolic.{Sum, Formula, made, Symbolic, a_word, a_truth, a_reference, symbol, other}
+use Rattle.rules.specs.SymbolicRules.{got, unary_exec, binary_exec, typed_result}
+use Rattle.terms.specs.Places.{count_at, symbol_limit, row_limit}
+use Rattle.terms.specs.Terms.{count_in, Grown}
+use Rattle.terms.specs.Terms.Laws.{grown_trans, still_distinct}
+use Rattle.workspace.specs.Log.{written, FoundAs, found_none, found_some, emptied, consistent_in, lookup_in}
 use Rattle.workspace.specs.Log.Laws.{consistent-is, lookup-is, written-grown, written-before, written-ruled, written-path}
-use Rattle.workspace.specs.Numbers.{gotGives, unaryGives, oneGives, binaryGives, twoGives}
+use Rattle.workspace.specs.Numbers.{got_gives, unary_gives, one_gives, binary_gives, two_gives}
 use Rattle.workspace.specs.Paths.{Fresh}
 use Rattle.workspace.specs.Paths.Conditions.{ruled-refl}
-use Rattle.workspace.specs.Places.{conditionAt, depthAt, next_at, spaceSize, start_at, writes_at}
-use Rattle.workspace.specs.Rules.{oneExec, twoExec, Ruled, One, Two, After}
-use Rattle.workspace.specs.State.{nextIn, writesIn, start_in, depthIn, Means, wordRow, truthRow, referencePlace, noWrite, PathIn, Room, Went, Unnoted, Yields, ending, stopping, deepest}
-use Rattle.workspace.specs.State.Laws.{still-known, path-moved, means-type, means-kept, went-trans, room-on, unnoted-trans, Refers, refer, refers}
+use Rattle.workspace.specs.Places.{condition_at, depth_at, next_at, space_size, start_at, writes_at}
+use Rattle.workspace.specs.Rules.{one_exec, two_exec, Ruled, One, Two, After}
+use Rattle.workspace.specs.State.{next_in, writes_in, start_in, depth_in, Means, word_row, truth_row, reference_place, no_write, PathIn, Room, Went, Unnoted, Yields, ending, stopping, deepest}
+use Rattle.workspace.specs.State.Laws.{still_known, path_moved, means-type, means-kept, went_trans, room_on, unnoted_trans, Refers, refer, refers}
 use Rattle.workspace.specs.declared.Found.{Found}
 use Rattle.workspace.specs.declared.Found.TheVariants.{Value, Nothing}
 use Rattle.workspace.specs.declared.Step.{Step}
@@ -34,39 +34,39 @@ use Rattle.workspace.specs.declared.Step.TheVariants.{Gave, Stopped}
 
 -- one of a type below 2 is none
 pub data NoReference : Symbolic → Type 0 where
-  a_word : {p : Sum} → NoReference (aWord p)
-  a-truth : {f : Formula} → NoReference (aTruth f)
+  a_word_lem : {p : Sum} → NoReference (a_word p)
+  a_truth_lem : {f : Formula} → NoReference (a_truth f)
 
-pub no-reference : {ws : List ℕ} {t q : ℕ} {v : Symbolic} → t < 2 → Means ws t q v → NoReference v
-no-reference l (wordRow i r) = a_word
-no-reference l (truthRow i r) = a-truth
-no-reference l (referencePlace e) = absurd (omega arith)
+pub no_reference : {ws : List ℕ} {t q : ℕ} {v : Symbolic} → t < 2 → Means ws t q v → NoReference v
+no_reference l (word_row i r) = a_word_lem
+no_reference l (truth_row i r) = a_truth_lem
+no_reference l (reference_place e) = absurd (omega arith)
 
-ruled-then : {ws xs left : List ℕ} → depthIn xs ≡ depthIn ws → Unnoted ws xs → Ruled xs left → Went ws left symbolLimit 1 → Ruled ws left
-ruled-then d k v w = record { went = w; depth = v.depth ∙ d; notes = unnoted-trans k v.notes }
+ruled_then : {ws xs left : List ℕ} → depth_in xs ≡ depth_in ws → Unnoted ws xs → Ruled xs left → Went ws left symbol_limit 1 → Ruled ws left
+ruled_then d k v w = record { went = w; depth = v.depth ∙ d; notes = unnoted_trans k v.notes }
 
 -- ---- `set`
 
-set-refused : (n : ℕ) {ws : List ℕ} {v : Symbolic} (w : Symbolic) (p : Path) → NoReference v → Yields ws (Stopped (WrongType n)) (binaryExec n setOp v w p)
-unfolding binaryExec
-set-refused n w p a_word = stopping
-set-refused n w p a-truth = stopping
+set-refused : (n : ℕ) {ws : List ℕ} {v : Symbolic} (w : Symbolic) (p : Path) → NoReference v → Yields ws (Stopped (WrongType n)) (binary_exec n set_op v w p)
+unfolding binary_exec
+set-refused n w p a_word_lem = stopping
+set-refused n w p a_truth_lem = stopping
 
 set-yields : (n q u s : ℕ) {ws : List ℕ} → Room ws 1 → {t : ℕ} {v w : Symbolic} {p : Path} → Refers t q v → Means ws t q v → Means ws u s w → PathIn ws p
-    → Yields (written ws t q u s) (Gave u s) (binaryExec n setOp v w p)
-unfolding binaryExec
+    → Yields (written ws t q u s) (Gave u s) (binary_exec n set_op v w p)
+unfolding binary_exec
 set-yields n q u s {ws} x {p = p} (refers {c = c} r) m k h =
     let t = suc (suc c) in
     ending (means-kept (written-grown ws t q u s x.lent (omega (arith, x.writes)) (omega (arith, x.rows))) k)
     (written-path ws t q u s x.lent (omega (arith, x.writes)) (omega (arith, x.rows)) p h m k)
 
 module _ (n t q u s : ℕ) {ws : List ℕ} where
-  pub set-wrong : t < 2 → Two (binaryForm setOp) n t q u s ws (Stopped (WrongType n)) ws
-  unfolding twoExec twoGives binaryGives
-  set-wrong l = record { ruled = ruled-refl ws; yields = λ v w p m k h. set-refused n w p (no-reference l m); exactly = rw (lt-ltb t 2 l) refl }
+  pub set-wrong : t < 2 → Two (binary_form set_op) n t q u s ws (Stopped (WrongType n)) ws
+  unfolding two_exec two_gives binary_gives
+  set-wrong l = record { ruled = ruled-refl ws; yields = λ v w p m k h. set-refused n w p (no_reference l m); exactly = rw (lt-ltb t 2 l) refl }
 
-  pub set-made : 2 ≤ t → Room ws 1 → {left : List ℕ} → left ≡ written ws t q u s → Two (binaryForm setOp) n t q u s ws (Gave u s) left
-  unfolding twoExec twoGives binaryGives
+  pub set-made : 2 ≤ t → Room ws 1 → {left : List ℕ} → left ≡ written ws t q u s → Two (binary_form set_op) n t q u s ws (Gave u s) left
+  unfolding two_exec two_gives binary_gives
   set-made l x e =
       rw e
       (record {
@@ -78,39 +78,39 @@ module _ (n t q u s : ℕ) {ws : List ℕ} where
 -- ---- `ref`
 
 module _ (n t q : ℕ) {ws : List ℕ} where
-  pub ref-wrong : deepest ≤ t → One (unaryForm refOp) n t q ws (Stopped (TooManyReferences n)) ws
-  unfolding oneExec unaryExec oneGives unaryGives
+  pub ref-wrong : deepest ≤ t → One (unary_form ref_op) n t q ws (Stopped (TooManyReferences n)) ws
+  unfolding one_exec unary_exec one_gives unary_gives
   ref-wrong l =
       record {
         ruled = ruled-refl ws;
-        yields = λ v p m h. rw (means-type m, lt-leb (suc (suc t)) typeLimit (omega arith)) stopping;
+        yields = λ v p m h. rw (means-type m, lt-leb (suc (suc t)) type_limit (omega arith)) stopping;
         exactly = rw (le-ltb t deepest l) refl;
       }
 
   -- a fresh symbol, at place i, and then the write
   module _ (x : Room ws 1) (l : t < deepest) {i : ℕ} {xs : List ℕ} (f : Fresh made (t + 2) ws i xs) where
-    pub ref-lent : spaceSize ≤ length xs
+    pub ref-lent : space_size ≤ length xs
     ref-lent = omega (arith, f.ruled.went.same, x.lent)
 
-    pub ref-few : writesIn xs < nodeLimit
+    pub ref-few : writes_in xs < node_limit
     ref-few = omega (arith, f.writes, x.writes)
 
-    ref-rows : countIn xs ≤ rowLimit
+    ref-rows : count_in xs ≤ row_limit
     ref-rows = omega (arith, f.most, x.rows)
 
     abbrev left : List ℕ
     left = written xs (t + 2) i t q
 
-    ref-went : Went ws left symbolLimit 1
+    ref-went : Went ws left symbol_limit 1
     ref-went =
         let a = f.ruled.went in
         let b = (written-ruled xs (t + 2) i t q ref-lent ref-few ref-rows).went in
-        let rows = written-before xs (t + 2) i t q ref-lent ref-few ref-rows countAt (λ e. omega arith) (omega arith) in
+        let rows = written-before xs (t + 2) i t q ref-lent ref-few ref-rows count_at (λ e. omega arith) (omega arith) in
         let next = written-before xs (t + 2) i t q ref-lent ref-few ref-rows next_at (λ e. omega arith) (omega arith) in
         record {
           same = b.same ∙ a.same;
           before = λ k h. b.before k h ∙ a.before k h;
-          grown = grown-trans a.grown b.grown;
+          grown = grown_trans a.grown b.grown;
           rows = omega (arith, a.rows, rows);
           symbols = omega (arith, next, a.symbols);
           writes = omega (arith, b.writes, f.writes);
@@ -118,33 +118,33 @@ module _ (n t q : ℕ) {ws : List ℕ} where
           log = λ k g h. b.log k g (omega (arith, h, f.writes)) ∙ a.log k g h;
         }
 
-    ref-symbol : (s : ℕ) → symbol made (t + 2) s ≡ aReference made t s
+    ref-symbol : (s : ℕ) → symbol made (t + 2) s ≡ a_reference made t s
     unfolding symbol
     ref-symbol s = let e : t + 2 ≡ suc (suc t) = omega arith in rw e refl
 
-    made-here : (p : Path) → PathIn ws p → Means xs (t + 2) i (aReference made t p.next)
-    made-here p h = rw (ref-symbol (nextIn ws), h.next) at (f.means h.distinct)
+    made-here : (p : Path) → PathIn ws p → Means xs (t + 2) i (a_reference made t p.next)
+    made-here p h = rw (ref-symbol (next_in ws), h.next) at (f.means h.distinct)
 
-    ref-yields : (v : Symbolic) (p : Path) → Means ws t q v → PathIn ws p → Yields left (Gave (t + 2) i) (unaryExec n refOp v p)
-    unfolding unaryExec
+    ref-yields : (v : Symbolic) (p : Path) → Means ws t q v → PathIn ws p → Yields left (Gave (t + 2) i) (unary_exec n ref_op v p)
+    unfolding unary_exec
     ref-yields v p m h =
-        rw (means-type m, le-leb (suc (suc t)) typeLimit (omega arith))
+        rw (means-type m, le-leb (suc (suc t)) type_limit (omega arith))
         (ending (means-kept (written-grown xs (t + 2) i t q ref-lent ref-few ref-rows) (made-here p h))
         (written-path xs (t + 2) i t q ref-lent ref-few ref-rows (taken p) (f.path p h) (made-here p h) (means-kept f.ruled.went.grown m)))
 
-    pub ref-made : {zs : List ℕ} → zs ≡ left → One (unaryForm refOp) n t q ws (Gave (t + 2) i) zs
-    unfolding oneExec oneGives unaryGives
+    pub ref-made : {zs : List ℕ} → zs ≡ left → One (unary_form ref_op) n t q ws (Gave (t + 2) i) zs
+    unfolding one_exec one_gives unary_gives
     ref-made e =
         rw e
         (record {
-          ruled = ruled-then f.ruled.depth f.ruled.notes (written-ruled xs (t + 2) i t q ref-lent ref-few ref-rows) ref-went;
+          ruled = ruled_then f.ruled.depth f.ruled.notes (written-ruled xs (t + 2) i t q ref-lent ref-few ref-rows) ref-went;
           yields = ref-yields;
           exactly = rw (lt-ltb t deepest l, f.place_is, f.left_is) refl;
         })
 
 -- ---- consistency, what is found, and fresh symbols
 
-log_is : {ws : List ℕ} {b c : Bool} {p : Path} → b ≡ consistentIn ws → PathIn ws p → b ≡ c → consistent p ≡ c
+log_is : {ws : List ℕ} {b c : Bool} {p : Path} → b ≡ consistent_in ws → PathIn ws p → b ≡ c → consistent p ≡ c
 log_is e h z = sym (consistent-is h.log) ∙ sym e ∙ z
 
 nothing-found : {u i : ℕ} → Nothing ≡ Value u i → ⊥
@@ -162,72 +162,72 @@ fresh-yields t c e x {p} h = rw (sym e) (ending (rw h.next at (x.means h.distinc
 
 -- ---- `get`
 
-get_refused : (n : ℕ) {ws : List ℕ} {v : Symbolic} (p : Path) → NoReference v → Yields ws (Stopped (WrongType n)) (unaryExec n getOp v p)
-unfolding unaryExec
-get_refused n p a_word = stopping
-get_refused n p a-truth = stopping
+get_refused : (n : ℕ) {ws : List ℕ} {v : Symbolic} (p : Path) → NoReference v → Yields ws (Stopped (WrongType n)) (unary_exec n get_op v p)
+unfolding unary_exec
+get_refused n p a_word_lem = stopping
+get_refused n p a_truth_lem = stopping
 
 -- what is found is the value
-get-found : (n q : ℕ) {ws : List ℕ} {t u i : ℕ} {v : Symbolic} (p : Path) → PathIn ws p → Refers t q v → Means ws t q v
-    → lookupIn ws q ≡ Value u i → Yields ws (Gave u i) (unaryExec n getOp v p)
-unfolding unaryExec
-get-found n q {ws} {u = u} {i = i} p h (refers {o = o} {c = c} {s = s} r) m e = go (lookupIn ws q) (lookup o s p.log) (lookup-is h.log m) e
+get_found : (n q : ℕ) {ws : List ℕ} {t u i : ℕ} {v : Symbolic} (p : Path) → PathIn ws p → Refers t q v → Means ws t q v
+    → lookup_in ws q ≡ Value u i → Yields ws (Gave u i) (unary_exec n get_op v p)
+unfolding unary_exec
+get_found n q {ws} {u = u} {i = i} p h (refers {o = o} {c = c} {s = s} r) m e = go (lookup_in ws q) (lookup o s p.log) (lookup-is h.log m) e
   where
     go : (f : Found) (r : Option Symbolic) → FoundAs ws f r → f ≡ Value u i → Yields ws (Gave u i) (got n r c p)
     go Nothing none found_none y = absurd (nothing-found y)
     go (Value w j) (some x) (found_some k) y = rw (sym (found_type y), sym (found-place y)) (ending k h)
 
 -- where nothing is found, the log is looked at
-get-nothing : (n q : ℕ) {ws left : List ℕ} {t : ℕ} {r : Step} {v : Symbolic} (p : Path) → PathIn ws p → Refers t q v → Means ws t q v
-    → lookupIn ws q ≡ Nothing → ((c : ℕ) → t ≡ suc (suc c) → Yields left r (pick (consistent p) (fresh c p) (stops (InconsistentLog n))))
-    → Yields left r (unaryExec n getOp v p)
-unfolding unaryExec
-get-nothing n q {ws} {left} {r = r} p h (refers {o = o} {c = c} {s = s} z) m e k = go (lookupIn ws q) (lookup o s p.log) (lookup-is h.log m) e
+get_nothing : (n q : ℕ) {ws left : List ℕ} {t : ℕ} {r : Step} {v : Symbolic} (p : Path) → PathIn ws p → Refers t q v → Means ws t q v
+    → lookup_in ws q ≡ Nothing → ((c : ℕ) → t ≡ suc (suc c) → Yields left r (pick (consistent p) (fresh c p) (stops (InconsistentLog n))))
+    → Yields left r (unary_exec n get_op v p)
+unfolding unary_exec
+get_nothing n q {ws} {left} {r = r} p h (refers {o = o} {c = c} {s = s} z) m e k = go (lookup_in ws q) (lookup o s p.log) (lookup-is h.log m) e
   where
     go : (f : Found) (x : Option Symbolic) → FoundAs ws f x → f ≡ Nothing → Yields left r (got n x c p)
     go Nothing none found_none y = k c refl
     go (Value w j) (some x) (found_some i) y = absurd (nothing-found (sym y))
 
 module _ (n t q : ℕ) {ws : List ℕ} where
-  pub get-wrong : t < 2 → One (unaryForm getOp) n t q ws (Stopped (WrongType n)) ws
-  unfolding oneExec oneGives unaryGives
-  get-wrong l = record { ruled = ruled-refl ws; yields = λ v p m h. get_refused n p (no-reference l m); exactly = rw (lt-ltb t 2 l) refl }
+  pub get_wrong : t < 2 → One (unary_form get_op) n t q ws (Stopped (WrongType n)) ws
+  unfolding one_exec one_gives unary_gives
+  get_wrong l = record { ruled = ruled-refl ws; yields = λ v p m h. get_refused n p (no_reference l m); exactly = rw (lt-ltb t 2 l) refl }
 
-  module _ (l : 2 ≤ t) {f : Found} (d : f ≡ lookupIn ws q) where
-    pub get_value : {u i : ℕ} → f ≡ Value u i → One (unaryForm getOp) n t q ws (Gave u i) ws
-    unfolding oneExec oneGives unaryGives gotGives
+  module _ (l : 2 ≤ t) {f : Found} (d : f ≡ lookup_in ws q) where
+    pub get_value : {u i : ℕ} → f ≡ Value u i → One (unary_form get_op) n t q ws (Gave u i) ws
+    unfolding one_exec one_gives unary_gives got_gives
     get_value y =
         record {
           ruled = ruled-refl ws;
-          yields = λ v p m h. get-found n q p h (refer l m) m (sym d ∙ y);
+          yields = λ v p m h. get_found n q p h (refer l m) m (sym d ∙ y);
           exactly = rw (le-ltb t 2 l, sym d ∙ y) refl;
         }
 
-    module _ (y : f ≡ Nothing) {b : Bool} (e : b ≡ consistentIn ws) where
-      pub get-stopped : b ≡ false → One (unaryForm getOp) n t q ws (Stopped (InconsistentLog n)) ws
-      unfolding oneExec oneGives unaryGives gotGives
-      get-stopped z =
+    module _ (y : f ≡ Nothing) {b : Bool} (e : b ≡ consistent_in ws) where
+      pub get_stopped : b ≡ false → One (unary_form get_op) n t q ws (Stopped (InconsistentLog n)) ws
+      unfolding one_exec one_gives unary_gives got_gives
+      get_stopped z =
           record {
             ruled = ruled-refl ws;
-            yields = λ v p m h. get-nothing n q p h (refer l m) m (sym d ∙ y) λ c k. rw (log_is e h z) stopping;
+            yields = λ v p m h. get_nothing n q p h (refer l m) m (sym d ∙ y) λ c k. rw (log_is e h z) stopping;
             exactly = rw (le-ltb t 2 l, sym d ∙ y, sym e ∙ z) refl;
           }
 
-      pub get-fresh : b ≡ true → {i : ℕ} {left : List ℕ} → Fresh other (t - 2) ws i left → One (unaryForm getOp) n t q ws (Gave (t - 2) i) left
-      unfolding oneExec oneGives unaryGives gotGives
-      get-fresh z x =
+      pub get_fresh : b ≡ true → {i : ℕ} {left : List ℕ} → Fresh other (t - 2) ws i left → One (unary_form get_op) n t q ws (Gave (t - 2) i) left
+      unfolding one_exec one_gives unary_gives got_gives
+      get_fresh z x =
           record {
             ruled = x.ruled;
-            yields = λ v p m h. get-nothing n q p h (refer l m) m (sym d ∙ y) λ c k. rw (log_is e h z) (fresh-yields (t - 2) c (omega arith) x h);
+            yields = λ v p m h. get_nothing n q p h (refer l m) m (sym d ∙ y) λ c k. rw (log_is e h z) (fresh-yields (t - 2) c (omega arith) x h);
             exactly = rw (le-ltb t 2 l, sym d ∙ y, sym e ∙ z, x.place_is, x.left_is) refl;
           }
 
 -- ---- after a typed block
 
-module _ (n t : ℕ) {ws : List ℕ} {b : Bool} (e : b ≡ consistentIn ws) where
-  pub block-stopped : b ≡ false → After n t ws (Stopped (InconsistentLog n)) ws
-  unfolding typedResult
-  block-stopped z =
+module _ (n t : ℕ) {ws : List ℕ} {b : Bool} (e : b ≡ consistent_in ws) where
+  pub block_stopped : b ≡ false → After n t ws (Stopped (InconsistentLog n)) ws
+  unfolding typed_result
+  block_stopped z =
       record {
         ruled = ruled-refl ws;
         yields = λ p h. rw (log_is e h z) stopping;
@@ -237,33 +237,33 @@ module _ (n t : ℕ) {ws : List ℕ} {b : Bool} (e : b ≡ consistentIn ws) wher
   -- no write counts any more
   module _ (x : Room ws 1) where
     emptied-other : (k : ℕ) → (k ≡ start_at → ⊥) → get_or (emptied ws) k 0 ≡ get_or ws k 0
-    emptied-other k d = get_or-set_other ws start_at k (writesIn ws) 0 d
+    emptied-other k d = get_or-set_other ws start_at k (writes_in ws) 0 d
 
-    emptied-writes : writesIn (emptied ws) ≡ writesIn ws
+    emptied-writes : writes_in (emptied ws) ≡ writes_in ws
     emptied-writes = emptied-other writes_at λ e. omega arith
 
-    emptied-start : start_in (emptied ws) ≡ writesIn ws
-    emptied-start = get_or-set_same ws start_at (writesIn ws) 0 (omega (arith, x.lent))
+    emptied-start : start_in (emptied ws) ≡ writes_in ws
+    emptied-start = get_or-set_same ws start_at (writes_in ws) 0 (omega (arith, x.lent))
 
     emptied-grown : Grown ws (emptied ws)
     emptied-grown =
-        let c = emptied-other countAt (λ e. omega arith) in
+        let c = emptied-other count_at (λ e. omega arith) in
         record { grows = omega arith; rows = λ k h l. emptied-other k λ z. omega (arith, l, x.rows) }
 
     emptied-path : {p : Path} → PathIn ws p → PathIn (emptied ws) (forget p)
     emptied-path h =
-        let k = emptied-other countAt (λ e. omega arith) in
-        path-moved emptied-grown (still-distinct emptied-grown (omega (arith, k)) h.distinct) (emptied-other conditionAt (λ e. omega arith))
-        (emptied-other next_at (λ e. omega arith) ∙ h.next) (rw (emptied-writes, emptied-start) noWrite)
-        (still-known (λ j l. emptied-other j λ e. omega arith) emptied-grown h.remembers) h
+        let k = emptied-other count_at (λ e. omega arith) in
+        path_moved emptied-grown (still_distinct emptied-grown (omega (arith, k)) h.distinct) (emptied-other condition_at (λ e. omega arith))
+        (emptied-other next_at (λ e. omega arith) ∙ h.next) (rw (emptied-writes, emptied-start) no_write)
+        (still_known (λ j l. emptied-other j λ e. omega arith) emptied-grown h.remembers) h
 
-    emptied-went : Went ws (emptied ws) symbolLimit 0
+    emptied-went : Went ws (emptied ws) symbol_limit 0
     emptied-went =
         record {
-          same = length-set ws start_at (writesIn ws);
+          same = length-set ws start_at (writes_in ws);
           before = λ k l. emptied-other k λ z. omega arith;
           grown = emptied-grown;
-          rows = omega (arith, emptied-other countAt (λ e. omega arith));
+          rows = omega (arith, emptied-other count_at (λ e. omega arith));
           symbols = omega (arith, emptied-other next_at (λ e. omega arith));
           writes = omega (arith, emptied-writes);
           logged = omega (arith, emptied-writes);
@@ -271,14 +271,14 @@ module _ (n t : ℕ) {ws : List ℕ} {b : Bool} (e : b ≡ consistentIn ws) wher
         }
 
     pub emptied-room : Room (emptied ws) 1
-    emptied-room = room-on x emptied-went
+    emptied-room = room_on x emptied-went
 
     pub block_made : b ≡ true → {i : ℕ} {left : List ℕ} → Fresh other t (emptied ws) i left → After n t ws (Gave t i) left
-    unfolding typedResult
+    unfolding typed_result
     block_made z y =
         record {
-          ruled = ruled-then (emptied-other depthAt λ e. omega arith) (record { each = λ k l h. emptied-other k λ z. omega arith }) y.ruled
-              (went-trans (omega arith) emptied-went y.ruled.went);
+          ruled = ruled_then (emptied-other depth_at λ e. omega arith) (record { each = λ k l h. emptied-other k λ z. omega arith }) y.ruled
+              (went_trans (omega arith) emptied-went y.ruled.went);
           yields = λ p h. rw (log_is e h z) (fresh-yields t t refl y (emptied-path h));
           exactly = rw (sym e ∙ z, y.place_is, y.left_is) refl;
         }

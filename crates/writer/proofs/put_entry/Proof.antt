@@ -2,7 +2,7 @@
 use borrow.Author.Rules.{rules}
 use native.Mathlib.Omega.{arith}
 use lib.ListN.{length-append}
-use Rattle.text.specs.Code.Output.Laws.{put_one, put_then, put-length}
+use Rattle.text.specs.Code.Output.Laws.{put_one, put_then, put_length}
 use Rattle.writer.proofs.put_entry.Statement.{statement}
 use Rattle.writer.proofs.put_entry.Tie as tie
 
@@ -31,5 +31,5 @@ put-entry-spec =
     put-type-requires
     (λ c κs. search rules)
     add-result
-    (λ c. put-length (returns c))
+    (λ c. put_length (returns c))
     returns)

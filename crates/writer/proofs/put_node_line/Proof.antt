@@ -1,7 +1,7 @@
 -- `writer::put_node_line` meets its contract: the word, the operands that the kind takes and the line's end in a row. Assumes nothing.
 use borrow.Author.Rules.{rules}
 use native.Mathlib.Omega.{arith}
-use Rattle.text.specs.Code.Output.Laws.{put_one, put_then, put-length}
+use Rattle.text.specs.Code.Output.Laws.{put_one, put_then, put_length}
 use Rattle.text.specs.Code.Output.Lines.{node-parts, node-length}
 use Rattle.writer.proofs.put_node_line.Statement.{statement}
 use Rattle.writer.proofs.put_node_line.Tie as tie
@@ -59,5 +59,5 @@ put-node-line-spec =
     put-operand-requires-3
     (λ c κs. search rules)
     add-result
-    (λ c. put-length (returns c))
+    (λ c. put_length (returns c))
     returns)

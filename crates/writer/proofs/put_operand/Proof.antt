@@ -1,7 +1,7 @@
 -- `writer::put_operand` meets its contract: nothing, or a tab and the number. Assumes nothing.
 use borrow.Author.Rules.{rules}
 use native.Mathlib.Omega.{arith}
-use Rattle.text.specs.Code.Output.Laws.{put-none, put_one, put_then, put-length}
+use Rattle.text.specs.Code.Output.Laws.{put_none, put_one, put_then, put_length}
 use Rattle.writer.proofs.put_operand.Statement.{statement}
 use Rattle.writer.proofs.put_operand.Tie as tie
 
@@ -15,7 +15,7 @@ returns : tie.Need-returns
 returns c = rw c.before.before.before.before.before.before.before.before.if1.true (put_then (put_one c.before.before.before.before.before.before.put.ensures) c.before.before.put-number.ensures)
 
 returns-2 : tie.Need-returns-2
-returns-2 c = rw c.if1.false (put-none _ _)
+returns-2 c = rw c.if1.false (put_none _ _)
 
 pub put-operand-spec : {M : Type 1} → statement M
 put-operand-spec =
@@ -24,6 +24,6 @@ put-operand-spec =
     (λ c κs. search rules)
     add-put-number
     put-number-requires
-    (λ c. put-length (returns c))
+    (λ c. put_length (returns c))
     returns
     returns-2)

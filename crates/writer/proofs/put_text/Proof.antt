@@ -1,8 +1,8 @@
 -- `writer::put_text` meets its contract: a table that passed its tests lends what its lines need. Assumes nothing.
 use native.Mathlib.Omega.{arith}
-use Rattle.script.specs.Flat.{tableIn}
-use Rattle.text.specs.Code.Output.Laws.{put-length}
-use Rattle.text.specs.Code.Output.Passed.{entries-lent, nodes-lent, kinds-known, parts-most, put-parts}
+use Rattle.script.specs.Flat.{table_in}
+use Rattle.text.specs.Code.Output.Laws.{put_length}
+use Rattle.text.specs.Code.Output.Passed.{entries-lent, nodes-lent, kinds_known, parts-most, put_parts}
 use Rattle.writer.proofs.put_text.Statement.{statement}
 use Rattle.writer.proofs.put_text.Tie as tie
 
@@ -20,14 +20,14 @@ put-nodes-requires c κs =
     let m = parts-most a.table.now a.nodes a.entries.now a.entry-count s.requires in
     let k = c.before.before.before.put_entries.ensures.next-is in (
       nodes-lent a.table.now a.nodes a.entries.now a.entry-count s.requires,
-      (kinds-known a.table.now a.nodes a.entries.now a.entry-count s.requires, omega arith),
+      (kinds_known a.table.now a.nodes a.entries.now a.entry-count s.requires, omega arith),
     )
 
 returns : tie.Need-returns
 returns c =
     let a = c.before.before.before.before.before.before.before.before.before.before.before.args in
-    put-parts (tableIn a.table.now a.nodes a.entries.now a.entry-count) c.before.before.before.before.before.before.put_entries.ensures c.before.before.put-nodes.ensures
+    put_parts (table_in a.table.now a.nodes a.entries.now a.entry-count) c.before.before.before.before.before.before.put_entries.ensures c.before.before.put-nodes.ensures
 
 pub put-text-spec : {M : Type 1} → statement M
 put-text-spec =
-    tie.close (tie.spec put-entries-requires put-nodes-requires (λ c. put-length (returns c)) returns)
+    tie.close (tie.spec put-entries-requires put-nodes-requires (λ c. put_length (returns c)) returns)

@@ -2,7 +2,7 @@
 use Prim.Native.Nat.{◌-◌}
 use native.Mathlib.Omega.{arith}
 use borrow.Author.Tests.{not-true, not-false}
-use Rattle.cells.specs.Tests.{Passed, passed_start, passed-next, passed-bad, passed-all}
+use Rattle.cells.specs.Tests.{Passed, passed_start, passed-next, passed_bad, passed-all}
 use Rattle.cells.proofs.tests.all_valid.Statement.{statement}
 use Rattle.cells.proofs.tests.all_valid.Tie as tie
 
@@ -15,7 +15,7 @@ decreases-loop bytes count used i₀ i = count - i
 returns : tie.Need-returns invariant-loop decreases-loop
 returns c =
     let v = c.before.valid in
-    passed-bad v.ensures (not-true v.result c.if1.true) c.before.before.loop-test.true c.before.before.before.loop.invariant
+    passed_bad v.ensures (not-true v.result c.if1.true) c.before.before.loop-test.true c.before.before.before.loop.invariant
 
 loop-again : tie.Need-loop-preserved invariant-loop decreases-loop
 loop-again c =

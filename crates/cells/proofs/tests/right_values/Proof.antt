@@ -1,6 +1,6 @@
 -- `cells::tests::right_values` meets its contract: test by test, the values before the used cells. Assumes nothing.
 use borrow.Author.Rules.{rules}
-use Rattle.cells.specs.Tests.{used-lent, other-count, broken-cell, bad-value, values-right}
+use Rattle.cells.specs.Tests.{used-lent, other-count, broken_cell, bad_value, values-right}
 use Rattle.cells.proofs.tests.right_values.Statement.{statement}
 use Rattle.cells.proofs.tests.right_values.Tie as tie
 
@@ -22,7 +22,7 @@ returns c =
 returns-2 : tie.Need-returns-2
 returns-2 c =
     let a = c.before.before.before.before.before.before.args in
-    bad-value a.entries a.values.now a.cells.now a.used
+    bad_value a.entries a.values.now a.cells.now a.used
     c.before.before.before.if1.true
     c.before.before.if2.true
     c.before.all_valid.ensures
@@ -31,7 +31,7 @@ returns-2 c =
 returns-3 : tie.Need-returns-3
 returns-3 c =
     let a = c.before.before.before.before.args in
-    broken-cell a.entries a.values.now a.cells.now a.used c.if2.false c.before.if1.true
+    broken_cell a.entries a.values.now a.cells.now a.used c.if2.false c.before.if1.true
 
 returns-4 : tie.Need-returns-4
 returns-4 c =

@@ -2,8 +2,8 @@
 use borrow.Author.Rules.{rules}
 use Prim.Native.Nat.{◌+◌, ◌*◌}
 use native.Mathlib.Omega.{arith}
-use Rattle.workspace.specs.Places.{base_at, frameWidth}
-use Rattle.checker.specs.Code.Going.Rewinding.{Restoring, restoring-start, restoring-less, restoring-on, restoring-end}
+use Rattle.workspace.specs.Places.{base_at, frame_width}
+use Rattle.checker.specs.Code.Going.Rewinding.{Restoring, restoring_start, restoring_less, restoring_on, restoring_end}
 use Rattle.checker.proofs.forks.restore.Statement.{statement}
 use Rattle.checker.proofs.forks.restore.Tie as tie
 
@@ -20,7 +20,7 @@ slice-read-d : tie.Need-slice-read-d invariant-loop decreases-loop
 slice-read-d c = omega (arith, c.before.before.before.before.requires.lent)
 
 loop-holds : tie.Need-loop-init invariant-loop decreases-loop
-loop-holds c = restoring-start c.before.before.before.before.requires
+loop-holds c = restoring_start c.before.before.before.before.requires
 
 slice-read-if1 : tie.Need-slice-read-if1 invariant-loop decreases-loop
 slice-read-if1 c = omega (arith, c.before.before.before.before.before.before.requires.lent, c.before.loop.invariant.same)
@@ -40,19 +40,19 @@ shared-slice-read-f-2 : tie.Need-shared-slice-read-f-2 invariant-loop decreases-
 shared-slice-read-f-2 c = omega (arith, c.before.before.before.before.before.before.before.loop.invariant.inside, c.before.before.before.before.before.before.before.before.before.before.before.before.requires.inside, c.before.before.before.before.before.before.before.before.before.before.before.before.requires.framed)
 
 cast-f-2 : tie.Need-overflow-cast-f-2 invariant-loop decreases-loop
-cast-f-2 c = omega (arith, c.shared-slice-known3.given (frameWidth * c.before.before.before.before.before.before.before.loop.f + 1))
+cast-f-2 c = omega (arith, c.shared-slice-known3.given (frame_width * c.before.before.before.before.before.before.before.loop.f + 1))
 
 loop-less : tie.Need-loop-smaller invariant-loop decreases-loop
-loop-less c = restoring-less c.before.before.before.before.before.before.before.before.before.before.before.before.requires c.before.before.before.before.before.before.before.loop.invariant c.before.before.before.before.before.if1.true c.before.before.before.restore-one.ensures
+loop-less c = restoring_less c.before.before.before.before.before.before.before.before.before.before.before.before.requires c.before.before.before.before.before.before.before.loop.invariant c.before.before.before.before.before.if1.true c.before.before.before.restore-one.ensures
 
 loop-again : tie.Need-loop-preserved invariant-loop decreases-loop
-loop-again c = restoring-on c.before.before.before.before.before.before.before.before.before.before.before.before.requires c.before.before.before.before.before.before.before.loop.invariant c.before.before.before.before.before.if1.true c.before.before.before.restore-one.ensures
+loop-again c = restoring_on c.before.before.before.before.before.before.before.before.before.before.before.before.requires c.before.before.before.before.before.before.before.loop.invariant c.before.before.before.before.before.if1.true c.before.before.before.restore-one.ensures
 
 same_length : tie.Need-same-length invariant-loop decreases-loop
 same_length c = c.before.before.loop.invariant.same
 
 returns : tie.Need-returns invariant-loop decreases-loop
-returns c = restoring-end c.before.before.before.before.before.before.before.requires c.before.before.loop.invariant c.if1.false
+returns c = restoring_end c.before.before.before.before.before.before.before.requires c.before.before.loop.invariant c.if1.false
 
 pub restore-spec : {M : Type 1} → statement M
 restore-spec =

@@ -6,14 +6,14 @@ use mathlib.Core.Path.{refl, sym, ◌∙◌}
 use Prim.Native.Nat.{◌+◌, ◌*◌, ◌-◌}
 use native.Mathlib.Omega.{arith}
 use Rattle.script.specs.Code.Forms.{has_one, has_more, some-operand}
-use Rattle.workspace.specs.Frames.{topIn}
-use Rattle.workspace.specs.Frames.Laws.{waits-none}
+use Rattle.workspace.specs.Frames.{top_in}
+use Rattle.workspace.specs.Frames.Laws.{waits_none}
 use Rattle.workspace.specs.Paths.Empty.{blank}
-use Rattle.workspace.specs.Rules.Blocks.{block-small, block-recallables, block-recalled, judged-lent, block-judged, block_noted}
-use Rattle.workspace.specs.Rules.Typed.{some_of, several-no-sym, leaf-judged, first-earlier, first-checkable, sym-judged, one-judged, rest-checkable, rest-judged, first-refused, bind-room, second-earlier, second-checkable, third-earlier, third-checkable, if-judged, third-refused, two-judged, second-refused}
-use Rattle.checker.specs.Code.Going.Arriving.{up-node, up-space, up-earlier, up-checkable, up-noting, up-refused, up_room, up-returnable, up-climbing, up-stopping}
-use Rattle.checker.specs.Code.Going.Steps.{enters-formed, descends-other}
-use Rattle.checker.specs.Code.Going.Walking.{Walking, walking_start, walking-descendable, walking-enterable, walking-earlier, walking-less, walking_on, walking-stopped, walking-end, walking-ended, Turn, turn-start, turn-walkable, turn-none, turn-wrong, turn_last, turn_more, no_frames}
+use Rattle.workspace.specs.Rules.Blocks.{block_small, block_recallables, block_recalled, judged_lent, block_judged, block_noted}
+use Rattle.workspace.specs.Rules.Typed.{some_of, several_no_sym, leaf_judged, first-earlier, first_checkable, sym_judged, one_judged, rest_checkable, rest_judged, first-refused, bind-room, second-earlier, second_checkable, third_earlier, third_checkable, if_judged, third_refused, two_judged, second-refused}
+use Rattle.checker.specs.Code.Going.Arriving.{up-node, up-space, up-earlier, up_checkable, up_noting, up-refused, up_room, up-returnable, up_climbing, up-stopping}
+use Rattle.checker.specs.Code.Going.Steps.{enters_formed, descends_other}
+use Rattle.checker.specs.Code.Going.Walking.{Walking, walking_start, walking_descendable, walking-enterable, walking-earlier, walking_less, walking_on, walking-stopped, walking_end, walking-ended, Turn, turn-start, turn_walkable, turn-none, turn-wrong, turn_last, turn_more, no_frames}
 use Prim.Native.Nat.{ℕ, ◌<◌}
 use borrow.Fn.Kinds.{In}
 use borrow.Fn.PlainCycle.{Measures, is, falls, and}
@@ -243,10 +243,10 @@ abbrev walk-Inv-loop : walk-lts.invariant-loop
 walk-Inv-loop table space₀ frames₀ limit n m first wanted next₀ space frames next = Walking limit table n m space₀ frames₀ space frames next
 
 abbrev walk-μ-loop : walk-lts.decreases-loop
-walk-μ-loop table space₀ frames₀ limit n m first wanted next₀ space frames next = 128 - topIn frames
+walk-μ-loop table space₀ frames₀ limit n m first wanted next₀ space frames next = 128 - top_in frames
 
 arrive-node-at-requires : (t : ℕ) → arrive-lts.Need-node-at-requires (arrive-calls t) (arrive-at t) arrive.Post
-arrive-node-at-requires t c κs = omega (arith, (enters-formed c.before.before.before.requires.1.0.entering).room)
+arrive-node-at-requires t c κs = omega (arith, (enters_formed c.before.before.before.requires.1.0.entering).room)
 
 arrive-block-up-requires : (t : ℕ) → arrive-lts.Need-block-up-requires (arrive-calls t) (arrive-at t) arrive.Post
 arrive-block-up-requires t c κs =
@@ -260,14 +260,14 @@ arrive-returns t c = c.before.before.before.before.block_up.ensures
 arrive-leaf-up-requires : (t : ℕ) → arrive-lts.Need-leaf-up-requires (arrive-calls t) (arrive-at t) arrive.Post
 arrive-leaf-up-requires t c κs =
     let s = c.before.before.before.before.before.before.before.before.requires in
-    let l = waits-none _ s.1.1 (rw c.before.before.before.before.Node-at.ensures at c.before.before.if1.false) in
+    let l = waits_none _ s.1.1 (rw c.before.before.before.before.Node-at.ensures at c.before.before.if1.false) in
     record { leaf = l; limit = _; enterable = s.1.0 }
 
 arrive-returns-2 : (t : ℕ) → arrive-lts.Need-returns-2 (arrive-calls t) (arrive-at t) arrive.Post
 arrive-returns-2 t c = c.before.before.before.before.leaf-up.ensures.each _
 
 block-type-recall-requires : (t : ℕ) → block-type-lts.Need-recall-requires (block-type-calls t) (block-type-at t) block_type.Post
-block-type-recall-requires t c κs = let s = c.before.before.before.requires in block-recallables s.1.0 s.1.1
+block-type-recall-requires t c κs = let s = c.before.before.before.requires in block_recallables s.1.0 s.1.1
 
 block-type-check-node-requires : (t : ℕ) → block-type-lts.Need-check-node-requires (block-type-calls t) (block-type-at t) block_type.Post
 block-type-check-node-requires t c κs = let s = c.before.before.before.before.before.before.before.requires in (omega (arith, s.0), s.1.0)
@@ -276,17 +276,17 @@ block-type-note-requires : (t : ℕ) → block-type-lts.Need-note-requires (bloc
 block-type-note-requires t c κs =
     let s = c.before.before.before.before.before.before.before.before.before.before.before.before.before.before.requires in
     let j = c.before.before.before.before.before.before.check-node.ensures in
-    (s.1.0.formed, (block-small s.1.0 s.1.1, judged-lent s.1.0 s.1.1 j))
+    (s.1.0.formed, (block_small s.1.0 s.1.1, judged_lent s.1.0 s.1.1 j))
 
 block-type-returns : (t : ℕ) → block-type-lts.Need-returns (block-type-calls t) (block-type-at t) block_type.Post
 block-type-returns t c =
     let s = c.before.before.before.before.before.before.before.requires in
-    block-recalled s.1.0 s.1.1 c.before.before.before.recall.ensures c.before.t.given.1
+    block_recalled s.1.0 s.1.1 c.before.before.before.recall.ensures c.before.t.given.1
 
 block-type-returns-2 : (t : ℕ) → block-type-lts.Need-returns-2 (block-type-calls t) (block-type-at t) block_type.Post
 block-type-returns-2 t c =
     let s = c.before.before.before.before.before.before.before.before.before.before.before.before.before.requires in
-    block-judged s.1.0 s.1.1 c.before.before.before.before.before.check-node.ensures c.before.why.given.1
+    block_judged s.1.0 s.1.1 c.before.before.before.before.before.check-node.ensures c.before.why.given.1
 
 block-type-returns-3 : (t : ℕ) → block-type-lts.Need-returns-3 (block-type-calls t) (block-type-at t) block_type.Post
 block-type-returns-3 t c =
@@ -303,7 +303,7 @@ block-up-block-type-requires : (t : ℕ) → block-up-lts.Need-block-type-requir
 block-up-block-type-requires t c κs =
     let s = c.before.before.before.before.before.before.requires in
     let node = c.before.before.Node-at.ensures in
-    rw node (omega (arith, up-earlier s.1.0 s.1.1, s.0), (up-checkable s.1.0 s.1.1, up-noting s.1.0 s.1.1))
+    rw node (omega (arith, up-earlier s.1.0 s.1.1, s.0), (up_checkable s.1.0 s.1.1, up_noting s.1.0 s.1.1))
 
 block-up-typed-result-requires : (t : ℕ) → block-up-lts.Need-typed-result-requires (block-up-calls t) (block-up-at t) block_up.Post
 block-up-typed-result-requires t c κs =
@@ -346,7 +346,7 @@ block-up-returns-3 t c =
     let at-start = at-node-at.before.before.before.before in
     let s = at-start.requires in
     let b = rw at-node-at.Node-at.ensures at at-block-type.block_type.ensures in
-    up-climbing s.1.0 s.1.1 b at-t.t.given.1 at-typed-result.typed-result.ensures at-u.u.given.1 at-climb.climb.ensures
+    up_climbing s.1.0 s.1.1 b at-t.t.given.1 at-typed-result.typed-result.ensures at-u.u.given.1 at-climb.climb.ensures
 
 check-node-node-at-requires : (t : ℕ) → check-node-lts.Need-node-at-requires (check-node-calls t) (check-node-at t) check-node.Post
 check-node-node-at-requires t c κs = omega (arith, c.before.before.requires.1.formed.room)
@@ -361,7 +361,7 @@ check-node-returns t c =
     let s = c.before.before.before.before.before.before.before.requires in
     let q = s.1 in
     let node = c.before.before.before.before.Node-at.ensures in
-    leaf-judged q _ (rw node at c.before.before.if1.true) (rw node at c.leaf_type.ensures)
+    leaf_judged q _ (rw node at c.before.before.if1.true) (rw node at c.leaf_type.ensures)
 
 check-node-paths-requires : (t : ℕ) → check-node-lts.Need-paths-requires (check-node-calls t) (check-node-at t) check-node.Post
 check-node-paths-requires t c κs =
@@ -369,14 +369,14 @@ check-node-paths-requires t c κs =
     let q = s.1 in
     let node = c.before.before.before.before.before.Node-at.ensures in
     let h = some-operand q.formed (rw node at c.before.before.before.if1.false) in
-    rw node (omega (arith, s.0), (first-checkable q h, first-earlier q h))
+    rw node (omega (arith, s.0), (first_checkable q h, first-earlier q h))
 
 check-node-returns-2 : (t : ℕ) → check-node-lts.Need-returns-2 (check-node-calls t) (check-node-at t) check-node.Post
 check-node-returns-2 t c =
     let s = c.before.before.before.before.before.before.before.before.before.before.requires in
     let q = s.1 in
     let node = c.before.before.before.before.before.before.before.Node-at.ensures in
-    rw c.copied.ensures (sym-judged q _ (rw node at c.before.before.before.if2.true) (rw node at c.before.paths.ensures))
+    rw c.copied.ensures (sym_judged q _ (rw node at c.before.before.before.if2.true) (rw node at c.before.paths.ensures))
 
 check-node-check-node-requires : (t : ℕ) → check-node-lts.Need-check-node-requires (check-node-calls t) (check-node-at t) check-node.Post
 check-node-check-node-requires t c κs =
@@ -384,7 +384,7 @@ check-node-check-node-requires t c κs =
     let q = s.1 in
     let node = c.before.before.before.before.before.before.before.Node-at.ensures in
     let h = some-operand q.formed (rw node at c.before.before.before.before.before.if1.false) in
-    rw node (omega (arith, first-earlier q h, s.0), first-checkable q h)
+    rw node (omega (arith, first-earlier q h, s.0), first_checkable q h)
 
 check-node-returns-3 : (t : ℕ) → check-node-lts.Need-returns-3 (check-node-calls t) (check-node-at t) check-node.Post
 check-node-returns-3 t c =
@@ -403,7 +403,7 @@ check-node-returns-4 t c =
     let h = some-operand q.formed (rw node at c.before.before.before.before.before.before.before.before.before.before.before.before.if1.false) in
     let d = rw node at c.before.before.before.before.before.before.check-node.ensures in
     let z = has_one _ (rw node at c.before.before.before.before.before.before.before.before.before.has_one.ensures) c.before.before.before.before.before.before.before.before.if3.true in
-    one-judged q h _ d c.before.before.t.given.1 z (rw node at c.before.before.before.before.before.before.before.before.before.before.if2.false) (rw node at c.one_type.ensures)
+    one_judged q h _ d c.before.before.t.given.1 z (rw node at c.before.before.before.before.before.before.before.before.before.before.if2.false) (rw node at c.one_type.ensures)
 
 check-node-check-several-requires : (t : ℕ) → check-node-lts.Need-check-several-requires (check-node-calls t) (check-node-at t) check-node.Post
 check-node-check-several-requires t c κs =
@@ -425,7 +425,7 @@ check-several-operand-type-requires t c κs =
     let q = s.1.0 in
     let h = some_of s.1.1 in
     let node = c.before.Node-at.ensures in
-    rw node (omega (arith, first-earlier q h, s.0), first-checkable q h)
+    rw node (omega (arith, first-earlier q h, s.0), first_checkable q h)
 
 check-several-bind-type-requires : (t : ℕ) → check-several-lts.Need-bind-type-requires (check-several-calls t) (check-several-at t) check-several.Post
 check-several-bind-type-requires t c κs =
@@ -434,7 +434,7 @@ check-several-bind-type-requires t c κs =
     let h = some_of s.1.1 in
     let node = c.before.before.before.before.before.before.before.before.Node-at.ensures in
     let d = rw node at c.before.before.before.before.before.before.operand_type.ensures in
-    let r = rest-checkable q h _ d c.before.before.t.given.1 s.1.1 in
+    let r = rest_checkable q h _ d c.before.before.t.given.1 s.1.1 in
     (bind-room r, r.lent)
 
 check-several-operand-type-requires-2 : (t : ℕ) → check-several-lts.Need-operand-type-requires-2 (check-several-calls t) (check-several-at t) check-several.Post
@@ -444,9 +444,9 @@ check-several-operand-type-requires-2 t c κs =
     let h = some_of s.1.1 in
     let node = c.before.before.before.before.before.before.before.before.before.before.before.before.Node-at.ensures in
     let d = rw node at c.before.before.before.before.before.before.before.before.before.before.operand_type.ensures in
-    let r = rest-checkable q h _ d c.before.before.before.before.before.before.t.given.1 s.1.1 in
+    let r = rest_checkable q h _ d c.before.before.before.before.before.before.t.given.1 s.1.1 in
     let b = rw node at c.before.before.before.bind-type.ensures in
-    rw node (omega (arith, second-earlier r, s.0), second-checkable r b)
+    rw node (omega (arith, second-earlier r, s.0), second_checkable r b)
 
 check-several-operand-type-requires-3 : (t : ℕ) → check-several-lts.Need-operand-type-requires-3 (check-several-calls t) (check-several-at t) check-several.Post
 check-several-operand-type-requires-3 t c κs =
@@ -455,11 +455,11 @@ check-several-operand-type-requires-3 t c κs =
     let h = some_of s.1.1 in
     let node = c.before.before.before.before.before.before.before.before.before.before.before.before.before.before.before.before.before.before.before.before.before.Node-at.ensures in
     let d = rw node at c.before.before.before.before.before.before.before.before.before.before.before.before.before.before.before.before.before.before.before.operand_type.ensures in
-    let r = rest-checkable q h _ d c.before.before.before.before.before.before.before.before.before.before.before.before.before.before.before.t.given.1 s.1.1 in
+    let r = rest_checkable q h _ d c.before.before.before.before.before.before.before.before.before.before.before.before.before.before.before.t.given.1 s.1.1 in
     let b = rw node at c.before.before.before.before.before.before.before.before.before.before.before.before.bind-type.ensures in
     let e = rw node at c.before.before.before.before.before.before.before.before.operand-type2.ensures in
     let i = rw node at c.before.if1.true in
-    rw node (omega (arith, third-earlier r b _ e i, s.0), third-checkable r b _ e i)
+    rw node (omega (arith, third_earlier r b _ e i, s.0), third_checkable r b _ e i)
 
 check-several-returns : (t : ℕ) → check-several-lts.Need-returns (check-several-calls t) (check-several-at t) check-several.Post
 check-several-returns t c =
@@ -478,12 +478,12 @@ check-several-returns t c =
     let h = some_of s.1.1 in
     let node = at-node-at.Node-at.ensures in
     let d = rw node at at-operand-type.operand_type.ensures in
-    let r = rest-checkable q h _ d at-t.t.given.1 s.1.1 in
+    let r = rest_checkable q h _ d at-t.t.given.1 s.1.1 in
     let b = rw node at at-bind-type.bind-type.ensures in
     let e = rw node at at-operand-type2.operand-type2.ensures in
     let i = rw node at at-if1.if1.true in
-    rest-judged q h _ d at-t.t.given.1 s.1.1
-    (third-refused r b _ e i at-u.u.given.1 (rw node at at-operand-type3.operand-type3.ensures) at-why3.why3.given.1)
+    rest_judged q h _ d at-t.t.given.1 s.1.1
+    (third_refused r b _ e i at-u.u.given.1 (rw node at at-operand-type3.operand-type3.ensures) at-why3.why3.given.1)
 
 check-several-returns-2 : (t : ℕ) → check-several-lts.Need-returns-2 (check-several-calls t) (check-several-at t) check-several.Post
 check-several-returns-2 t c =
@@ -502,12 +502,12 @@ check-several-returns-2 t c =
     let h = some_of s.1.1 in
     let node = at-node-at.Node-at.ensures in
     let d = rw node at at-operand-type.operand_type.ensures in
-    let r = rest-checkable q h _ d at-t.t.given.1 s.1.1 in
+    let r = rest_checkable q h _ d at-t.t.given.1 s.1.1 in
     let b = rw node at at-bind-type.bind-type.ensures in
     let e = rw node at at-operand-type2.operand-type2.ensures in
     let i = rw node at at-if1.if1.true in
-    rest-judged q h _ d at-t.t.given.1 s.1.1
-    (if-judged r b _ e i at-u.u.given.1 (rw node at at-operand-type3.operand-type3.ensures) at-v.v.given.1 c.if-type.ensures)
+    rest_judged q h _ d at-t.t.given.1 s.1.1
+    (if_judged r b _ e i at-u.u.given.1 (rw node at at-operand-type3.operand-type3.ensures) at-v.v.given.1 c.if_type_lem.ensures)
 
 check-several-returns-3 : (t : ℕ) → check-several-lts.Need-returns-3 (check-several-calls t) (check-several-at t) check-several.Post
 check-several-returns-3 t c =
@@ -516,7 +516,7 @@ check-several-returns-3 t c =
     let h = some_of s.1.1 in
     let node = c.before.before.before.before.before.before.before.Node-at.ensures in
     let d = rw node at c.before.before.before.before.before.operand_type.ensures in
-    first-refused q h _ d c.before.why.given.1 (several-no-sym s.1.1)
+    first-refused q h _ d c.before.why.given.1 (several_no_sym s.1.1)
 
 check-several-returns-4 : (t : ℕ) → check-several-lts.Need-returns-4 (check-several-calls t) (check-several-at t) check-several.Post
 check-several-returns-4 t c =
@@ -525,10 +525,10 @@ check-several-returns-4 t c =
     let h = some_of s.1.1 in
     let node = c.before.before.before.before.before.before.before.before.before.before.before.before.before.before.before.before.before.before.Node-at.ensures in
     let d = rw node at c.before.before.before.before.before.before.before.before.before.before.before.before.before.before.before.before.operand_type.ensures in
-    let r = rest-checkable q h _ d c.before.before.before.before.before.before.before.before.before.before.before.before.t.given.1 s.1.1 in
+    let r = rest_checkable q h _ d c.before.before.before.before.before.before.before.before.before.before.before.before.t.given.1 s.1.1 in
     let b = rw node at c.before.before.before.before.before.before.before.before.before.bind-type.ensures in
     let e = rw node at c.before.before.before.before.before.operand-type2.ensures in
-    rest-judged q h _ d c.before.before.before.before.before.before.before.before.before.before.before.before.t.given.1 s.1.1 (second-refused r b _ e c.before.why2.given.1)
+    rest_judged q h _ d c.before.before.before.before.before.before.before.before.before.before.before.before.t.given.1 s.1.1 (second-refused r b _ e c.before.why2.given.1)
 
 check-several-returns-5 : (t : ℕ) → check-several-lts.Need-returns-5 (check-several-calls t) (check-several-at t) check-several.Post
 check-several-returns-5 t c =
@@ -545,11 +545,11 @@ check-several-returns-5 t c =
     let h = some_of s.1.1 in
     let node = at-node-at.Node-at.ensures in
     let d = rw node at at-operand-type.operand_type.ensures in
-    let r = rest-checkable q h _ d at-t.t.given.1 s.1.1 in
+    let r = rest_checkable q h _ d at-t.t.given.1 s.1.1 in
     let b = rw node at at-bind-type.bind-type.ensures in
     let e = rw node at at-operand-type2.operand-type2.ensures in
-    rest-judged q h _ d at-t.t.given.1 s.1.1
-    (two-judged r b _ e (rw node at at-if1.if1.false) at-u.u.given.1 (rw node at c.two-type.ensures))
+    rest_judged q h _ d at-t.t.given.1 s.1.1
+    (two_judged r b _ e (rw node at at-if1.if1.false) at-u.u.given.1 (rw node at c.two-type.ensures))
 
 operand-type-node-at-requires : (t : ℕ) → operand-type-lts.Need-node-at-requires (operand-type-calls t) (operand-type-at t) operand_type.Post
 operand-type-node-at-requires t c κs = omega (arith, c.before.before.requires.1.formed.room)
@@ -564,7 +564,7 @@ operand-type-returns t c =
     let s = c.before.before.before.before.before.before.before.requires in
     let q = s.1 in
     let node = c.before.before.before.before.Node-at.ensures in
-    leaf-judged q _ (rw node at c.before.before.if1.true) (rw node at c.leaf_type.ensures)
+    leaf_judged q _ (rw node at c.before.before.if1.true) (rw node at c.leaf_type.ensures)
 
 operand-type-check-node-requires : (t : ℕ) → operand-type-lts.Need-check-node-requires (operand-type-calls t) (operand-type-at t) operand_type.Post
 operand-type-check-node-requires t c κs = (omega (arith, c.before.before.before.before.before.before.before.before.requires.0), c.before.before.before.before.before.before.before.before.requires.1)
@@ -603,7 +603,7 @@ paths-slice-aggregate-walk-2 : (t : ℕ) → paths-lts.Need-slice-aggregate-walk
 paths-slice-aggregate-walk-2 t c = sym c.before.before.before.loop.invariant.framed
 
 paths-walk-requires : (t : ℕ) → paths-lts.Need-walk-requires (paths-calls t) (paths-at t) paths.Post paths-Inv-loop paths-μ-loop
-paths-walk-requires t c κs = (omega (arith, c.before.before.before.before.before.before.before.before.before.requires.0), turn-walkable c.before.before.before.loop.invariant)
+paths-walk-requires t c κs = (omega (arith, c.before.before.before.before.before.before.before.before.before.requires.0), turn_walkable c.before.before.before.loop.invariant)
 
 paths-returns : (t : ℕ) → paths-lts.Need-returns (paths-calls t) (paths-at t) paths.Post paths-Inv-loop paths-μ-loop
 paths-returns t c = turn-wrong c.before.before.before.before.before.before.before.before.before.loop.invariant c.before.before.before.before.before.before.before.before.loop-test.true c.before.before.before.before.before.walk.ensures c.before.why.given.1
@@ -633,13 +633,13 @@ walk-loop-holds : (t : ℕ) → walk-lts.Need-loop-init (walk-calls t) (walk_at 
 walk-loop-holds t c = walking_start c.before.before.before.requires.1
 
 walk-descend-requires : (t : ℕ) → walk-lts.Need-descend-requires (walk-calls t) (walk_at t) walk.Post walk-Inv-loop walk-μ-loop
-walk-descend-requires t c κs = walking-descendable c.before.loop.invariant
+walk-descend-requires t c κs = walking_descendable c.before.loop.invariant
 
 walk-arrive-requires : (t : ℕ) → walk-lts.Need-arrive-requires (walk-calls t) (walk_at t) walk.Post walk-Inv-loop walk-μ-loop
 walk-arrive-requires t c κs =
     let w = c.before.before.before.before.before.before.loop.invariant in
     let d = c.before.before.before.before.descend.ensures in
-    (omega (arith, walking-earlier w d, c.before.before.before.before.before.before.before.before.before.before.requires.0), (walking-enterable w d, descends-other d))
+    (omega (arith, walking-earlier w d, c.before.before.before.before.before.before.before.before.before.before.requires.0), (walking-enterable w d, descends_other d))
 
 walk-same-length : (t : ℕ) → walk-lts.Need-same-length (walk-calls t) (walk_at t) walk.Post walk-Inv-loop walk-μ-loop
 walk-same-length t c = c.before.before.before.before.before.before.before.arrive.auto.1.0 ∙ c.before.before.before.before.before.before.before.before.before.before.before.before.before.before.loop.invariant.same
@@ -665,7 +665,7 @@ walk-path-end-requires t c κs =
     let at-arrive = at-u.before.before.before.before.before.before in
     let at-descend = at-arrive.before.before.before.before.before in
     let at-loop = at-descend.before.before in
-    walking-end at-loop.loop.invariant at-descend.descend.ensures at-arrive.arrive.ensures at-u.u.given.1
+    walking_end at-loop.loop.invariant at-descend.descend.ensures at-arrive.arrive.ensures at-u.u.given.1
 
 walk-same-length-3 : (t : ℕ) → walk-lts.Need-same-length-3 (walk-calls t) (walk_at t) walk.Post walk-Inv-loop walk-μ-loop
 walk-same-length-3 t c =
@@ -697,7 +697,7 @@ walk-loop-less t c =
     let at-arrive = at-k.before.before.before.before.before.before in
     let at-descend = at-arrive.before.before.before.before.before in
     let at-loop = at-descend.before.before in
-    walking-less at-loop.loop.invariant at-descend.descend.ensures at-arrive.arrive.ensures at-k.k.given.1
+    walking_less at-loop.loop.invariant at-descend.descend.ensures at-arrive.arrive.ensures at-k.k.given.1
 
 walk-loop-again : (t : ℕ) → walk-lts.Need-loop-preserved (walk-calls t) (walk_at t) walk.Post walk-Inv-loop walk-μ-loop
 walk-loop-again t c =

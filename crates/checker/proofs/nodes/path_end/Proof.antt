@@ -2,12 +2,12 @@
 use borrow.Author.Rules.{rules}
 use borrow.Author.Tests.{eqb-true, eqb-false}
 use mathlib.Core.Path.{sym, ◌∙◌}
-use Rattle.checker.specs.Code.Going.Ends.{path-inconsistent, path-other, path-last, path-more, path-resumable}
+use Rattle.checker.specs.Code.Going.Ends.{path_inconsistent, path-other, path-last, path-more, path_resumable}
 use Rattle.checker.proofs.nodes.path_end.Statement.{statement}
 use Rattle.checker.proofs.nodes.path_end.Tie as tie
 
 returns : tie.Need-returns
-returns c = path-inconsistent c.before.before.before.before.before.before.requires c.before.consistent.ensures c.if1.true
+returns c = path_inconsistent c.before.before.before.before.before.before.requires c.before.consistent.ensures c.if1.true
 
 returns-2 : tie.Need-returns-2
 returns-2 c = path-other c.before.before.before.before.before.before.before.before.requires c.before.before.before.consistent.ensures c.before.before.if1.false c.before.right-type.ensures c.if2.true
@@ -27,7 +27,7 @@ none-left-requires : tie.Need-none-left-requires
 none-left-requires c κs = c.before.before.before.before.before.before.before.before.before.requires.returnable.returning.stands.framed
 
 resume-requires : tie.Need-resume-requires
-resume-requires c κs = path-resumable c.before.before.before.before.before.before.before.before.before.before.before.before.before.requires (eqb-false _ 0 (sym c.before.before.before.none_left.ensures ∙ c.before.before.if3.false))
+resume-requires c κs = path_resumable c.before.before.before.before.before.before.before.before.before.before.before.before.before.requires (eqb-false _ 0 (sym c.before.before.before.none_left.ensures ∙ c.before.before.if3.false))
 
 returns-4 : tie.Need-returns-4
 returns-4 c =

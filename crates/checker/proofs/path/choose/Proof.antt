@@ -1,11 +1,11 @@
 -- `checker::path::choose` meets its contract: the branch that the decision allows, or both. Assumes nothing.
 use borrow.Author.Rules.{rules}
-use Rattle.workspace.specs.Paths.Decisions.{decide-needs, decided-space, decided-lent, chooses-as, chooses-no-truth, chooses-many, chooses-both, chooses-true, chooses-false}
+use Rattle.workspace.specs.Paths.Decisions.{decide-needs, decided-space, decided-lent, chooses_as, chooses_no_truth, chooses_many, chooses_both, chooses_true, chooses_false}
 use Rattle.checker.proofs.path.choose.Statement.{statement}
 use Rattle.checker.proofs.path.choose.Tie as tie
 
 returns : tie.Need-returns
-returns c = let a = c.before.before.args in chooses-no-truth a.n a.t a.q a.space.now c.if1.true
+returns c = let a = c.before.before.args in chooses_no_truth a.n a.t a.q a.space.now c.if1.true
 
 decide-requires : tie.Need-decide-requires
 decide-requires c κs = decide-needs c.before.before.before.before.args.space.now c.before.before.before.before.args.t c.before.before.before.before.args.q c.before.before.if1.false c.before.before.before.before.requires
@@ -21,14 +21,14 @@ returns-2 c =
     let at-decide = c.before.before.before.before in
     let at-if1 = at-decide.before.before.before in
     let at-start = at-if1.before.before in
-    chooses-many at-start.requires.room at-decide.decide.ensures at-start.args.n at-start.args.t at-if1.if1.false c.enum_told.given.1
+    chooses_many at-start.requires.room at-decide.decide.ensures at-start.args.n at-start.args.t at-if1.if1.false c.enum_told.given.1
 
 returns-3 : tie.Need-returns-3
 returns-3 c =
     let at-decide = c.before.before.before.before in
     let at-if1 = at-decide.before.before.before in
     let at-start = at-if1.before.before in
-    chooses-both at-start.requires.room at-decide.decide.ensures at-start.args.n at-start.args.t at-if1.if1.false c.enum-told2.given.1
+    chooses_both at-start.requires.room at-decide.decide.ensures at-start.args.n at-start.args.t at-if1.if1.false c.enum-told2.given.1
 
 returns-4 : tie.Need-returns-4
 returns-4 c =
@@ -37,8 +37,8 @@ returns-4 c =
     let at-decide = at-enum-told3.before.before.before.before in
     let at-if1 = at-decide.before.before.before in
     let at-start = at-if1.before.before in
-    chooses-as at-with-guard.with-guard.ensures
-    (chooses-true at-start.requires.room at-decide.decide.ensures at-start.args.n at-start.args.t at-if1.if1.false
+    chooses_as at-with-guard.with_guard_lem.ensures
+    (chooses_true at-start.requires.room at-decide.decide.ensures at-start.args.n at-start.args.t at-if1.if1.false
     at-enum-told3.enum-told3.given.1)
 
 returns-5 : tie.Need-returns-5
@@ -48,8 +48,8 @@ returns-5 c =
     let at-decide = at-enum-told4.before.before.before.before in
     let at-if1 = at-decide.before.before.before in
     let at-start = at-if1.before.before in
-    chooses-as at-without-guard.without-guard.ensures
-    (chooses-false at-start.requires.room at-decide.decide.ensures at-start.args.n at-start.args.t at-if1.if1.false
+    chooses_as at-without-guard.without-guard.ensures
+    (chooses_false at-start.requires.room at-decide.decide.ensures at-start.args.n at-start.args.t at-if1.if1.false
     at-enum-told4.enum-told4.given.1)
 
 pub choose_spec : {M : Type 1} → statement M

@@ -5,7 +5,7 @@ use Prim.Native.Nat.{◌≤◌, ◌-◌}
 use native.Mathlib.Omega.{arith}
 use lib.ListN.{length, length-set}
 use Rattle.workspace.specs.Paths.{Starting}
-use Rattle.workspace.specs.Paths.Beginning.{blank-space, first-started, starting-on, starting-end}
+use Rattle.workspace.specs.Paths.Beginning.{blank-space, first-started, starting_on, starting_end}
 use Rattle.checker.proofs.path.start.Statement.{statement}
 use Rattle.checker.proofs.path.start.Tie as tie
 
@@ -33,7 +33,7 @@ start-variable-requires c κs =
 loop-again : tie.Need-loop-preserved invariant-loop decreases-loop
 loop-again c =
     let l = c.before.before.before.before.before.loop in
-    (search rules, omega (arith, c.before.before.before.before.loop-test.true), starting-on l.i c.before.before.start-variable.ensures)
+    (search rules, omega (arith, c.before.before.before.before.loop-test.true), starting_on l.i c.before.before.start-variable.ensures)
 
 cast-space : tie.Need-overflow-cast-space invariant-loop decreases-loop
 cast-space c = omega (arith, c.before.before.before.before.before.before.before.before.requires.1.0)
@@ -53,7 +53,7 @@ same_length c = simp length-set (omega (arith, c.before.loop.invariant.0))
 returns : tie.Need-returns invariant-loop decreases-loop
 returns c =
     let l = c.before.loop in
-    starting-end c.before.before.before.before.before.before.before.before.args.depth c.before.before.before.before.before.before.before.before.requires.1.0 l.invariant.1 c.loop-test.false l.invariant.2
+    starting_end c.before.before.before.before.before.before.before.before.args.depth c.before.before.before.before.before.before.before.before.requires.1.0 l.invariant.1 c.loop-test.false l.invariant.2
 
 pub start_spec : {M : Type 1} → statement M
 start_spec =

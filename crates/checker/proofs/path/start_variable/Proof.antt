@@ -3,12 +3,12 @@ use borrow.Author.Rules.{rules}
 use mathlib.Core.Path.{refl}
 use native.Mathlib.Omega.{arith}
 use lib.ListN.{length-set}
-use Rattle.workspace.specs.Paths.Beginning.{starting-room, variable-started}
+use Rattle.workspace.specs.Paths.Beginning.{starting_room, variable-started}
 use Rattle.checker.proofs.path.start_variable.Statement.{statement}
 use Rattle.checker.proofs.path.start_variable.Tie as tie
 
 fresh-requires : tie.Need-fresh-requires
-fresh-requires c κs = let e = c.before.before.before.before.requires in (starting-room e.1.0 e.1.1, refl)
+fresh-requires c κs = let e = c.before.before.before.before.requires in (starting_room e.1.0 e.1.1, refl)
 
 slice-write-space-2 : tie.Need-slice-write-space-2
 slice-write-space-2 c =

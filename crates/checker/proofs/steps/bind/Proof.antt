@@ -1,4 +1,4 @@
--- `checker::steps::bind` meets its contract: its three stores are those of `boundTo`. Assumes nothing.
+-- `checker::steps::bind` meets its contract: its three stores are those of `bound_to`. Assumes nothing.
 use borrow.Author.Rules.{rules}
 use native.Mathlib.Omega.{arith}
 use lib.ListN.{length-set}

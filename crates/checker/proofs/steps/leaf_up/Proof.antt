@@ -1,6 +1,6 @@
 -- `checker::steps::leaf_up` meets its contract: a leaf's value goes up. Assumes nothing.
 use borrow.Author.Rules.{rules}
-use Rattle.checker.specs.Code.Going.Arriving.{leaf_room, leaf-lent, leaf-returnable, leaf-climbing, leaf-stopping}
+use Rattle.checker.specs.Code.Going.Arriving.{leaf_room, leaf-lent, leaf-returnable, leaf_climbing, leaf-stopping}
 use Rattle.checker.proofs.steps.leaf_up.Statement.{statement}
 use Rattle.checker.proofs.steps.leaf_up.Tie as tie
 
@@ -30,7 +30,7 @@ returns-2 c =
     let at_leaf = at-t.before.before.before.before in
     let at-node-at = at_leaf.before.before.before in
     let at-start = at-node-at.before.before.before.before in
-    leaf-climbing at-start.requires (rw at-node-at.Node-at.ensures at at_leaf.leaf.ensures) at-t.t.given.1 at-climb.climb.ensures
+    leaf_climbing at-start.requires (rw at-node-at.Node-at.ensures at at_leaf.leaf.ensures) at-t.t.given.1 at-climb.climb.ensures
 
 pub leaf-up-spec : {M : Type 1} → statement M
 leaf-up-spec =

@@ -4,7 +4,7 @@ use Rattle.std.proofs.Common.{sym, ◌∙◌, arith}
 use Rattle.script.specs.declared.Refusal.{Refusal}
 use Rattle.rules.specs.Paths.{Leaf, stopped}
 use Rattle.rules.specs.Symbolic.{Symbolic}
-use Rattle.workspace.specs.Frames.{frameIn, topIn}
+use Rattle.workspace.specs.Frames.{frame_in, top_in}
 use Rattle.checker.specs.Code.Going.{Entering, Returning, Returnable, Came, came-value, came-operand, came-stopped, Backs, Climbs}
 use Rattle.checker.specs.declared.steps.Move.{Move}
 use Rattle.checker.specs.declared.steps.Move.TheVariants.{Value, Operand, Stopped}
@@ -54,17 +54,17 @@ module _ {limit : ℕ} {table : List ℕ} {bound base : ℕ} {ground : List Symb
 pub record Climbing (table : List ℕ) (t q : ℕ) (ws fs left gs : List ℕ) (u s : ℕ) : Type 0 where
   pub same : length left ≡ length ws
   pub framed : length gs ≡ length fs
-  pub tops : topIn fs ≤ topIn gs
+  pub tops : top_in fs ≤ top_in gs
   pub can : Returnable table left gs u s
   pub goes : (limit bound base : ℕ) (ground : List Symbolic) (ls : List Leaf) → Returning limit table bound base ground ws fs t q ls
       → Returning limit table bound base ground left gs u s ls
 
-pub climbing-start : {table ws fs : List ℕ} {t q : ℕ} → Returnable table ws fs t q → Climbing table t q ws fs ws fs t q
-climbing-start x = record { same = refl; framed = refl; tops = omega arith; can = x; goes = λ limit bound base ground ls r. r }
+pub climbing_start : {table ws fs : List ℕ} {t q : ℕ} → Returnable table ws fs t q → Climbing table t q ws fs ws fs t q
+climbing_start x = record { same = refl; framed = refl; tops = omega arith; can = x; goes = λ limit bound base ground ls r. r }
 
 module _ {table ws fs left gs : List ℕ} {t q u s : ℕ} (c : Climbing table t q ws fs left gs u s) where
-  pub climbing-end : frameIn gs ≡ 0 → Climbs table t q ws fs (Value u s) left gs
-  climbing-end z =
+  pub climbing_end : frame_in gs ≡ 0 → Climbs table t q ws fs (Value u s) left gs
+  climbing_end z =
       record {
         came = λ limit bound base ground ls r. came-value (c.goes limit bound base ground ls r);
         ended = λ e. z;
@@ -76,8 +76,8 @@ module _ {table ws fs left gs : List ℕ} {t q u s : ℕ} (c : Climbing table t 
         → Came limit table bound base ground left₂ hs ls r
     came-now limit bound base ground ls x = b.came limit bound base ground ls (c.goes limit bound base ground ls x)
 
-    pub climbing-on : {v w : ℕ} → r ≡ Value v w → length left₂ ≡ length left → length hs ≡ length gs → Climbing table t q ws fs left₂ hs v w
-    climbing-on e k l =
+    pub climbing_on : {v w : ℕ} → r ≡ Value v w → length left₂ ≡ length left → length hs ≡ length gs → Climbing table t q ws fs left₂ hs v w
+    climbing_on e k l =
         let x = c.can in
         record {
           same = k ∙ c.same;
@@ -88,22 +88,22 @@ module _ {table ws fs left gs : List ℕ} {t q u s : ℕ} (c : Climbing table t 
             bound = x.bound;
             base = x.base;
             ground = x.ground;
-            to-come = x.to-come;
-            returning = came-returning (b.came x.limit x.bound x.base x.ground x.to-come x.returning) e;
+            to_come = x.to_come;
+            returning = came-returning (b.came x.limit x.bound x.base x.ground x.to_come x.returning) e;
           };
           goes = λ limit bound base ground ls y. came-returning (came-now limit bound base ground ls y) e;
         }
 
-    pub climbing-operand : {m : ℕ} → r ≡ Operand m → Climbs table t q ws fs (Operand m) left₂ hs
-    climbing-operand e =
+    pub climbing_operand : {m : ℕ} → r ≡ Operand m → Climbs table t q ws fs (Operand m) left₂ hs
+    climbing_operand e =
         record {
           came = λ limit bound base ground ls y. came-operand (came-entering (came-now limit bound base ground ls y) e);
           ended = λ i. absurd (value-not-operand (sym i));
           rises = λ i. omega (arith, c.tops, b.rises e);
         }
 
-    pub climbing-stopped : {x : Refusal} → r ≡ Stopped x → Climbs table t q ws fs (Stopped x) left₂ hs
-    climbing-stopped e =
+    pub climbing_stopped : {x : Refusal} → r ≡ Stopped x → Climbs table t q ws fs (Stopped x) left₂ hs
+    climbing_stopped e =
         record {
           came = λ limit bound base ground ls y. let n = came-none (came-now limit bound base ground ls y) e in came-stopped n.0 n.1;
           ended = λ i. absurd (stopped-not-value i);

@@ -5,29 +5,29 @@ use Rattle.script.specs.Code.Forms.{form_of}
 use Rattle.script.specs.declared.Refusal.{Refusal}
 use Rattle.rules.specs.Paths.{Path}
 use Rattle.rules.specs.Symbolic.{Symbolic}
-use Rattle.terms.specs.Places.{symbolLimit}
-use Rattle.terms.specs.Terms.{Space, ofConjunction}
-use Rattle.workspace.specs.Frames.{Waitable, Waits, forBody, forNext}
-use Rattle.workspace.specs.Forks.{forkedIn, Forkable, Forks}
+use Rattle.terms.specs.Places.{symbol_limit}
+use Rattle.terms.specs.Terms.{Space, of_conjunction}
+use Rattle.workspace.specs.Frames.{Waitable, Waits, for_body, for_next}
+use Rattle.workspace.specs.Forks.{forked_in, Forkable, Forks}
 use Rattle.workspace.specs.Paths.{assumed, forgotten}
-use Rattle.workspace.specs.Paths.Conditions.{learns-set, learnt-room}
-use Rattle.workspace.specs.Places.{forkLimit, framesSize, known_at, spaceSize}
+use Rattle.workspace.specs.Paths.Conditions.{learns-set, learnt_room}
+use Rattle.workspace.specs.Places.{fork_limit, frames_size, known_at, space_size}
 use Rattle.workspace.specs.Rules.{Two, Chosen, both, Chooses, Decidable}
-use Rattle.workspace.specs.State.{depthIn, Room}
+use Rattle.workspace.specs.State.{depth_in, Room}
 use Rattle.workspace.specs.State.Laws.{room-space, log-from}
 use Rattle.workspace.specs.declared.Step.{Step}
 use Rattle.workspace.specs.declared.Branch.{Branch}
 use Rattle.workspace.specs.declared.Branch.TheVariants.{First, Second, Both, Neither}
-use Rattle.checker.specs.Code.Going.{unbound, movedBy, Branched, to-first, to-second, to_both, to_none, Lasts}
+use Rattle.checker.specs.Code.Going.{unbound, moved_by, Branched, to_first, to_second, to_both, to_none, Lasts}
 use Rattle.checker.specs.declared.steps.Move.{Move}
 use Rattle.checker.specs.declared.steps.Move.TheVariants.{Value, Operand, Stopped}
 
 -- ---- the last operand
 
-pub lasts-body : {kind awaits n t q u s : ℕ} {ws left : List ℕ} → awaits ≡ forBody → left ≡ unbound ws → Lasts kind awaits n t q u s ws (Value u s) left
+pub lasts-body : {kind awaits n t q u s : ℕ} {ws left : List ℕ} → awaits ≡ for_body → left ≡ unbound ws → Lasts kind awaits n t q u s ws (Value u s) left
 lasts-body e l = record { body = λ _. (refl, l); other = λ d. absurd (d e) }
 
-pub lasts-other : {kind awaits n t q u s : ℕ} {ws left : List ℕ} {a : Step} {r : Move} → (awaits ≡ forBody → ⊥) → r ≡ movedBy a
+pub lasts-other : {kind awaits n t q u s : ℕ} {ws left : List ℕ} {a : Step} {r : Move} → (awaits ≡ for_body → ⊥) → r ≡ moved_by a
     → Two (form_of kind) n t q u s ws a left → Lasts kind awaits n t q u s ws r left
 lasts-other {a = a} d e w = record { body = λ x. absurd (d x); other = λ _. (a, e, w) }
 
@@ -44,23 +44,23 @@ module _ {n t q : ℕ} {ws left : List ℕ} {r : Branch} (d : Decidable ws t q) 
   both-room : Room left 1
   both-room = rw both-same d.room
 
-  pub both-lent : spaceSize ≤ length left
+  pub both-lent : space_size ≤ length left
   both-lent = both-room.lent
 
   -- whatever is stored at the place of what is known
   both_stored : (x : ℕ) → Room (set left known_at x) 1
-  both_stored x = learnt-room both-room (learns-set left x)
+  both_stored x = learnt_room both-room (learns-set left x)
 
-  pub stored-lent : (x : ℕ) → spaceSize ≤ length (set left known_at x)
+  pub stored-lent : (x : ℕ) → space_size ≤ length (set left known_at x)
   stored-lent x = (both_stored x).lent
 
   pub stored-space : (x : ℕ) → Space (set left known_at x) 1
   stored-space x = room-space (both_stored x)
 
 -- the path's numbers are small enough for a fork, and a new frame is none
-pub both-forkable : {n t q awaits x y : ℕ} {ws left fs gs : List ℕ} {r : Branch} → Decidable ws t q → r ≡ Both → Chooses n t q ws r left → depthIn ws ≤ symbolLimit
-    → Waits n awaits x y fs gs → Waitable fs → framesSize ≤ length fs → forkedIn fs < forkLimit → Forkable left gs
-both-forkable {ws = ws} {gs = gs} d e h narrow w can l f = rw (both-same d e h) now
+pub both_forkable : {n t q awaits x y : ℕ} {ws left fs gs : List ℕ} {r : Branch} → Decidable ws t q → r ≡ Both → Chooses n t q ws r left → depth_in ws ≤ symbol_limit
+    → Waits n awaits x y fs gs → Waitable fs → frames_size ≤ length fs → forked_in fs < fork_limit → Forkable left gs
+both_forkable {ws = ws} {gs = gs} d e h narrow w can l f = rw (both-same d e h) now
   where
     now : Forkable ws gs
     now =
@@ -81,15 +81,15 @@ both-forkable {ws = ws} {gs = gs} d e h narrow w can l f = rw (both-same d e h) 
           depth = omega arith;
         }
 
-module _ {b c n t q : ℕ} {ws fs left gs : List ℕ} {r : Branch} (w : Waits n forNext t q fs gs) (h : Chooses n t q ws r left) where
-  pub branched-first : r ≡ First → Branched b c n t q ws fs left gs (Operand b)
-  branched-first e = to-first w (rw e at h)
+module _ {b c n t q : ℕ} {ws fs left gs : List ℕ} {r : Branch} (w : Waits n for_next t q fs gs) (h : Chooses n t q ws r left) where
+  pub branched_first : r ≡ First → Branched b c n t q ws fs left gs (Operand b)
+  branched_first e = to_first w (rw e at h)
 
-  pub branched-second : r ≡ Second → Branched b c n t q ws fs left gs (Operand c)
-  branched-second e = to-second w (rw e at h)
+  pub branched_second : r ≡ Second → Branched b c n t q ws fs left gs (Operand c)
+  branched_second e = to_second w (rw e at h)
 
-  pub branched-none : {x : Refusal} → r ≡ Neither x → Branched b c n t q ws fs left gs (Stopped x)
-  branched-none e = to_none w (rw e at h)
+  pub branched_none : {x : Refusal} → r ≡ Neither x → Branched b c n t q ws fs left gs (Stopped x)
+  branched_none e = to_none w (rw e at h)
 
-  pub branched-both : {end hs : List ℕ} → r ≡ Both → Forks left gs hs → end ≡ assumed (forgotten left) ofConjunction q → Branched b c n t q ws fs end hs (Operand b)
-  branched-both e f a = to_both w (rw e at h) f a
+  pub branched_both : {end hs : List ℕ} → r ≡ Both → Forks left gs hs → end ≡ assumed (forgotten left) of_conjunction q → Branched b c n t q ws fs end hs (Operand b)
+  branched_both e f a = to_both w (rw e at h) f a

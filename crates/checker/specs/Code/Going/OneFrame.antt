@@ -2,112 +2,112 @@
 use Rattle.std.specs.Prelude.{Bool, true, false, List, ◌≡◌, refl, ℕ, ◌≤◌, ◌<◌, eqb, length, set}
 use Rattle.std.proofs.Common.{sym, ◌∙◌, arith, length-set, get_or-set_same, get_or-set_other, eqb-true}
 use Rattle.std.proofs.lemmas.Bool.{eqb-false}
-use Rattle.script.specs.Code.Forms.{form_of, nodeIn}
+use Rattle.script.specs.Code.Forms.{form_of, node_in}
 use Rattle.script.specs.Flat.{HasNode}
-use Rattle.script.specs.Limits.{nodeLimit}
-use Rattle.script.specs.Rows.{ifForm, letForm, nodeOperands}
-use Rattle.script.specs.Rows.Kinds.{kindFor}
-use Rattle.terms.specs.Places.{symbolLimit}
-use Rattle.workspace.specs.Frames.{frameIn, topIn, waiterOf, first_of, second_of, Waitable, Waits, awaitsOf, goesTo, forBody, forFirst, forNext}
-use Rattle.workspace.specs.Forks.{forkedIn, Forks}
-use Rattle.workspace.specs.Places.{forkLimit, framesEnd, framesSize, goalAt, topAt}
+use Rattle.script.specs.Limits.{node_limit}
+use Rattle.script.specs.Rows.{if_form, let_form, node_operands}
+use Rattle.script.specs.Rows.Kinds.{kind_for}
+use Rattle.terms.specs.Places.{symbol_limit}
+use Rattle.workspace.specs.Frames.{frame_in, top_in, waiter_of, first_of, second_of, Waitable, Waits, awaits_of, goes_to, for_body, for_first, for_next}
+use Rattle.workspace.specs.Forks.{forked_in, Forks}
+use Rattle.workspace.specs.Places.{fork_limit, frames_end, frames_size, goal_at, top_at}
 use Rattle.workspace.specs.Rules.{One, Decidable}
-use Rattle.workspace.specs.State.{depthIn, Room}
+use Rattle.workspace.specs.State.{depth_in, Room}
 use Rattle.workspace.specs.declared.Step.{Step}
 use Rattle.workspace.specs.declared.Step.TheVariants as step
-use Rattle.checker.specs.Code.Going.{Returnable, came-operand, boundTo, movedBy, Branched, to-first, to-second, to_both, to_none, Lasts, Lastable, Backs}
+use Rattle.checker.specs.Code.Going.{Returnable, came-operand, bound_to, moved_by, Branched, to_first, to_second, to_both, to_none, Lasts, Lastable, Backs}
 use Rattle.checker.specs.Code.Going.AllFrames.{value-not-operand, stopped-not-operand, stopped-not-value}
-use Rattle.checker.specs.Code.Going.NextOperand.{next-waitable, next-plain, next-let, next-deep, next-branch, next-decidable, next-forked}
-use Rattle.checker.specs.Code.Going.FrameRules.{up, up_room, up_one, up-lastable, up-last, gives-came, up_next}
+use Rattle.checker.specs.Code.Going.NextOperand.{next_waitable, next-plain, next_let, next_deep, next-branch, next_decidable, next-forked}
+use Rattle.checker.specs.Code.Going.FrameRules.{up, up_room, up_one, up_lastable, up-last, gives-came, up_next}
 use Rattle.checker.specs.declared.steps.Move.{Move}
 use Rattle.checker.specs.declared.steps.Move.TheVariants.{Value, Operand, Stopped}
 
-moved-not-operand : (a : Step) {m : ℕ} → movedBy a ≡ Operand m → ⊥
-moved-not-operand (step.Gave t q) e = value-not-operand e
-moved-not-operand (step.Stopped x) e = stopped-not-operand e
+moved_not-operand : (a : Step) {m : ℕ} → moved_by a ≡ Operand m → ⊥
+moved_not-operand (step.Gave t q) e = value-not-operand e
+moved_not-operand (step.Stopped x) e = stopped-not-operand e
 
-pub more-than-one : {r : Bool} {m : ℕ} → r ≡ eqb m 1 → r ≡ false → m ≡ 1 → ⊥
-more-than-one {m = m} e f = eqb-false m 1 (sym e ∙ f)
+pub more_than_one : {r : Bool} {m : ℕ} → r ≡ eqb m 1 → r ≡ false → m ≡ 1 → ⊥
+more_than_one {m = m} e f = eqb-false m 1 (sym e ∙ f)
 
-module _ {table ws fs : List ℕ} {t q : ℕ} (x : Returnable table ws fs t q) (some : 1 ≤ frameIn fs) where
+module _ {table ws fs : List ℕ} {t q : ℕ} (x : Returnable table ws fs t q) (some : 1 ≤ frame_in fs) where
   abbrev f : ℕ
-  f = frameIn fs
+  f = frame_in fs
 
   abbrev n : ℕ
-  n = waiterOf fs (frameIn fs)
+  n = waiter_of fs (frame_in fs)
 
   abbrev fs₁ : List ℕ
-  fs₁ = set fs goalAt (goesTo fs (frameIn fs))
+  fs₁ = set fs goal_at (goes_to fs (frame_in fs))
 
-  pub back_inside : frameIn fs < nodeLimit
+  pub back_inside : frame_in fs < node_limit
   back_inside = let i = x.returning.stands.inside in omega (arith, i, x.returning.tops)
 
-  pub back-lent : framesEnd ≤ length fs
-  back-lent = omega (arith, x.returning.stands.framed)
+  pub back_lent : frames_end ≤ length fs
+  back_lent = omega (arith, x.returning.stands.framed)
 
-  pub back-framed : framesSize ≤ length fs₁
-  back-framed = omega (arith, x.returning.stands.framed, length-set fs goalAt (goesTo fs (frameIn fs)))
+  pub back_framed : frames_size ≤ length fs₁
+  back_framed = omega (arith, x.returning.stands.framed, length-set fs goal_at (goes_to fs (frame_in fs)))
 
-  pub back-node : HasNode table n
-  back-node = let l = (up x.returning some).low in omega (arith, l, x.returning.stands.formed.room)
+  pub back_node : HasNode table n
+  back_node = let l = (up x.returning some).low in omega (arith, l, x.returning.stands.formed.room)
 
-  falls : frameIn fs₁ < frameIn fs
+  falls : frame_in fs₁ < frame_in fs
   falls =
-      let e = get_or-set_same fs goalAt (goesTo fs (frameIn fs)) 0 (omega (arith, x.returning.stands.framed)) in
+      let e = get_or-set_same fs goal_at (goes_to fs (frame_in fs)) 0 (omega (arith, x.returning.stands.framed)) in
       let l = (up x.returning some).falls in
       omega arith
 
-  top-is : topIn fs₁ ≡ topIn fs
-  top-is = get_or-set_other fs goalAt topAt (goesTo fs (frameIn fs)) 0 λ e. omega arith
+  top-is : top_in fs₁ ≡ top_in fs
+  top-is = get_or-set_other fs goal_at top_at (goes_to fs (frame_in fs)) 0 λ e. omega arith
 
   -- ---- with its last operand
 
-  module _ (z : awaitsOf fs f ≡ forFirst → ⊥) where
-    pub back-lastable : Lastable (awaitsOf fs f) ws (first_of fs f) (second_of fs f) t q
-    back-lastable = up-lastable x.returning some z
+  module _ (z : awaits_of fs f ≡ for_first → ⊥) where
+    pub back_lastable : Lastable (awaits_of fs f) ws (first_of fs f) (second_of fs f) t q
+    back_lastable = up_lastable x.returning some z
 
-    pub back_last : {m : Move} {left : List ℕ} → Lasts (nodeIn table n).kind (awaitsOf fs f) n (first_of fs f) (second_of fs f) t q ws m left
+    pub back_last : {m : Move} {left : List ℕ} → Lasts (node_in table n).kind (awaits_of fs f) n (first_of fs f) (second_of fs f) t q ws m left
         → Backs table t q ws fs m left fs₁
     back_last {m} {left} l =
         record {
           came = λ limit bound base ground ls r. up-last r some z l;
           falls = λ e. falls;
-          rises = λ e. absurd (by (eqb (awaitsOf fs f) 2) refl e);
+          rises = λ e. absurd (by (eqb (awaits_of fs f) 2) refl e);
           tops = omega (arith, top-is);
         }
       where
-        by : (b : Bool) → eqb (awaitsOf fs f) 2 ≡ b → {k : ℕ} → m ≡ Operand k → ⊥
-        by true i e = value-not-operand (sym (l.body (eqb-true (awaitsOf fs f) 2 i)).0 ∙ e)
-        by false i e = let a = l.other (eqb-false (awaitsOf fs f) 2 i) in moved-not-operand a.0 (sym a.1 ∙ e)
+        by : (b : Bool) → eqb (awaits_of fs f) 2 ≡ b → {k : ℕ} → m ≡ Operand k → ⊥
+        by true i e = value-not-operand (sym (l.body (eqb-true (awaits_of fs f) 2 i)).0 ∙ e)
+        by false i e = let a = l.other (eqb-false (awaits_of fs f) 2 i) in moved_not-operand a.0 (sym a.1 ∙ e)
 
   -- ---- with its only operand
 
-  pub back-room : Room ws 1
-  back-room = up_room x.returning some
+  pub back_room : Room ws 1
+  back_room = up_room x.returning some
 
-  pub back_one : awaitsOf fs f ≡ forFirst → nodeOperands (nodeIn table n).kind ≡ 1 → {a : Step} {left : List ℕ} → One (form_of (nodeIn table n).kind) n t q ws a left
-      → Backs table t q ws fs (movedBy a) left fs₁
+  pub back_one : awaits_of fs f ≡ for_first → node_operands (node_in table n).kind ≡ 1 → {a : Step} {left : List ℕ} → One (form_of (node_in table n).kind) n t q ws a left
+      → Backs table t q ws fs (moved_by a) left fs₁
   back_one z o {a} l =
       record {
         came = λ limit bound base ground ls r. gives-came (up_one r some z o l);
         falls = λ e. falls;
-        rises = λ e. absurd (moved-not-operand a e);
+        rises = λ e. absurd (moved_not-operand a e);
         tops = omega (arith, top-is);
       }
 
   -- ---- with the first of several
 
-  module _ (z : awaitsOf fs f ≡ forFirst) (o : nodeOperands (nodeIn table n).kind ≡ 1 → ⊥) where
-    pub back-waitable : Waitable fs₁
-    back-waitable = next-waitable x.returning some (up_next x.returning some z o)
+  module _ (z : awaits_of fs f ≡ for_first) (o : node_operands (node_in table n).kind ≡ 1 → ⊥) where
+    pub back_waitable : Waitable fs₁
+    back_waitable = next_waitable x.returning some (up_next x.returning some z o)
 
-    risen : {n awaits y w : ℕ} {gs : List ℕ} → Waits n awaits y w fs₁ gs → topIn fs < topIn gs
+    risen : {n awaits y w : ℕ} {gs : List ℕ} → Waits n awaits y w fs₁ gs → top_in fs < top_in gs
     risen w = omega (arith, w.top, top-is)
 
     -- of an operator
-    pub back-plain : ((nodeIn table n).kind ≡ kindFor ifForm → ⊥) → ((nodeIn table n).kind ≡ kindFor letForm → ⊥) → {gs : List ℕ} → Waits n forNext t q fs₁ gs
-        → Backs table t q ws fs (Operand (nodeIn table n).b) ws gs
-    back-plain d e w =
+    pub back_plain : ((node_in table n).kind ≡ kind_for if_form → ⊥) → ((node_in table n).kind ≡ kind_for let_form → ⊥) → {gs : List ℕ} → Waits n for_next t q fs₁ gs
+        → Backs table t q ws fs (Operand (node_in table n).b) ws gs
+    back_plain d e w =
         record {
           came = λ limit bound base ground ls r. came-operand (next-plain r some (up_next r some z o) d e w);
           falls = λ i. absurd (value-not-operand (sym i));
@@ -116,46 +116,46 @@ module _ {table ws fs : List ℕ} {t q : ℕ} (x : Returnable table ws fs t q) (
         }
 
     -- of a `let`
-    pub back_deep : depthIn ws < symbolLimit
-    back_deep = next-deep x.returning some (up_next x.returning some z o)
+    pub back_deep : depth_in ws < symbol_limit
+    back_deep = next_deep x.returning some (up_next x.returning some z o)
 
-    pub back-let : (nodeIn table n).kind ≡ kindFor letForm → {gs : List ℕ} → Waits n forBody t q fs₁ gs → Backs table t q ws fs (Operand (nodeIn table n).b) (boundTo ws t q) gs
-    back-let e w =
+    pub back_let : (node_in table n).kind ≡ kind_for let_form → {gs : List ℕ} → Waits n for_body t q fs₁ gs → Backs table t q ws fs (Operand (node_in table n).b) (bound_to ws t q) gs
+    back_let e w =
         record {
-          came = λ limit bound base ground ls r. came-operand (next-let r some (up_next r some z o) e w);
+          came = λ limit bound base ground ls r. came-operand (next_let r some (up_next r some z o) e w);
           falls = λ i. absurd (value-not-operand (sym i));
           rises = λ i. risen w;
           tops = let l = risen w in omega arith;
         }
 
     -- of an `if`
-    module _ (h : (nodeIn table n).kind ≡ kindFor ifForm) where
-      pub back-decidable : Decidable ws t q
-      back-decidable = next-decidable x.returning some (up_next x.returning some z o) h
+    module _ (h : (node_in table n).kind ≡ kind_for if_form) where
+      pub back_decidable : Decidable ws t q
+      back_decidable = next_decidable x.returning some (up_next x.returning some z o) h
 
-      pub back-forked : forkedIn fs₁ < forkLimit
-      back-forked = next-forked x.returning some (up_next x.returning some z o) h
+      pub back_forked : forked_in fs₁ < fork_limit
+      back_forked = next-forked x.returning some (up_next x.returning some z o) h
 
-      forks-top : {ys hs gs : List ℕ} → Forks ys hs gs → topIn gs ≡ topIn hs
+      forks-top : {ys hs gs : List ℕ} → Forks ys hs gs → top_in gs ≡ top_in hs
       forks-top y = y.others 1 (λ e. omega arith) (omega arith)
 
-      branched-top : {m : Move} {left gs : List ℕ} → Branched (nodeIn table n).b (nodeIn table n).c n t q ws fs₁ left gs m → topIn fs < topIn gs
-      branched-top (to-first w k) = risen w
-      branched-top (to-second w k) = risen w
-      branched-top (to_both w k y e) = let l = risen w in omega (arith, l, forks-top y)
-      branched-top (to_none w k) = risen w
+      branched_top : {m : Move} {left gs : List ℕ} → Branched (node_in table n).b (node_in table n).c n t q ws fs₁ left gs m → top_in fs < top_in gs
+      branched_top (to_first w k) = risen w
+      branched_top (to_second w k) = risen w
+      branched_top (to_both w k y e) = let l = risen w in omega (arith, l, forks-top y)
+      branched_top (to_none w k) = risen w
 
-      branched-none : {m : Move} {left gs : List ℕ} {u s : ℕ} → Branched (nodeIn table n).b (nodeIn table n).c n t q ws fs₁ left gs m → m ≡ Value u s → ⊥
-      branched-none (to-first w k) e = value-not-operand (sym e)
-      branched-none (to-second w k) e = value-not-operand (sym e)
-      branched-none (to_both w k y i) e = value-not-operand (sym e)
-      branched-none (to_none w k) e = stopped-not-value e
+      branched_none : {m : Move} {left gs : List ℕ} {u s : ℕ} → Branched (node_in table n).b (node_in table n).c n t q ws fs₁ left gs m → m ≡ Value u s → ⊥
+      branched_none (to_first w k) e = value-not-operand (sym e)
+      branched_none (to_second w k) e = value-not-operand (sym e)
+      branched_none (to_both w k y i) e = value-not-operand (sym e)
+      branched_none (to_none w k) e = stopped-not-value e
 
-      pub back-branch : {m : Move} {left gs : List ℕ} → Branched (nodeIn table n).b (nodeIn table n).c n t q ws fs₁ left gs m → Backs table t q ws fs m left gs
-      back-branch k =
+      pub back_branch : {m : Move} {left gs : List ℕ} → Branched (node_in table n).b (node_in table n).c n t q ws fs₁ left gs m → Backs table t q ws fs m left gs
+      back_branch k =
           record {
             came = λ limit bound base ground ls r. next-branch r some (up_next r some z o) h k;
-            falls = λ e. absurd (branched-none k e);
-            rises = λ e. branched-top k;
-            tops = let l = branched-top k in omega arith;
+            falls = λ e. absurd (branched_none k e);
+            rises = λ e. branched_top k;
+            tops = let l = branched_top k in omega arith;
           }

@@ -1,25 +1,25 @@
 -- Going back to the last fork: the numbers of its path, its variables, and its false branch, which is next. Assumes nothing.
 use Rattle.std.specs.Prelude.{List, ◌++◌, ◌≡◌, refl, ℕ, suc, ◌+◌, ◌*◌, ◌-◌, ◌≤◌, ◌<◌, length, get_or}
 use Rattle.std.proofs.Common.{sym, ap, ◌∙◌, arith}
-use Rattle.script.specs.Code.Forms.{nodeIn, treeIn}
+use Rattle.script.specs.Code.Forms.{node_in, tree_in}
 use Rattle.script.specs.Flat.{HasNode}
-use Rattle.script.specs.Limits.{nodeLimit}
+use Rattle.script.specs.Limits.{node_limit}
 use Rattle.script.specs.Tree.{size}
 use Rattle.rules.specs.Paths.{Path, Leaf}
-use Rattle.rules.specs.Symbolic.{Symbolic, aTruth}
-use Rattle.terms.specs.Places.{countAt, row_at, rows_at, variablesEnd, symbolLimit}
-use Rattle.terms.specs.Terms.{Space, Grown, ofExclusion}
-use Rattle.workspace.specs.Frames.{frameIn, topIn, waiterOf, second_of}
+use Rattle.rules.specs.Symbolic.{Symbolic, a_truth}
+use Rattle.terms.specs.Places.{count_at, row_at, rows_at, variables_end, symbol_limit}
+use Rattle.terms.specs.Terms.{Space, Grown, of_exclusion}
+use Rattle.workspace.specs.Frames.{frame_in, top_in, waiter_of, second_of}
 use Rattle.workspace.specs.Frames.Laws.{size-some}
-use Rattle.workspace.specs.Forks.{forkedIn, Forked, Rewound}
-use Rattle.workspace.specs.Notes.{baseIn, Kept, Noting}
-use Rattle.workspace.specs.Notes.Keeping.{still-holding}
+use Rattle.workspace.specs.Forks.{forked_in, Forked, Rewound}
+use Rattle.workspace.specs.Notes.{base_in, Kept, Noting}
+use Rattle.workspace.specs.Notes.Keeping.{still_holding}
 use Rattle.workspace.specs.Paths.{assumed}
 use Rattle.workspace.specs.Paths.Conditions.{learns-refl, assumed-ruled, assumed-without}
-use Rattle.workspace.specs.Places.{base_at, depthAt, forkLimit, frameWidth, framesSize, known_at, log_at, next_at, spaceSize, writeAt, writes_at}
-use Rattle.workspace.specs.Rules.{withoutGuard}
-use Rattle.workspace.specs.State.{depthIn, Means, Variables, PathIn, Room}
-use Rattle.workspace.specs.State.Laws.{nothing_known, room-same, means-kept, variables-kept, path-kept, path-rewound, distinct-same, room-less, room-on, room-space}
+use Rattle.workspace.specs.Places.{base_at, depth_at, fork_limit, frame_width, frames_size, known_at, log_at, next_at, space_size, write_at, writes_at}
+use Rattle.workspace.specs.Rules.{without_guard}
+use Rattle.workspace.specs.State.{depth_in, Means, Variables, PathIn, Room}
+use Rattle.workspace.specs.State.Laws.{nothing_known, room-same, means-kept, variables-kept, path-kept, path_rewound, distinct-same, room_less, room_on, room-space}
 use Rattle.checker.specs.Code.Going.{Later, Awaits, Onward, Forking, Left, none_left, one_left, Stands, Entering, Restorable, Restores, Resumable, Resumes}
 use Rattle.checker.specs.Code.Going.Keeping.{awaits-kept, left-kept, stands-base, stands-ruled}
 
@@ -31,7 +31,7 @@ pub record Last (limit : ℕ) (table : List ℕ) (bound base : ℕ) (ground : Li
   pub gs : List ℕ
   pub own : List Leaf
   pub others : List Leaf
-  pub count : forkedIn gs ≡ j
+  pub count : forked_in gs ≡ j
   pub forking : Forking limit table bound base ground xs gs own
   pub left : Left limit table bound base ground xs gs j others
   pub onward : Onward base xs gs ws fs
@@ -59,7 +59,7 @@ last_of j e (one_left {xs = xs} {gs = gs} {ls = ls} {ms = ms} i c f l o s) =
 -- ---- the path's numbers
 
 module _ {limit : ℕ} {table : List ℕ} {bound base : ℕ} {ground : List Symbolic} {ws fs : List ℕ} {env : List Symbolic} {p : Path} {ks : List Later} {owed frames : ℕ}
-    {ls : List Leaf} (s : Stands limit table bound base ground ws fs env p ks owed frames ls) (j : ℕ) (some : forkedIn fs ≡ suc j) {ws₁ hs : List ℕ}
+    {ls : List Leaf} (s : Stands limit table bound base ground ws fs env p ks owed frames ls) (j : ℕ) (some : forked_in fs ≡ suc j) {ws₁ hs : List ℕ}
     (w : Rewound j ws fs ws₁ hs) where
   last : Last limit table bound base ground ws fs ls j
   last = last_of j some s.left
@@ -73,63 +73,63 @@ module _ {limit : ℕ} {table : List ℕ} {bound base : ℕ} {ground : List Symb
   abbrev f : Forking limit table bound base ground last.xs last.gs last.own
   f = last.forking
 
-  few-base : base ≤ symbolLimit
+  few-base : base ≤ symbol_limit
   few-base = let h = stands-base s in omega (arith, h, s.narrow)
 
-  count-is : get_or ws₁ countAt 0 ≡ get_or xs countAt 0
+  count-is : get_or ws₁ count_at 0 ≡ get_or xs count_at 0
   count-is = w.count ∙ last.slot.count
 
   writes-is : get_or ws₁ writes_at 0 ≡ get_or xs writes_at 0
   writes-is = w.writes ∙ last.slot.writes
 
-  depth_is : depthIn ws₁ ≡ depthIn xs
+  depth_is : depth_in ws₁ ≡ depth_in xs
   depth_is = w.depth ∙ last.slot.depth
 
-  frame_is : frameIn hs ≡ frameIn gs
+  frame_is : frame_in hs ≡ frame_in gs
   frame_is = w.frame ∙ last.slot.frame
 
-  top-is : topIn hs ≡ topIn gs
+  top-is : top_in hs ≡ top_in gs
   top-is = w.top ∙ last.slot.frame ∙ f.newest
 
-  row_is : (k : ℕ) → rows_at ≤ k → k < row_at (get_or xs countAt 0) → get_or ws₁ k 0 ≡ get_or xs k 0
+  row_is : (k : ℕ) → rows_at ≤ k → k < row_at (get_or xs count_at 0) → get_or ws₁ k 0 ≡ get_or xs k 0
   row_is k l h = w.before k (omega (arith, h, f.room.rows)) (λ e. omega arith) ∙ last.onward.grown.rows k l h
 
-  log_is : (k : ℕ) → log_at ≤ k → k < writeAt (get_or xs writes_at 0) → get_or ws₁ k 0 ≡ get_or xs k 0
+  log_is : (k : ℕ) → log_at ≤ k → k < write_at (get_or xs writes_at 0) → get_or ws₁ k 0 ≡ get_or xs k 0
   log_is k l h = w.beyond k l (λ e. omega (arith, h, e, f.room.writes)) ∙ last.onward.log k l h
 
   first-is : (k : ℕ) → k < 2 * base → get_or ws₁ k 0 ≡ get_or xs k 0
   first-is k l = let b = few-base in w.before k (omega arith) (λ e. omega arith) ∙ last.onward.first k l
 
-  frames-are : (k : ℕ) → frameWidth ≤ k → k < frameWidth + frameWidth * topIn gs → get_or hs k 0 ≡ get_or gs k 0
-  frames-are k l h = w.others k (omega arith) ∙ last.onward.frames k l h
+  frames_are : (k : ℕ) → frame_width ≤ k → k < frame_width + frame_width * top_in gs → get_or hs k 0 ≡ get_or gs k 0
+  frames_are k l h = w.others k (omega arith) ∙ last.onward.frames k l h
 
-  rewound-grown : Grown xs ws₁
-  rewound-grown = record { grows = omega (arith, count-is); rows = row_is }
+  rewound_grown : Grown xs ws₁
+  rewound_grown = record { grows = omega (arith, count-is); rows = row_is }
 
-  rewound-path : PathIn ws₁ f.path
-  rewound-path =
-      path-rewound row_is log_is count-is (w.next ∙ last.slot.next) (w.condition ∙ last.slot.condition) writes-is (w.start ∙ last.slot.start)
+  rewound_path : PathIn ws₁ f.path
+  rewound_path =
+      path_rewound row_is log_is count-is (w.next ∙ last.slot.next) (w.condition ∙ last.slot.condition) writes-is (w.start ∙ last.slot.start)
       (nothing_known w.known) f.state.path
 
-  rewound-ground : Variables ws₁ base ground
-  rewound-ground = variables-kept base (omega arith) first-is rewound-grown f.ground-is
+  rewound_ground : Variables ws₁ base ground
+  rewound_ground = variables-kept base (omega arith) first-is rewound_grown f.ground-is
 
-  rewound-base : baseIn ws₁ ≡ base
-  rewound-base = w.beyond base_at (omega arith) (λ e. omega arith) ∙ s.based
+  rewound_base : base_in ws₁ ≡ base
+  rewound_base = w.beyond base_at (omega arith) (λ e. omega arith) ∙ s.based
 
-  rewound-awaits : Awaits table bound base ground ws₁ hs (frameIn hs) (depthIn ws₁) f.environment f.later f.owed f.frames
-  rewound-awaits =
+  rewound_awaits : Awaits table bound base ground ws₁ hs (frame_in hs) (depth_in ws₁) f.environment f.later f.owed f.frames
+  rewound_awaits =
       let n = f.newest in
-      rw (frame_is, depth_is) (awaits-kept (topIn gs) (omega arith) rewound-grown frames-are f.awaits)
+      rw (frame_is, depth_is) (awaits-kept (top_in gs) (omega arith) rewound_grown frames_are f.awaits)
 
-  few-frames : topIn gs < nodeLimit
-  few-frames = let z = size-some (treeIn table (nodeIn table (waiterOf gs (frameIn gs))).c) in omega (arith, z, f.tops)
+  few-frames : top_in gs < node_limit
+  few-frames = let z = size-some (tree_in table (node_in table (waiter_of gs (frame_in gs))).c) in omega (arith, z, f.tops)
 
-  last-low : waiterOf last.gs (frameIn last.gs) < bound
+  last-low : waiter_of last.gs (frame_in last.gs) < bound
   last-low = f.low
 
-  resume-restorable : Restorable ws₁ hs
-  resume-restorable =
+  resume_restorable : Restorable ws₁ hs
+  resume_restorable =
       record {
         lent = omega (arith, s.lent, w.same);
         framed = omega (arith, s.framed, w.framed);
@@ -142,161 +142,161 @@ module _ {limit : ℕ} {table : List ℕ} {bound base : ℕ} {ground : List Symb
         later = f.later;
         owed = f.owed;
         frames = f.frames;
-        awaits = rw rewound-base rewound-awaits;
+        awaits = rw rewound_base rewound_awaits;
       }
 
   -- ---- its variables
 
   module _ {ws₂ : List ℕ} (v : Restores ws₁ hs ws₂) where
-    place : (k : ℕ) → variablesEnd ≤ k → get_or ws₂ k 0 ≡ get_or ws₁ k 0
+    place : (k : ℕ) → variables_end ≤ k → get_or ws₂ k 0 ≡ get_or ws₁ k 0
     place = v.beyond
 
-    restored-grown : Grown ws₁ ws₂
-    restored-grown =
-        let e = place countAt (omega arith) in
+    restored_grown : Grown ws₁ ws₂
+    restored_grown =
+        let e = place count_at (omega arith) in
         record { grows = omega arith; rows = λ k l h. place k (omega arith) }
 
     all_grown : Grown xs ws₂
     all_grown =
-        let e = place countAt (omega arith) in
+        let e = place count_at (omega arith) in
         record { grows = omega (arith, e, count-is); rows = λ k l h. place k (omega arith) ∙ row_is k l h }
 
-    restored-onward : Onward base xs gs ws₂ hs
-    restored-onward =
+    restored_onward : Onward base xs gs ws₂ hs
+    restored_onward =
         let e = place writes_at (omega arith) in
         record {
           same = v.same ∙ w.same ∙ last.onward.same;
           framed = w.framed ∙ last.onward.framed;
-          first = λ k l. v.first k (omega (arith, l, rewound-base)) ∙ first-is k l;
+          first = λ k l. v.first k (omega (arith, l, rewound_base)) ∙ first-is k l;
           grown = all_grown;
           logged = omega (arith, e, writes-is);
           log = λ k l h. place k (omega arith) ∙ log_is k l h;
           tops = omega (arith, top-is);
-          frames = frames-are;
+          frames = frames_are;
           forked = omega (arith, w.forked, last.count);
           forks = λ k l h. w.others k (omega arith) ∙ last.onward.forks k l h;
         }
 
-    restored-path : PathIn ws₂ f.path
-    restored-path =
-        path-kept (λ k l. place k (omega arith)) restored-grown (distinct-same place rewound-path.distinct) rewound-path
+    restored_path : PathIn ws₂ f.path
+    restored_path =
+        path-kept (λ k l. place k (omega arith)) restored_grown (distinct-same place rewound_path.distinct) rewound_path
 
-    restored-depth : depthIn ws₂ ≡ depthIn ws₁
-    restored-depth = place depthAt (omega arith)
+    restored_depth : depth_in ws₂ ≡ depth_in ws₁
+    restored_depth = place depth_at (omega arith)
 
-    restored-notes : Kept limit table ws₂
-    restored-notes =
+    restored_notes : Kept limit table ws₂
+    restored_notes =
         let b = few-base in
         let e = s.based in
         let n : Noting limit table ws base = record { lent = s.lent; based = omega (arith, e); kept = s.notes } in
-        (still-holding n
-        (λ k l. v.first k (omega (arith, l, rewound-base)) ∙ w.before k (omega arith) (λ z. omega arith))
+        (still_holding n
+        (λ k l. v.first k (omega (arith, l, rewound_base)) ∙ w.before k (omega arith) (λ z. omega arith))
         (record { each = λ k l h. place k (omega arith) ∙ w.beyond k (omega arith) (λ e. omega arith) })).kept
 
-    restored-stands : Stands limit table bound base ground ws₂ hs f.environment f.path f.later f.owed f.frames last.others
-    restored-stands =
+    restored_stands : Stands limit table bound base ground ws₂ hs f.environment f.path f.later f.owed f.frames last.others
+    restored_stands =
         record {
           formed = s.formed;
           lent = omega (arith, s.lent, w.same, v.same);
           framed = omega (arith, s.framed, w.framed);
-          narrow = omega (arith, restored-depth, depth_is, f.variables);
+          narrow = omega (arith, restored_depth, depth_is, f.variables);
           state = record {
             variables =
-                rw restored-depth
-                (v.variables table bound ground f.environment f.later f.owed f.frames (rw rewound-base rewound-ground) (rw rewound-base rewound-awaits));
-            path = restored-path;
+                rw restored_depth
+                (v.variables table bound ground f.environment f.later f.owed f.frames (rw rewound_base rewound_ground) (rw rewound_base rewound_awaits));
+            path = restored_path;
           };
-          ground-is = variables-kept base (omega arith) (λ k l. v.first k (omega (arith, l, rewound-base))) restored-grown rewound-ground;
-          based = place base_at (omega arith) ∙ rewound-base;
-          notes = restored-notes;
-          awaits = rw restored-depth (awaits-kept (topIn hs) (omega (arith, frame_is, top-is, f.newest)) restored-grown (λ k l h. refl) rewound-awaits);
+          ground-is = variables-kept base (omega arith) (λ k l. v.first k (omega (arith, l, rewound_base))) restored_grown rewound_ground;
+          based = place base_at (omega arith) ∙ rewound_base;
+          notes = restored_notes;
+          awaits = rw restored_depth (awaits-kept (top_in hs) (omega (arith, frame_is, top-is, f.newest)) restored_grown (λ k l h. refl) rewound_awaits);
           inside = omega (arith, frame_is, top-is, f.newest);
-          left = rw w.forked (left-kept restored-onward (omega (arith, last.count)) last.left);
+          left = rw w.forked (left-kept restored_onward (omega (arith, last.count)) last.left);
           few = omega (arith, w.forked, last.count, top-is, f.few);
         }
 
     -- ---- its false branch
 
-    node-is : waiterOf hs (frameIn hs) ≡ waiterOf gs (frameIn gs)
-    node-is = ap (waiterOf hs) frame_is ∙ frames-are (frameWidth * frameIn gs) (omega (arith, f.newest, f.few)) (omega (arith, f.newest))
+    node-is : waiter_of hs (frame_in hs) ≡ waiter_of gs (frame_in gs)
+    node-is = ap (waiter_of hs) frame_is ∙ frames_are (frame_width * frame_in gs) (omega (arith, f.newest, f.few)) (omega (arith, f.newest))
 
-    guard-is : second_of hs (frameIn hs) ≡ second_of gs (frameIn gs)
-    guard-is = ap (second_of hs) frame_is ∙ frames-are (frameWidth * frameIn gs + 3) (omega (arith, f.newest, f.few)) (omega (arith, f.newest))
+    guard-is : second_of hs (frame_in hs) ≡ second_of gs (frame_in gs)
+    guard-is = ap (second_of hs) frame_is ∙ frames_are (frame_width * frame_in gs + 3) (omega (arith, f.newest, f.few)) (omega (arith, f.newest))
 
-    resume-room : {rows : ℕ} → Room xs rows → Room ws₂ rows
-    resume-room x =
-        room-same (v.same ∙ w.same ∙ last.onward.same) (place countAt (omega arith) ∙ count-is) (place next_at (omega arith) ∙ w.next ∙ last.slot.next)
+    resume_room : {rows : ℕ} → Room xs rows → Room ws₂ rows
+    resume_room x =
+        room-same (v.same ∙ w.same ∙ last.onward.same) (place count_at (omega arith) ∙ count-is) (place next_at (omega arith) ∙ w.next ∙ last.slot.next)
         (place writes_at (omega arith) ∙ writes-is) x
 
     guard-room : Room ws₂ 1
-    guard-room = resume-room (room-less (omega arith) f.room)
+    guard-room = resume_room (room_less (omega arith) f.room)
 
-    guard-means : Means ws₂ 1 (second_of hs (frameIn hs)) (aTruth f.guard)
+    guard-means : Means ws₂ 1 (second_of hs (frame_in hs)) (a_truth f.guard)
     guard-means = rw guard-is (means-kept all_grown f.means)
 
-    resume-enters : Entering limit table bound base ground (assumed ws₂ ofExclusion (second_of hs (frameIn hs))) hs (nodeIn table (waiterOf hs (frameIn hs))).c ls
-    resume-enters =
-        let u = assumed-ruled guard-room (learns-refl ws₂) 7 (second_of hs (frameIn hs)) in
+    resume_enters : Entering limit table bound base ground (assumed ws₂ of_exclusion (second_of hs (frame_in hs))) hs (node_in table (waiter_of hs (frame_in hs))).c ls
+    resume_enters =
+        let u = assumed-ruled guard-room (learns-refl ws₂) 7 (second_of hs (frame_in hs)) in
         record {
           environment = f.environment;
-          path = withoutGuard f.guard f.path;
+          path = without_guard f.guard f.path;
           later = f.later;
           owed = f.owed;
           frames = f.frames;
           others = last.others;
           stands =
-              stands-ruled restored-stands u
-              (assumed-without guard-room (learns-refl ws₂) guard-means f.allowed (nothing_known (place known_at (omega arith) ∙ w.known)) restored-path);
+              stands-ruled restored_stands u
+              (assumed-without guard-room (learns-refl ws₂) guard-means f.allowed (nothing_known (place known_at (omega arith) ∙ w.known)) restored_path);
           low = rw node-is f.branch;
           room =
               rw node-is
-              (room-on {n = size (treeIn table (nodeIn table (waiterOf gs (frameIn gs))).c) + f.owed} (resume-room (room-less (omega arith) f.room)) u.went);
+              (room_on {n = size (tree_in table (node_in table (waiter_of gs (frame_in gs))).c) + f.owed} (resume_room (room_less (omega arith) f.room)) u.went);
           tops = rw node-is (omega (arith, top-is, w.forked, last.count, f.tops));
-          variables = rw node-is (omega (arith, u.depth, restored-depth, depth_is, f.variables));
+          variables = rw node-is (omega (arith, u.depth, restored_depth, depth_is, f.variables));
           is = rw node-is (last.is ∙ ap (λ (ms : List Leaf). ms ++ last.others) f.is);
         }
 
 -- ---- as the code goes back
 
 module _ {table ws fs : List ℕ} (x : Resumable table ws fs) where
-  pub resume-lent : spaceSize ≤ length ws
-  resume-lent = x.stands.lent
+  pub resume_lent : space_size ≤ length ws
+  resume_lent = x.stands.lent
 
-  pub resume-framed : framesSize ≤ length fs
-  resume-framed = x.stands.framed
+  pub resume_framed : frames_size ≤ length fs
+  resume_framed = x.stands.framed
 
-  pub resume-few : forkedIn fs ≤ forkLimit
-  resume-few = omega (arith, x.few, x.stands.few)
+  pub resume_few : forked_in fs ≤ fork_limit
+  resume_few = omega (arith, x.few, x.stands.few)
 
-  some_is : forkedIn fs ≡ suc (forkedIn fs - 1)
+  some_is : forked_in fs ≡ suc (forked_in fs - 1)
   some_is = omega (arith, x.some)
 
-  module _ {ws₁ hs : List ℕ} (w : Rewound (forkedIn fs - 1) ws fs ws₁ hs) where
-    pub rewound-restorable : Restorable ws₁ hs
-    rewound-restorable = resume-restorable x.stands (forkedIn fs - 1) some_is w
+  module _ {ws₁ hs : List ℕ} (w : Rewound (forked_in fs - 1) ws fs ws₁ hs) where
+    pub rewound_restorable : Restorable ws₁ hs
+    rewound_restorable = resume_restorable x.stands (forked_in fs - 1) some_is w
 
     module _ {ws₂ : List ℕ} (v : Restores ws₁ hs ws₂) where
       pub guard-space : Space ws₂ 1
-      guard-space = room-space (guard-room x.stands (forkedIn fs - 1) some_is w v)
+      guard-space = room-space (guard-room x.stands (forked_in fs - 1) some_is w v)
 
-      pub guard-lent : spaceSize ≤ length ws₂
-      guard-lent = (guard-room x.stands (forkedIn fs - 1) some_is w v).lent
+      pub guard-lent : space_size ≤ length ws₂
+      guard-lent = (guard-room x.stands (forked_in fs - 1) some_is w v).lent
 
-      pub branch-node : HasNode table (waiterOf hs (frameIn hs))
+      pub branch-node : HasNode table (waiter_of hs (frame_in hs))
       branch-node =
-          let e = node-is x.stands (forkedIn fs - 1) some_is w v in
-          let l = last-low x.stands (forkedIn fs - 1) some_is w in
+          let e = node-is x.stands (forked_in fs - 1) some_is w v in
+          let l = last-low x.stands (forked_in fs - 1) some_is w in
           omega (arith, e, l, x.stands.formed.room)
 
-      pub branch-few : waiterOf hs (frameIn hs) < nodeLimit
+      pub branch-few : waiter_of hs (frame_in hs) < node_limit
       branch-few =
-          let e = node-is x.stands (forkedIn fs - 1) some_is w v in
-          let l = last-low x.stands (forkedIn fs - 1) some_is w in
+          let e = node-is x.stands (forked_in fs - 1) some_is w v in
+          let l = last-low x.stands (forked_in fs - 1) some_is w in
           omega (arith, e, l, x.stands.formed.most)
 
-      pub resumed : {left : List ℕ} → left ≡ assumed ws₂ ofExclusion (second_of hs (frameIn hs)) → Resumes table ws fs (nodeIn table (waiterOf hs (frameIn hs))).c left hs
+      pub resumed : {left : List ℕ} → left ≡ assumed ws₂ of_exclusion (second_of hs (frame_in hs)) → Resumes table ws fs (node_in table (waiter_of hs (frame_in hs))).c left hs
       resumed e =
           rw e
           (record {
-            resumed = λ limit bound base ground env p ks owed frames ls s. resume-enters s (forkedIn fs - 1) some_is w v;
+            resumed = λ limit bound base ground env p ks owed frames ls s. resume_enters s (forked_in fs - 1) some_is w v;
           })

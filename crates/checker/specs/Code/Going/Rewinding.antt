@@ -2,15 +2,15 @@
 use Rattle.std.specs.Prelude.{List, [], ◌∷◌, ◌++◌, ◌≡◌, refl, ℕ, suc, ◌+◌, ◌*◌, ◌-◌, ◌≤◌, ◌<◌, length, get_or, set}
 use Rattle.std.proofs.Common.{◌∙◌, arith, length-set, get_or-set_same, get_or-set_other}
 use Rattle.rules.specs.Symbolic.{Symbolic}
-use Rattle.terms.specs.Places.{symbolLimit, variablesEnd}
+use Rattle.terms.specs.Places.{symbol_limit, variables_end}
 use Rattle.terms.specs.Terms.{Grown}
-use Rattle.workspace.specs.Frames.{frameIn, first_of, second_of, goesTo, forBody}
+use Rattle.workspace.specs.Frames.{frame_in, first_of, second_of, goes_to, for_body}
 use Rattle.workspace.specs.Forks.{RestoredOne}
-use Rattle.workspace.specs.Notes.{baseIn}
+use Rattle.workspace.specs.Notes.{base_in}
 use Rattle.workspace.specs.Places.{base_at}
-use Rattle.workspace.specs.State.{depthIn, Means, Variables, oneMore}
+use Rattle.workspace.specs.State.{depth_in, Means, Variables, one_more}
 use Rattle.workspace.specs.State.Laws.{means-at, variables-kept, same-grown}
-use Rattle.checker.specs.Code.Going.{Later, Slot, Awaits, no-frame, for-only, for-first, for-second, for-body, Restorable, Restores}
+use Rattle.checker.specs.Code.Going.{Later, Slot, Awaits, no_frame, for_only, for_first_lem, for_second, for_body_lem, Restorable, Restores}
 use Rattle.checker.specs.Code.Going.Keeping.{awaits-base}
 
 -- ---- the variables that the frames have
@@ -18,32 +18,32 @@ use Rattle.checker.specs.Code.Going.Keeping.{awaits-base}
 -- the variables from place d on hold the values by which one environment, of d values, becomes another
 data Extends (ws : List ℕ) : ℕ → List Symbolic → ℕ → List Symbolic → Type 0 where
   there : {d : ℕ} {env : List Symbolic} → Extends ws d env d env
-  one_more : {d depth : ℕ} {env env₂ : List Symbolic} {v : Symbolic} → Means ws (get_or ws (2 * d) 0) (get_or ws (2 * d + 1) 0) v
+  extends_one_more : {d depth : ℕ} {env env₂ : List Symbolic} {v : Symbolic} → Means ws (get_or ws (2 * d) 0) (get_or ws (2 * d + 1) 0) v
       → Extends ws (suc d) (env ++ (v ∷ [])) depth env₂ → Extends ws d env depth env₂
 
-extends-trans : {ws : List ℕ} {d e depth : ℕ} {env env₁ env₂ : List Symbolic} → Extends ws d env e env₁ → Extends ws e env₁ depth env₂
+extends_trans : {ws : List ℕ} {d e depth : ℕ} {env env₁ env₂ : List Symbolic} → Extends ws d env e env₁ → Extends ws e env₁ depth env₂
     → Extends ws d env depth env₂
-extends-trans there y = y
-extends-trans (one_more m x) y = one_more m (extends-trans x y)
+extends_trans there y = y
+extends_trans (extends_one_more m x) y = extends_one_more m (extends_trans x y)
 
 extends-kept : {ws left : List ℕ} {d depth : ℕ} {env env₂ : List Symbolic} (low : ℕ) → low ≤ d → ((k : ℕ) → 2 * low ≤ k → get_or left k 0 ≡ get_or ws k 0)
     → Grown ws left → Extends ws d env depth env₂ → Extends left d env depth env₂
 extends-kept low l b g there = there
-extends-kept low l b g (one_more {d = d} m x) =
-    one_more (means-at g (b (2 * d) (omega arith)) (b (2 * d + 1) (omega arith)) m) (extends-kept low (omega arith) b g x)
+extends-kept low l b g (extends_one_more {d = d} m x) =
+    extends_one_more (means-at g (b (2 * d) (omega arith)) (b (2 * d + 1) (omega arith)) m) (extends-kept low (omega arith) b g x)
 
 extends-variables : {ws : List ℕ} {d depth : ℕ} {env env₂ : List Symbolic} → Variables ws d env → Extends ws d env depth env₂ → Variables ws depth env₂
 extends-variables vs there = vs
-extends-variables vs (one_more m x) = extends-variables (oneMore vs m) x
+extends-variables vs (extends_one_more m x) = extends-variables (one_more vs m) x
 
 -- with as many variables as at the start, they are those
 awaits-ground : {table : List ℕ} {bound base : ℕ} {ground : List Symbolic} {ws fs : List ℕ} {f depth owed frames : ℕ} {env : List Symbolic} {ks : List Later}
     → depth ≡ base → Awaits table bound base ground ws fs f depth env ks owed frames → env ≡ ground
-awaits-ground e no-frame = refl
-awaits-ground e (for-only s l o a) = awaits-ground e a
-awaits-ground e (for-first s l o r v a) = awaits-ground e a
-awaits-ground e (for-second s l m a) = awaits-ground e a
-awaits-ground e (for-body s l o m a) = let h = awaits-base a in absurd (omega arith)
+awaits-ground e no_frame = refl
+awaits-ground e (for_only s l o a) = awaits-ground e a
+awaits-ground e (for_first_lem s l o r v a) = awaits-ground e a
+awaits-ground e (for_second s l m a) = awaits-ground e a
+awaits-ground e (for_body_lem s l o m a) = let h = awaits-base a in absurd (omega arith)
 
 -- how one variable is put back
 record Placed (f : ℕ) (fs : List ℕ) (d : ℕ) (ws left : List ℕ) : Type 0 where
@@ -72,9 +72,9 @@ record Upward (table : List ℕ) (bound base : ℕ) (ground : List Symbolic) (ws
   later : List Later
   owed : ℕ
   frames : ℕ
-  awaits : Awaits table bound base ground ws fs (goesTo fs f) r environment later owed frames
+  awaits : Awaits table bound base ground ws fs (goes_to fs f) r environment later owed frames
   extends : Extends left r environment d env
-  earlier : goesTo fs f < f
+  earlier : goes_to fs f < f
   fewer : r ≤ d
   same : length left ≡ length xs
   before : (k : ℕ) → k < 2 * r → get_or left k 0 ≡ get_or xs k 0
@@ -88,7 +88,7 @@ module _ {table : List ℕ} {bound base : ℕ} {ground : List Symbolic} {ws fs x
       let u = s.up in
       let h = s.earlier in
       let e = o.other λ x. omega arith in
-      let p : goesTo fs f ≡ g = omega arith in
+      let p : goes_to fs f ≡ g = omega arith in
       record {
         environment = env;
         later = ks;
@@ -104,14 +104,14 @@ module _ {table : List ℕ} {bound base : ℕ} {ground : List Symbolic} {ws fs x
       }
 
   -- one that does
-  upward-body : {f n g d owed frames : ℕ} {env : List Symbolic} {ks : List Later} {v : Symbolic} → RestoredOne fs f (suc d) xs r left → Slot fs f n g forBody
-      → 2 * suc d ≤ length xs → suc d ≤ symbolLimit → ((k : ℕ) → variablesEnd ≤ k → get_or xs k 0 ≡ get_or ws k 0) → Means ws (first_of fs f) (second_of fs f) v
+  upward-body : {f n g d owed frames : ℕ} {env : List Symbolic} {ks : List Later} {v : Symbolic} → RestoredOne fs f (suc d) xs r left → Slot fs f n g for_body
+      → 2 * suc d ≤ length xs → suc d ≤ symbol_limit → ((k : ℕ) → variables_end ≤ k → get_or xs k 0 ≡ get_or ws k 0) → Means ws (first_of fs f) (second_of fs f) v
       → Awaits table bound base ground ws fs g d env ks owed frames → Upward table bound base ground ws fs f (suc d) (env ++ (v ∷ [])) xs r left
   upward-body {f = f} {g = g} {d = d} {owed = owed} {frames = frames} {env = env} {ks = ks} o s l n b m a =
       let u = s.up in
       let h = s.earlier in
       let e = o.body (omega arith) in
-      let p : goesTo fs f ≡ g = omega arith in
+      let p : goes_to fs f ≡ g = omega arith in
       let i : r ≡ d = omega (arith, e.0) in
       let j : suc d - 1 ≡ d = omega arith in
       let q : Placed f fs d xs left = rw (e.1, j) (placed_by f fs d xs l) in
@@ -121,7 +121,7 @@ module _ {table : List ℕ} {bound base : ℕ} {ground : List Symbolic} {ws fs x
         owed = owed;
         frames = frames;
         awaits = rw (p, i) a;
-        extends = rw i (one_more (means-at (same-grown λ k z. q.beyond k (omega arith) ∙ b k z) q.type q.place m) there);
+        extends = rw i (extends_one_more (means-at (same-grown λ k z. q.beyond k (omega arith) ∙ b k z) q.type q.place m) there);
         earlier = omega arith;
         fewer = omega arith;
         same = q.same;
@@ -129,14 +129,14 @@ module _ {table : List ℕ} {bound base : ℕ} {ground : List Symbolic} {ws fs x
         beyond = q.beyond;
       }
 
-  upward : {f d owed frames : ℕ} {env : List Symbolic} {ks : List Later} → base < d → 2 * d ≤ length xs → d ≤ symbolLimit
-      → ((k : ℕ) → variablesEnd ≤ k → get_or xs k 0 ≡ get_or ws k 0) → RestoredOne fs f d xs r left → Awaits table bound base ground ws fs f d env ks owed frames
+  upward : {f d owed frames : ℕ} {env : List Symbolic} {ks : List Later} → base < d → 2 * d ≤ length xs → d ≤ symbol_limit
+      → ((k : ℕ) → variables_end ≤ k → get_or xs k 0 ≡ get_or ws k 0) → RestoredOne fs f d xs r left → Awaits table bound base ground ws fs f d env ks owed frames
       → Upward table bound base ground ws fs f d env xs r left
-  upward h l n b o no-frame = absurd (omega arith)
-  upward h l n b o (for-only s i p a) = upward-same o s (omega arith) a
-  upward h l n b o (for-first s i p q v a) = upward-same o s (omega arith) a
-  upward h l n b o (for-second s i m a) = upward-same o s (omega arith) a
-  upward h l n b o (for-body s i p m a) = upward-body o s l n b m a
+  upward h l n b o no_frame = absurd (omega arith)
+  upward h l n b o (for_only s i p a) = upward-same o s (omega arith) a
+  upward h l n b o (for_first_lem s i p q v a) = upward-same o s (omega arith) a
+  upward h l n b o (for_second s i m a) = upward-same o s (omega arith) a
+  upward h l n b o (for_body_lem s i p m a) = upward-body o s l n b m a
 
 -- what waits from frame f on, with d variables, and how they become those of the path
 pub record Reached (table : List ℕ) (bound : ℕ) (ground : List Symbolic) (ws fs : List ℕ) (env : List Symbolic) (f d : ℕ) (xs : List ℕ) : Type 0 where
@@ -144,22 +144,22 @@ pub record Reached (table : List ℕ) (bound : ℕ) (ground : List Symbolic) (ws
   later : List Later
   owed : ℕ
   frames : ℕ
-  awaits : Awaits table bound (baseIn ws) ground ws fs f d environment later owed frames
-  extends : Extends xs d environment (depthIn ws) env
+  awaits : Awaits table bound (base_in ws) ground ws fs f d environment later owed frames
+  extends : Extends xs d environment (depth_in ws) env
 
 -- the variables from place d on are restored, and frame f is next
 pub record Restoring (ws fs : List ℕ) (f d : ℕ) (xs : List ℕ) : Type 0 where
   pub same : length xs ≡ length ws
-  pub first : (k : ℕ) → k < 2 * baseIn ws → get_or xs k 0 ≡ get_or ws k 0
-  pub beyond : (k : ℕ) → variablesEnd ≤ k → get_or xs k 0 ≡ get_or ws k 0
-  pub inside : f ≤ frameIn fs
-  pub fewer : d ≤ depthIn ws
+  pub first : (k : ℕ) → k < 2 * base_in ws → get_or xs k 0 ≡ get_or ws k 0
+  pub beyond : (k : ℕ) → variables_end ≤ k → get_or xs k 0 ≡ get_or ws k 0
+  pub inside : f ≤ frame_in fs
+  pub fewer : d ≤ depth_in ws
   pub reached : (table : List ℕ) (bound : ℕ) (ground env : List Symbolic) (ks : List Later) (owed frames : ℕ)
-      → Awaits table bound (baseIn ws) ground ws fs (frameIn fs) (depthIn ws) env ks owed frames → Reached table bound ground ws fs env f d xs
+      → Awaits table bound (base_in ws) ground ws fs (frame_in fs) (depth_in ws) env ks owed frames → Reached table bound ground ws fs env f d xs
 
 module _ {ws fs : List ℕ} (can : Restorable ws fs) where
-  pub restoring-start : Restoring ws fs (frameIn fs) (depthIn ws) ws
-  restoring-start =
+  pub restoring_start : Restoring ws fs (frame_in fs) (depth_in ws) ws
+  restoring_start =
       record {
         same = refl;
         first = λ k l. refl;
@@ -171,31 +171,31 @@ module _ {ws fs : List ℕ} (can : Restorable ws fs) where
       }
 
   module _ {f d : ℕ} {xs : List ℕ} (s : Restoring ws fs f d xs) where
-    restoring-base : baseIn xs ≡ baseIn ws
-    restoring-base = s.beyond base_at (omega arith)
+    restoring_base : base_in xs ≡ base_in ws
+    restoring_base = s.beyond base_at (omega arith)
 
     -- what is known of the loop's own frames
-    restoring-reached : Reached can.table can.bound can.ground ws fs can.environment f d xs
-    restoring-reached = s.reached can.table can.bound can.ground can.environment can.later can.owed can.frames can.awaits
+    restoring_reached : Reached can.table can.bound can.ground ws fs can.environment f d xs
+    restoring_reached = s.reached can.table can.bound can.ground can.environment can.later can.owed can.frames can.awaits
 
-    module _ (more : baseIn xs < d) {r : ℕ} {left : List ℕ} (o : RestoredOne fs f d xs r left) where
-      restoring-up : {table : List ℕ} {bound : ℕ} {ground env : List Symbolic} {ks : List Later} {owed frames : ℕ}
-          → Awaits table bound (baseIn ws) ground ws fs f d env ks owed frames → Upward table bound (baseIn ws) ground ws fs f d env xs r left
-      restoring-up a =
-          let e = restoring-base in
+    module _ (more : base_in xs < d) {r : ℕ} {left : List ℕ} (o : RestoredOne fs f d xs r left) where
+      restoring_up : {table : List ℕ} {bound : ℕ} {ground env : List Symbolic} {ks : List Later} {owed frames : ℕ}
+          → Awaits table bound (base_in ws) ground ws fs f d env ks owed frames → Upward table bound (base_in ws) ground ws fs f d env xs r left
+      restoring_up a =
+          let e = restoring_base in
           let i = s.fewer in
           let n = can.narrow in
           upward (omega arith) (omega (arith, s.same, can.lent)) (omega arith) s.beyond o a
 
-      restoring-one : Upward can.table can.bound (baseIn ws) can.ground ws fs f d restoring-reached.environment xs r left
-      restoring-one = restoring-up restoring-reached.awaits
+      restoring_one : Upward can.table can.bound (base_in ws) can.ground ws fs f d restoring_reached.environment xs r left
+      restoring_one = restoring_up restoring_reached.awaits
 
-      pub restoring-less : goesTo fs f < f
-      restoring-less = restoring-one.earlier
+      pub restoring_less : goes_to fs f < f
+      restoring_less = restoring_one.earlier
 
-      pub restoring-on : Restoring ws fs (goesTo fs f) r left
-      restoring-on =
-          let u = restoring-one in
+      pub restoring_on : Restoring ws fs (goes_to fs f) r left
+      restoring_on =
+          let u = restoring_one in
           let i = s.fewer in
           let n = can.narrow in
           let b = awaits-base u.awaits in
@@ -207,20 +207,20 @@ module _ {ws fs : List ℕ} (can : Restorable ws fs) where
             fewer = omega (arith, u.fewer);
             reached = λ table bound ground env ks owed frames a.
                 let q = s.reached table bound ground env ks owed frames a in
-                let w = restoring-up q.awaits in
+                let w = restoring_up q.awaits in
                 record {
                   environment = w.environment;
                   later = w.later;
                   owed = w.owed;
                   frames = w.frames;
                   awaits = w.awaits;
-                  extends = extends-trans w.extends
+                  extends = extends_trans w.extends
                       (extends-kept d (omega arith) u.beyond (same-grown λ k l. u.beyond k (omega arith)) q.extends);
                 };
           }
 
-    pub restoring-end : d ≤ baseIn xs → Restores ws fs xs
-    restoring-end h =
+    pub restoring_end : d ≤ base_in xs → Restores ws fs xs
+    restoring_end h =
         record {
           same = s.same;
           first = s.first;
@@ -228,8 +228,8 @@ module _ {ws fs : List ℕ} (can : Restorable ws fs) where
           variables = λ table bound ground env ks owed frames vs a.
               let q = s.reached table bound ground env ks owed frames a in
               let b = awaits-base q.awaits in
-              let e = restoring-base in
+              let e = restoring_base in
               let g = awaits-ground (omega arith) q.awaits in
-              let z : d ≡ baseIn ws = omega arith in
-              extends-variables (rw (g, z) (variables-kept (baseIn ws) (omega arith) s.first (same-grown s.beyond) vs)) q.extends;
+              let z : d ≡ base_in ws = omega arith in
+              extends-variables (rw (g, z) (variables-kept (base_in ws) (omega arith) s.first (same-grown s.beyond) vs)) q.extends;
         }

@@ -5,9 +5,9 @@ use Rattle.std.proofs.Math.Path.{sym, ap}
 use Rattle.std.proofs.Common.{◌∙◌, ne_eqb}
 use Rattle.std.proofs.Math.Nat.{sub-zero}
 use native.Mathlib.Omega.{arith}
-use Rattle.script.specs.Code.Forms.{treeIn}
-use Rattle.script.specs.Limits.{nodeLimit}
-use Rattle.script.specs.Rows.Laws.{same-anywhere}
+use Rattle.script.specs.Code.Forms.{tree_in}
+use Rattle.script.specs.Limits.{node_limit}
+use Rattle.script.specs.Rows.Laws.{same_anywhere}
 use Rattle.script.specs.Tests.{pick}
 use Rattle.script.specs.declared.Checked.TheVariants.{Accepted, Refused}
 use Rattle.script.specs.declared.Refusal.{Refusal}
@@ -16,17 +16,17 @@ use Rattle.rules.specs.Checking.{exec}
 use Rattle.rules.specs.Checking.Laws.{first-path}
 use Rattle.rules.specs.Paths.{Paths, bind, Leaf, start, leaves}
 use Rattle.rules.specs.Symbolic.{Symbolic, symbols}
-use Rattle.rules.specs.SymbolicRules.{firstType, judge, verdict}
-use Rattle.workspace.specs.Frames.{topIn, Descendable, Descends}
+use Rattle.rules.specs.SymbolicRules.{first_type, judge, verdict}
+use Rattle.workspace.specs.Frames.{top_in, Descendable, Descends}
 use Rattle.workspace.specs.Frames.Laws.{size-some}
-use Rattle.workspace.specs.Notes.Keeping.{bare-noting}
-use Rattle.workspace.specs.Places.{framesSize, spaceSize}
+use Rattle.workspace.specs.Notes.Keeping.{bare_noting}
+use Rattle.workspace.specs.Places.{frames_size, space_size}
 use Rattle.workspace.specs.Rules.{Checkable, Started}
 use Rattle.workspace.specs.Rules.Nodes.{bind-ends}
-use Rattle.workspace.specs.State.{typesOn}
-use Rattle.checker.specs.Code.Going.{goOn, no-frame, none_left, Entering, Enterable, Arrives, AtEnd, PathEnds, WalkOf, refused, lasted, went_on, Walks, Walkable}
+use Rattle.workspace.specs.State.{types_on}
+use Rattle.checker.specs.Code.Going.{go_on, no_frame, none_left, Entering, Enterable, Arrives, AtEnd, PathEnds, WalkOf, refused, lasted, went_on, Walks, Walkable}
 use Rattle.checker.specs.Code.Going.AllFrames.{came-returning, came-entering, came-none}
-use Rattle.checker.specs.Code.Going.Steps.{enters-descendable, enters-descends, descends-tops}
+use Rattle.checker.specs.Code.Going.Steps.{enters_descendable, enters_descends, descends_tops}
 use Rattle.checker.specs.declared.nodes.Walked.{Walked}
 use Rattle.checker.specs.declared.nodes.Walked.TheVariants.{Wrong, Last, More}
 use Rattle.checker.specs.declared.steps.Move.{Move}
@@ -46,28 +46,28 @@ pub walking_start : {limit : ℕ} {table ws fs : List ℕ} {n m : ℕ} → Walka
 walking_start x = record { same = refl; framed = refl; can = x; goes = λ bound base ground ls q. q }
 
 module _ {limit : ℕ} {table : List ℕ} {n m : ℕ} {ws fs left gs : List ℕ} {next : ℕ} (w : Walking limit table n m ws fs left gs next) where
-  pub walking-descendable : Descendable table gs next
-  walking-descendable = enters-descendable w.can.can.entering
+  pub walking_descendable : Descendable table gs next
+  walking_descendable = enters_descendable w.can.can.entering
 
   module _ {inner : ℕ} {hs : List ℕ} (d : Descends table gs next inner hs) where
-    inner-entering : Entering limit table w.can.can.bound w.can.can.base w.can.can.ground left hs inner w.can.can.to-come
-    inner-entering = enters-descends w.can.can.entering d
+    inner_entering : Entering limit table w.can.can.bound w.can.can.base w.can.can.ground left hs inner w.can.can.to_come
+    inner_entering = enters_descends w.can.can.entering d
 
     pub walking-enterable : Enterable limit table left hs inner
     walking-enterable =
         let x = w.can.can in
-        record { bound = x.bound; base = x.base; ground = x.ground; to-come = x.to-come; entering = inner-entering }
+        record { bound = x.bound; base = x.base; ground = x.ground; to_come = x.to_come; entering = inner_entering }
 
     pub walking-earlier : inner < n
-    walking-earlier = let l = inner-entering.low in omega (arith, l, w.can.above)
+    walking-earlier = let l = inner_entering.low in omega (arith, l, w.can.above)
 
     module _ {r : Move} {left₂ ks : List ℕ} (a : Arrives limit table inner left hs r left₂ ks) where
-      pub walking-less : {k : ℕ} → r ≡ Operand k → nodeLimit - topIn ks < nodeLimit - topIn gs
-      walking-less e =
+      pub walking_less : {k : ℕ} → r ≡ Operand k → node_limit - top_in ks < node_limit - top_in gs
+      walking_less e =
           let x = w.can.can.entering.tops in
           let y = a.rises e in
-          let z = descends-tops d in
-          let u = size-some (treeIn table next) in
+          let z = descends_tops d in
+          let u = size-some (tree_in table next) in
           omega (arith, x, y, z, u)
 
       pub walking_on : {k : ℕ} → r ≡ Operand k → length left₂ ≡ length left → length ks ≡ length gs → Walking limit table n m ws fs left₂ ks k
@@ -81,25 +81,25 @@ module _ {limit : ℕ} {table : List ℕ} {n m : ℕ} {ws fs left gs : List ℕ}
                 bound = x.bound;
                 base = x.base;
                 ground = x.ground;
-                to-come = x.to-come;
-                entering = came-entering (a.came x.bound x.base x.ground x.to-come inner-entering) e;
+                to_come = x.to_come;
+                entering = came-entering (a.came x.bound x.base x.ground x.to_come inner_entering) e;
               };
               above = w.can.above;
             };
-            goes = λ bound base ground ls q. came-entering (a.came bound base ground ls (enters-descends (w.goes bound base ground ls q) d)) e;
+            goes = λ bound base ground ls q. came-entering (a.came bound base ground ls (enters_descends (w.goes bound base ground ls q) d)) e;
           }
 
-      pub walking-stopped : {isFirst : Bool} {wanted : ℕ} {x : Refusal} → r ≡ Stopped x → Walks limit table n m isFirst wanted ws fs (Wrong x) left₂ ks
+      pub walking-stopped : {is_first : Bool} {wanted : ℕ} {x : Refusal} → r ≡ Stopped x → Walks limit table n m is_first wanted ws fs (Wrong x) left₂ ks
       unfolding judge
-      walking-stopped {isFirst} {wanted} {x} e =
+      walking-stopped {is_first} {wanted} {x} e =
           record {
             walked = λ bound base ground ls q.
-                let z = came-none (a.came bound base ground ls (enters-descends (w.goes bound base ground ls q) d)) e in
-                refused {x = x} λ k. ap (judge n (suc k) (pick isFirst (firstType ls) wanted)) z.1;
+                let z = came-none (a.came bound base ground ls (enters_descends (w.goes bound base ground ls q) d)) e in
+                refused {x = x} λ k. ap (judge n (suc k) (pick is_first (first_type ls) wanted)) z.1;
           }
 
-      pub walking-end : {u s : ℕ} → r ≡ Value u s → AtEnd table left₂ ks u
-      walking-end {s = s} e =
+      pub walking_end : {u s : ℕ} → r ≡ Value u s → AtEnd table left₂ ks u
+      walking_end {s = s} e =
           let x = w.can.can in
           record {
             none = a.ended e;
@@ -109,17 +109,17 @@ module _ {limit : ℕ} {table : List ℕ} {n m : ℕ} {ws fs left gs : List ℕ}
               bound = x.bound;
               base = x.base;
               ground = x.ground;
-              to-come = x.to-come;
-              returning = came-returning (a.came x.bound x.base x.ground x.to-come inner-entering) e;
+              to_come = x.to_come;
+              returning = came-returning (a.came x.bound x.base x.ground x.to_come inner_entering) e;
             };
           }
 
-      pub walking-ended : {u s : ℕ} → r ≡ Value u s → {isFirst : Bool} {wanted : ℕ} {v : Walked} {left₃ js : List ℕ}
-          → PathEnds table n u isFirst wanted left₂ ks v left₃ js → Walks limit table n m isFirst wanted ws fs v left₃ js
+      pub walking-ended : {u s : ℕ} → r ≡ Value u s → {is_first : Bool} {wanted : ℕ} {v : Walked} {left₃ js : List ℕ}
+          → PathEnds table n u is_first wanted left₂ ks v left₃ js → Walks limit table n m is_first wanted ws fs v left₃ js
       walking-ended {s = s} e p =
           record {
             walked = λ bound base ground ls q.
-                p.ends limit bound base s ground ls (came-returning (a.came bound base ground ls (enters-descends (w.goes bound base ground ls q) d)) e);
+                p.ends limit bound base s ground ls (came-returning (a.came bound base ground ls (enters_descends (w.goes bound base ground ls q) d)) e);
           }
 
 -- ---- the loop over the paths
@@ -151,24 +151,24 @@ module _ {limit : ℕ} {table : List ℕ} {bound base : ℕ} {ground : List Symb
 
 -- after so many paths, the rest of the verdict is that of the leaves to come from node `next` on
 pub record Turn (table types : List ℕ) (depth limit n a : ℕ) (ws fs : List ℕ) (followed wanted next : ℕ) : Type 0 where
-  pub whole : length ws ≡ spaceSize
-  pub framed : length fs ≡ framesSize
+  pub whole : length ws ≡ space_size
+  pub framed : length fs ≡ frames_size
   pub above : suc a ≤ n
-  pub to-come : List Leaf
-  pub entering : Entering limit table (suc a) depth (symbols 0 (typesOn types depth)) ws fs next to-come
-  pub rest : verdict n limit (leaves (exec limit (treeIn table a) (symbols 0 (typesOn types depth)) (start depth)))
-      ≡ judge n (limit - followed) (firstType (leaves (exec limit (treeIn table a) (symbols 0 (typesOn types depth)) (start depth)))) to-come
-  pub type : pick (eqb followed 0) (firstType to-come) wanted
-      ≡ firstType (leaves (exec limit (treeIn table a) (symbols 0 (typesOn types depth)) (start depth)))
+  pub to_come : List Leaf
+  pub entering : Entering limit table (suc a) depth (symbols 0 (types_on types depth)) ws fs next to_come
+  pub rest : verdict n limit (leaves (exec limit (tree_in table a) (symbols 0 (types_on types depth)) (start depth)))
+      ≡ judge n (limit - followed) (first_type (leaves (exec limit (tree_in table a) (symbols 0 (types_on types depth)) (start depth)))) to_come
+  pub type : pick (eqb followed 0) (first_type to_come) wanted
+      ≡ first_type (leaves (exec limit (tree_in table a) (symbols 0 (types_on types depth)) (start depth)))
 
 module _ {table types : List ℕ} {depth limit n a : ℕ} {ws fs : List ℕ} {followed wanted next : ℕ} (u : Turn table types depth limit n a ws fs followed wanted next) where
   abbrev whole-verdict : Paths
-  whole-verdict = exec limit (treeIn table a) (symbols 0 (typesOn types depth)) (start depth)
+  whole-verdict = exec limit (tree_in table a) (symbols 0 (types_on types depth)) (start depth)
 
-  pub turn-walkable : Walkable limit table ws fs n next
-  turn-walkable =
+  pub turn_walkable : Walkable limit table ws fs n next
+  turn_walkable =
       record {
-        can = record { bound = suc a; base = depth; ground = symbols 0 (typesOn types depth); to-come = u.to-come; entering = u.entering };
+        can = record { bound = suc a; base = depth; ground = symbols 0 (types_on types depth); to_come = u.to_come; entering = u.entering };
         above = u.above;
       }
 
@@ -178,18 +178,18 @@ module _ {table types : List ℕ} {depth limit n a : ℕ} {ws fs : List ℕ} {fo
   turn-none l =
       let z : limit - followed ≡ 0 = omega arith in
       let q = u.entering in
-      let s = first-path (bind (exec limit (treeIn table next) q.environment q.path) (goOn limit table q.later)) in
-      let e : u.to-come ≡ s.0 ∷ (s.1 ++ q.others) = q.is ∙ ap (λ (ls : List Leaf). ls ++ q.others) s.2 in
+      let s = first-path (bind (exec limit (tree_in table next) q.environment q.path) (go_on limit table q.later)) in
+      let e : u.to_come ≡ s.0 ∷ (s.1 ++ q.others) = q.is ∙ ap (λ (ls : List Leaf). ls ++ q.others) s.2 in
       sym (u.rest ∙ rw (z, e) refl)
 
   module _ (l : followed < limit) {w : Walked} {left gs : List ℕ} (k : Walks limit table n next (eqb followed 0) wanted ws fs w left gs) where
     abbrev first : ℕ
-    first = pick (eqb followed 0) (firstType u.to-come) wanted
+    first = pick (eqb followed 0) (first_type u.to_come) wanted
 
-    walked : WalkOf limit table (suc a) depth (symbols 0 (typesOn types depth)) n (pick (eqb followed 0) (firstType u.to-come) wanted) left gs u.to-come w
-    walked = k.walked (suc a) depth (symbols 0 (typesOn types depth)) u.to-come u.entering
+    walked : WalkOf limit table (suc a) depth (symbols 0 (types_on types depth)) n (pick (eqb followed 0) (first_type u.to_come) wanted) left gs u.to_come w
+    walked = k.walked (suc a) depth (symbols 0 (types_on types depth)) u.to_come u.entering
 
-    next-rest : verdict n limit (leaves whole-verdict) ≡ judge n (suc (limit - suc followed)) first u.to-come
+    next-rest : verdict n limit (leaves whole-verdict) ≡ judge n (suc (limit - suc followed)) first u.to_come
     next-rest = let z : limit - followed ≡ suc (limit - suc followed) = omega arith in u.rest ∙ rw (z, u.type)
 
     pub turn-wrong : {x : Refusal} → w ≡ Wrong x → Refused x ≡ verdict n limit (leaves whole-verdict)
@@ -206,7 +206,7 @@ module _ {table types : List ℕ} {depth limit n a : ℕ} {ws fs : List ℕ} {fo
           whole = s ∙ u.whole;
           framed = f ∙ u.framed;
           above = u.above;
-          to-come = z.after;
+          to_come = z.after;
           entering = z.entering;
           rest =
               next-rest ∙ z.goes (limit - suc followed)
@@ -217,11 +217,11 @@ module _ {table types : List ℕ} {depth limit n a : ℕ} {ws fs : List ℕ} {fo
 
 -- ---- the start
 
-pub turn-start : {table types : List ℕ} {depth limit n a : ℕ} {ws fs : List ℕ} → length ws ≡ spaceSize → length fs ≡ framesSize → ((k : ℕ) → get_or fs k 0 ≡ 0) → a < n
-    → Checkable table types depth a → Started depth (typesOn types depth) ws → Turn table types depth limit n a ws fs 0 0 a
-unfolding goOn
+pub turn-start : {table types : List ℕ} {depth limit n a : ℕ} {ws fs : List ℕ} → length ws ≡ space_size → length fs ≡ frames_size → ((k : ℕ) → get_or fs k 0 ≡ 0) → a < n
+    → Checkable table types depth a → Started depth (types_on types depth) ws → Turn table types depth limit n a ws fs 0 0 a
+unfolding go_on
 turn-start {table} {types} {depth} {limit} {n} {a} {ws} {fs} whole framed zeros above q s =
-    let tree = exec limit (treeIn table a) (symbols 0 (typesOn types depth)) (start depth) in
+    let tree = exec limit (tree_in table a) (symbols 0 (types_on types depth)) (start depth) in
     let d = s.depth in
     let f = zeros 0 in
     let t = zeros 1 in
@@ -231,9 +231,9 @@ turn-start {table} {types} {depth} {limit} {n} {a} {ws} {fs} whole framed zeros 
       whole = whole;
       framed = framed;
       above = above;
-      to-come = leaves tree;
+      to_come = leaves tree;
       entering = record {
-        environment = symbols 0 (typesOn types depth);
+        environment = symbols 0 (types_on types depth);
         path = start depth;
         later = [];
         owed = 0;
@@ -247,8 +247,8 @@ turn-start {table} {types} {depth} {limit} {n} {a} {ws} {fs} whole framed zeros 
           state = rw d s.state;
           ground-is = s.state.variables;
           based = s.bare.base;
-          notes = (bare-noting s.lent s.bare).kept;
-          awaits = rw (f, d) no-frame;
+          notes = (bare_noting s.lent s.bare).kept;
+          awaits = rw (f, d) no_frame;
           inside = omega arith;
           left = rw j none_left;
           few = omega arith;
@@ -262,11 +262,11 @@ turn-start {table} {types} {depth} {limit} {n} {a} {ws} {fs} whole framed zeros 
         };
         tops = omega (arith, q.small);
         variables = omega (arith, d, q.variables);
-        is = ap leaves (bind-ends tree (goOn limit table []) λ v p. refl) ∙ sym (append-nil (leaves (bind tree (goOn limit table []))));
+        is = ap leaves (bind-ends tree (go_on limit table []) λ v p. refl) ∙ sym (append-nil (leaves (bind tree (go_on limit table []))));
       };
-      rest = ap (λ (k : ℕ). judge n k (firstType (leaves tree)) (leaves tree)) (sym (sub-zero limit));
+      rest = ap (λ (k : ℕ). judge n k (first_type (leaves tree)) (leaves tree)) (sym (sub-zero limit));
       type = refl;
     }
 
-pub no_frames : (k : ℕ) → get_or (replicate {A = ℕ} framesSize 0) k 0 ≡ 0
-no_frames k = same-anywhere framesSize 0 k
+pub no_frames : (k : ℕ) → get_or (replicate {A = ℕ} frames_size 0) k 0 ≡ 0
+no_frames k = same_anywhere frames_size 0 k

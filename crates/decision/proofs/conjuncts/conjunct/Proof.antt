@@ -1,7 +1,7 @@
 -- `decision::conjuncts::conjunct` meets its contract: what is found from the row reached on is what is found of the condition. Assumes nothing.
 use borrow.Author.Rules.{rules}
 use native.Mathlib.Omega.{arith}
-use Rattle.decision.specs.Conjuncts.{Walking, walking, walking-none, walking-found, walking-up, walking_on, walking-end}
+use Rattle.decision.specs.Conjuncts.{Walking, walking, walking-none, walking-found, walking-up, walking_on, walking_end}
 use Rattle.decision.proofs.conjuncts.conjunct.Statement.{statement}
 use Rattle.decision.proofs.conjuncts.conjunct.Tie as tie
 
@@ -22,7 +22,7 @@ row-at-requires c κs =
     omega arith
 
 returns : tie.Need-returns invariant-loop decreases-loop
-returns c = walking-none c.before.before.before.before.loop.invariant c.before.before.before.loop-test.true c.before.before.row_at.result c.before.before.row_at.ensures c.before.is-link.result c.before.is-link.ensures c.if1.true
+returns c = walking-none c.before.before.before.before.loop.invariant c.before.before.before.loop-test.true c.before.before.row_at.result c.before.before.row_at.ensures c.before.is_link_lem.result c.before.is_link_lem.ensures c.if1.true
 
 returns-2 : tie.Need-returns-2 invariant-loop decreases-loop
 returns-2 c =
@@ -32,7 +32,7 @@ returns-2 c =
     let at-loop-test = at-row-at.before in
     let at-loop = at-loop-test.before in
     walking-found at-loop.loop.invariant at-loop-test.loop-test.true at-row-at.row_at.result at-row-at.row_at.ensures
-    at-is-link.is-link.result at-is-link.is-link.ensures at-if1.if1.false c.if2.true
+    at-is-link.is_link_lem.result at-is-link.is_link_lem.ensures at-if1.if1.false c.if2.true
 
 returns-3 : tie.Need-returns-3 invariant-loop decreases-loop
 returns-3 c =
@@ -42,8 +42,8 @@ returns-3 c =
     let at-row-at = at-is-link.before in
     let at-loop-test = at-row-at.before in
     let at-loop = at-loop-test.before in
-    walking-up at-loop.loop.invariant at-loop-test.loop-test.true at-row-at.row_at.result at-row-at.row_at.ensures at-is-link.is-link.result
-    at-is-link.is-link.ensures at-if1.if1.false at-if2.if2.false c.if3.true
+    walking-up at-loop.loop.invariant at-loop-test.loop-test.true at-row-at.row_at.result at-row-at.row_at.ensures at-is-link.is_link_lem.result
+    at-is-link.is_link_lem.ensures at-if1.if1.false at-if2.if2.false c.if3.true
 
 loop-again : tie.Need-loop-preserved invariant-loop decreases-loop
 loop-again c =
@@ -54,11 +54,11 @@ loop-again c =
     let at-row-at = at-is-link.before in
     let at-loop-test = at-row-at.before in
     let at-loop = at-loop-test.before in
-    walking_on at-loop.loop.invariant at-loop-test.loop-test.true at-row-at.row_at.result at-row-at.row_at.ensures at-is-link.is-link.result
-    at-is-link.is-link.ensures at-if1.if1.false at-if2.if2.false at-if3.if3.false
+    walking_on at-loop.loop.invariant at-loop-test.loop-test.true at-row-at.row_at.result at-row-at.row_at.ensures at-is-link.is_link_lem.result
+    at-is-link.is_link_lem.ensures at-if1.if1.false at-if2.if2.false at-if3.if3.false
 
 returns-4 : tie.Need-returns-4 invariant-loop decreases-loop
-returns-4 c = walking-end c.before.loop.invariant c.loop-test.false
+returns-4 c = walking_end c.before.loop.invariant c.loop-test.false
 
 pub conjunct-spec : {M : Type 1} → statement M
 conjunct-spec =

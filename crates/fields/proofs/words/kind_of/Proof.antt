@@ -4,21 +4,21 @@ use mathlib.Core.Path.{sym, ap, ◌∙◌}
 use Prim.Native.Nat.{◌-◌}
 use native.Mathlib.Omega.{arith}
 use Rattle.script.specs.Rows.{rows}
-use Rattle.script.specs.Rows.Kinds.{kindCount}
-use Rattle.script.specs.Tests.Loops.{Looked, look, look-on, look-found, look_none}
-use Rattle.text.specs.Fields.Words.{word-most, word-part, word-is, isKindOf, kind-lowest}
-use Rattle.text.specs.Code.Scan.{saidBy}
+use Rattle.script.specs.Rows.Kinds.{kind_count}
+use Rattle.script.specs.Tests.Loops.{Looked, look, look_on, look-found, look_none}
+use Rattle.text.specs.Fields.Words.{word-most, word-part, word-is, is_kind_of, kind-lowest}
+use Rattle.text.specs.Code.Scan.{said_by}
 use Rattle.fields.proofs.words.kind_of.Statement.{statement}
 use Rattle.fields.proofs.words.kind_of.Tie as tie
 
 abbrev invariant-loop : tie.invariant-loop
-invariant-loop f words lengths k₀ k = Looked (isKindOf f) kindCount k
+invariant-loop f words lengths k₀ k = Looked (is_kind_of f) kind_count k
 
 abbrev decreases-loop : tie.decreases-loop
-decreases-loop f words lengths k₀ k = kindCount - k
+decreases-loop f words lengths k₀ k = kind_count - k
 
 loop-holds : tie.Need-loop-init invariant-loop decreases-loop
-loop-holds c = look (isKindOf c.before.args.f.now) kindCount
+loop-holds c = look (is_kind_of c.before.args.f.now) kind_count
 
 add-end : tie.Need-overflow-add-end invariant-loop decreases-loop
 unfolding rows
@@ -35,7 +35,7 @@ returns c =
     let l = c.before.before.before.before.before.loop in
     let w = rw (← word-part l.k) at c.before.same.ensures in
     let e = word-is l.k f (omega arith) ∙ sym w ∙ c.if1.true in
-    sym (ap saidBy (kind-lowest f ∙ look-found (isKindOf f) kindCount l.k l.invariant (omega arith) e))
+    sym (ap said_by (kind-lowest f ∙ look-found (is_kind_of f) kind_count l.k l.invariant (omega arith) e))
 
 loop-again : tie.Need-loop-preserved invariant-loop decreases-loop
 unfolding rows
@@ -44,14 +44,14 @@ loop-again c =
     let l = c.before.before.before.before.before.loop in
     let w = rw (← word-part l.k) at c.before.same.ensures in
     let e = word-is l.k f (omega arith) ∙ sym w ∙ c.if1.false in
-    look-on (isKindOf f) kindCount l.k l.invariant (omega arith) e
+    look_on (is_kind_of f) kind_count l.k l.invariant (omega arith) e
 
 returns-2 : tie.Need-returns-2 invariant-loop decreases-loop
 unfolding rows
 returns-2 c =
     let f = c.before.before.before.args.f.now in
     let l = c.before.loop in
-    sym (ap saidBy (kind-lowest f ∙ look_none (isKindOf f) kindCount l.k l.invariant (omega arith)))
+    sym (ap said_by (kind-lowest f ∙ look_none (is_kind_of f) kind_count l.k l.invariant (omega arith)))
 
 pub kind-of-spec : {M : Type 1} → statement M
 unfolding rows

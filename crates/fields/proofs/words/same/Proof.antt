@@ -5,19 +5,19 @@ use Prim.Native.Nat.{◌≤◌, ◌-◌}
 use native.Mathlib.Numerals.{add-one}
 use native.Mathlib.Omega.{arith}
 use lib.ListN.{length, drop}
-use Rattle.text.specs.Fields.{sameBytes}
-use Rattle.text.specs.Fields.Laws.{same-lengths, same-differ, same_next, same_end}
+use Rattle.text.specs.Fields.{same_bytes}
+use Rattle.text.specs.Fields.Laws.{same_lengths, same-differ, same_next, same_end}
 use Rattle.fields.proofs.words.same.Statement.{statement}
 use Rattle.fields.proofs.words.same.Tie as tie
 
 abbrev invariant-loop : tie.invariant-loop
-invariant-loop a b i₀ i = (i ≤ length a) × (sameBytes (drop i a) (drop i b) ≡ sameBytes a b)
+invariant-loop a b i₀ i = (i ≤ length a) × (same_bytes (drop i a) (drop i b) ≡ same_bytes a b)
 
 abbrev decreases-loop : tie.decreases-loop
 decreases-loop a b i₀ i = length a - i
 
 returns : tie.Need-returns invariant-loop decreases-loop
-returns c = let a = c.before.args in sym (same-lengths a.a.now a.b.now c.if1.true)
+returns c = let a = c.before.args in sym (same_lengths a.a.now a.b.now c.if1.true)
 
 loop-holds : tie.Need-loop-init invariant-loop decreases-loop
 loop-holds c = (omega arith, refl)

@@ -2,14 +2,14 @@
 use borrow.Author.Rules.{rules}
 use native.Mathlib.Omega.{arith}
 use lib.ListN.{length-set}
-use Rattle.workspace.specs.Forks.Laws.{kept-fork}
+use Rattle.workspace.specs.Forks.Laws.{kept_fork}
 use Rattle.frames.proofs.forks.fork.Statement.{statement}
 use Rattle.frames.proofs.forks.fork.Tie as tie
 
 returns : tie.Need-returns
 returns c =
     let s = c.before.before.before.before.before.before.before.before in
-    kept-fork s.args.space.now s.args.frames.now s.requires
+    kept_fork s.args.space.now s.args.frames.now s.requires
 
 pub fork-spec : {M : Type 1} → statement M
 fork-spec =

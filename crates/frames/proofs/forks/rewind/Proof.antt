@@ -3,15 +3,15 @@ use borrow.Author.Rules.{rules}
 use Prim.Native.Nat.{◌-◌}
 use native.Mathlib.Omega.{arith}
 use lib.ListN.{length-set}
-use Rattle.workspace.specs.Forks.{forkedIn}
-use Rattle.workspace.specs.Forks.Laws.{gone-back}
+use Rattle.workspace.specs.Forks.{forked_in}
+use Rattle.workspace.specs.Forks.Laws.{gone_back}
 use Rattle.frames.proofs.forks.rewind.Statement.{statement}
 use Rattle.frames.proofs.forks.rewind.Tie as tie
 
 returns : tie.Need-returns
 returns c =
     let s = c.before.before.before in
-    gone-back s.args.space.now s.args.frames.now s.requires.0 s.requires.1.0 (forkedIn s.args.frames.now - 1)
+    gone_back s.args.space.now s.args.frames.now s.requires.0 s.requires.1.0 (forked_in s.args.frames.now - 1)
 
 pub rewind-spec : {M : Type 1} → statement M
 rewind-spec =

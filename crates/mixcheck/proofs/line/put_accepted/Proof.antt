@@ -1,7 +1,7 @@
 -- `mixcheck::line::put_accepted` meets its contract: the word with its tab, the type and the line's end in a row. Assumes nothing.
 use borrow.Author.Rules.{rules}
 use native.Mathlib.Omega.{arith}
-use Rattle.text.specs.Code.Output.Laws.{put_one, put_then, put-length}
+use Rattle.text.specs.Code.Output.Laws.{put_one, put_then, put_length}
 use Rattle.text.specs.SameTable.Most.{type-length}
 use Rattle.mixcheck.proofs.line.put_accepted.Statement.{statement}
 use Rattle.mixcheck.proofs.line.put_accepted.Tie as tie
@@ -24,5 +24,5 @@ put-accepted-spec =
     put-type-requires
     (λ c κs. search rules)
     add-result
-    (λ c. put-length (returns c))
+    (λ c. put_length (returns c))
     returns)

@@ -3,29 +3,29 @@
 use Rattle.std.proofs.Common.{sym, rules}
 use Rattle.script.specs.Code.Forms.{form_of}
 use Rattle.script.specs.Rows.{rows, row_of}
-use Rattle.operators.specs.Steps.{nextOn}
+use Rattle.operators.specs.Steps.{next_on}
 use Rattle.operators.specs.Steps.Operators.{next-other}
 use Rattle.operators.proofs.steps.next_operand.Statement.{statement}
 use Rattle.operators.proofs.steps.next_operand.Tie as tie
 
 returns : tie.Need-returns
-unfolding nextOn form_of row_of rows
+unfolding next_on form_of row_of rows
 returns c =
     let v = c.before.before in
     rw (v.before.before.if1.true, v.v.given.1, c.if2.true)
 
 returns-2 : tie.Need-returns-2
-unfolding nextOn form_of row_of rows
+unfolding next_on form_of row_of rows
 returns-2 c = rw (c.before.before.if1.true, c.enum_told.given.1)
 
 returns-3 : tie.Need-returns-3
-unfolding nextOn form_of row_of rows
+unfolding next_on form_of row_of rows
 returns-3 c =
     let v = c.before.before in
     rw (v.before.before.if1.true, v.v.given.1, c.if2.false)
 
 returns-4 : tie.Need-returns-4
-unfolding nextOn form_of row_of rows
+unfolding next_on form_of row_of rows
 returns-4 c = rw (c.before.before.if1.true, c.enum-told2.given.1)
 
 returns-5 : tie.Need-returns-5

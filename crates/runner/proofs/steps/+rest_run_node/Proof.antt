@@ -16,7 +16,7 @@ use Rattle.operators.proofs.two.Reads as two-reads
 use Rattle.operators.proofs.steps.parts_of.Reads as parts-of-reads
 use Rattle.operators.proofs.steps.next_operand.Reads as next-operand-reads
 use Rattle.operators.proofs.steps.whole.Reads as whole-reads
-use Rattle.runner.specs.Code.Turns.{leaf-runs, first-earlier, ready-first, first-failed, first-ranged, one-ready, one-runs, half-ready, rest-runs, wrong-runs, bind-ready, next-earlier, next-ready, next-failed, two-ranged, two_ready, two_runs}
+use Rattle.runner.specs.Code.Turns.{leaf-runs, first-earlier, ready_first, first-failed, first-ranged, one_ready, one_runs, half_ready, rest-runs, wrong-runs, bind_ready, next-earlier, next_ready, next-failed, two-ranged, two_ready, two_runs}
 use Rattle.runner.proofs.steps.rest.Reads as rest
 use Rattle.runner.proofs.steps.rest.Kinds as rest-kinds
 use Rattle.runner.proofs.steps.+rest_run_node.Lts-rest as rest-lts
@@ -90,7 +90,7 @@ rest-node-at-requires t c κs =
 rest-bind-requires : (t : ℕ) → rest-lts.Need-bind-requires (rest-calls t) (rest_at t) rest.Post
 rest-bind-requires t c κs =
     let q = c.before.before.before.before.before.before.before.before.before.requires.1 in
-    (bind-ready q, q.ranged)
+    (bind_ready q, q.ranged)
 
 rest-run-node-requires : (t : ℕ) → rest-lts.Need-run-node-requires (rest-calls t) (rest_at t) rest.Post
 rest-run-node-requires t c κs =
@@ -102,7 +102,7 @@ rest-run-node-requires t c κs =
     let e = sym (rw node at x.next-operand.ensures) ∙ p.before.before.before.m.given.1 in
     let b = rw node at p.bind.ensures in
     let l = c.before.before.before.environment.given in
-    (omega (arith, next-earlier q e b, s.requires.0), next-ready q e b l)
+    (omega (arith, next-earlier q e b, s.requires.0), next_ready q e b l)
 
 rest-two-requires : (t : ℕ) → rest-lts.Need-two-requires (rest-calls t) (rest_at t) rest.Post
 rest-two-requires t c κs =
@@ -170,7 +170,7 @@ run-node-run-node-requires t c κs =
     let s = o.before.before.before.before.before in
     let node = o.before.Node-at.ensures in
     let h = some-operand s.requires.1.formed (rw node at c.before.before.if1.false) in
-    rw node (omega (arith, first-earlier s.requires.1 h, s.requires.0), ready-first s.requires.1 h)
+    rw node (omega (arith, first-earlier s.requires.1 h, s.requires.0), ready_first s.requires.1 h)
 
 run-node-one-requires : (t : ℕ) → run-node-lts.Need-one-requires (run-node-calls t) (run-node-at t) run-node.Post
 run-node-one-requires t c κs =
@@ -182,7 +182,7 @@ run-node-one-requires t c κs =
     let h = some-operand q.formed (rw node at p.before.before.before.if1.false) in
     let d = rw node at p.run-node.ensures in
     let e = sym c.before.before.before.before.before.before.whole.ensures ∙ c.before.before.before.before.v.given.1 in
-    (one-ready q h d e, first-ranged q h d e)
+    (one_ready q h d e, first-ranged q h d e)
 
 run-node-returns-2 : (t : ℕ) → run-node-lts.Need-returns-2 (run-node-calls t) (run-node-at t) run-node.Post
 run-node-returns-2 t c =
@@ -194,7 +194,7 @@ run-node-returns-2 t c =
     let h = some-operand q.formed (rw node at p.before.before.before.if1.false) in
     let d = rw node at p.run-node.ensures in
     let k = has_one _ (rw node at c.before.before.before.before.before.before.has_one.ensures) c.before.before.before.before.before.if2.true in
-    rw c.parts-of2.ensures (one-runs q h d (sym c.before.before.before.before.before.before.before.before.before.before.whole.ensures ∙ c.before.before.before.before.before.before.before.before.v.given.1) k (rw node at c.before.before.before.one.ensures))
+    rw c.parts-of2.ensures (one_runs q h d (sym c.before.before.before.before.before.before.before.before.before.before.whole.ensures ∙ c.before.before.before.before.before.before.before.before.v.given.1) k (rw node at c.before.before.before.one.ensures))
 
 run-node-rest-requires : (t : ℕ) → run-node-lts.Need-rest-requires (run-node-calls t) (run-node-at t) run-node.Post
 run-node-rest-requires t c κs =
@@ -206,7 +206,7 @@ run-node-rest-requires t c κs =
     let h = some-operand q.formed (rw node at p.before.before.before.if1.false) in
     let d = rw node at p.run-node.ensures in
     let k = has_more _ h (rw node at c.before.before.before.has_one.ensures) c.before.before.if2.false in
-    (omega (arith, s.requires.0), half-ready q h d (sym c.before.before.before.before.before.before.before.whole.ensures ∙ c.before.before.before.before.before.v.given.1) k c.before.before.before.before.before.before.before.before.before.before.before.environment.given)
+    (omega (arith, s.requires.0), half_ready q h d (sym c.before.before.before.before.before.before.before.whole.ensures ∙ c.before.before.before.before.before.v.given.1) k c.before.before.before.before.before.before.before.before.before.before.before.environment.given)
 
 run-node-returns-3 : (t : ℕ) → run-node-lts.Need-returns-3 (run-node-calls t) (run-node-at t) run-node.Post
 run-node-returns-3 t c =

@@ -1,13 +1,13 @@
 -- `runner::steps::bind` meets its contract: a `let` puts the value behind the last variable, every other kind changes nothing. Assumes nothing.
 use borrow.Author.Rules.{rules}
-use Rattle.script.specs.Code.Forms.{form_of, severalBy}
+use Rattle.script.specs.Code.Forms.{form_of, several_by}
 use Rattle.script.specs.Rows.{rows, row_of}
 use Rattle.operators.specs.Steps.Operators.{bound-next, bound-same, bound-other}
 use Rattle.runner.proofs.steps.bind.Statement.{statement}
 use Rattle.runner.proofs.steps.bind.Tie as tie
 
 returns : tie.Need-returns
-unfolding severalBy form_of row_of rows
+unfolding several_by form_of row_of rows
 returns c =
     let m = c.before.before in
     let s = m.before.before.before.before.before in

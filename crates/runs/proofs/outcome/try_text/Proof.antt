@@ -7,7 +7,7 @@ use Rattle.runs.proofs.outcome.try_text.Tie as tie
 returns : tie.Need-returns
 returns c =
     let r = c.before.before.before.before.before.before.before.before.before.before.before.read.ensures in
-    rw (sym r.answer-is ∙ c.before.before.before.before.before.before.before.script.given.1, ← r.nodes-are, ← r.entries-are) c.before.before.try-script.ensures
+    rw (sym r.answer-is ∙ c.before.before.before.before.before.before.before.script.given.1, ← r.nodes_are, ← r.entries_are) c.before.before.try-script.ensures
 
 returns-2 : tie.Need-returns-2
 returns-2 c = rw (sym c.before.before.before.before.before.before.before.before.read.ensures.answer-is ∙ c.before.before.before.before.r.given.1) refl

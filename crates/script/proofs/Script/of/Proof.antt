@@ -1,4 +1,4 @@
--- `script::Script::of` meets its contract: at each `return` the tests that led there say which case of `scriptOf` holds.
+-- `script::Script::of` meets its contract: at each `return` the tests that led there say which case of `script_of` holds.
 -- Assumes nothing.
 use borrow.Author.Tests.{le-leb, lt-leb}
 use Rattle.script.proofs.Script.of.Statement.{statement}

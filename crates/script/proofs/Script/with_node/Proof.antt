@@ -1,4 +1,4 @@
--- `script::Script::with_node` meets its contract: at each `return` the test that led there says which case of `withNode` holds.
+-- `script::Script::with_node` meets its contract: at each `return` the test that led there says which case of `with_node` holds.
 -- Assumes nothing.
 use native.Mathlib.Omega.{arith}
 use borrow.Author.Rules.{rules}

@@ -5,12 +5,12 @@ use Prim.Native.Nat.{◌-◌, ◌≤◌}
 use native.Mathlib.Omega.{arith}
 use native.Mathlib.Numerals.{add-one}
 use lib.ListN.{length, length-set}
-use Rattle.script.specs.Code.Clearing.Laws.{filledTo, fill_start, fill-next, fill_end}
+use Rattle.script.specs.Code.Clearing.Laws.{filled_to, fill_start, fill_next, fill_end}
 use Rattle.table.proofs.clearing.clear_entries.Statement.{statement}
 use Rattle.table.proofs.clearing.clear_entries.Tie as tie
 
 abbrev invariant-loop : tie.invariant-loop
-invariant-loop entries₀ from i₀ entries i = (from ≤ i) × (i ≤ length entries₀) × (length entries ≡ length entries₀) × (entries ≡ filledTo 0 entries₀ from i)
+invariant-loop entries₀ from i₀ entries i = (from ≤ i) × (i ≤ length entries₀) × (length entries ≡ length entries₀) × (entries ≡ filled_to 0 entries₀ from i)
 
 abbrev decreases-loop : tie.decreases-loop
 decreases-loop entries₀ from i₀ entries i = length entries₀ - i
@@ -23,7 +23,7 @@ loop-again c =
     let a = c.before.before.args in
     let l = c.before.loop in
     let n = length-set l.entries l.i 0 in
-    (omega arith, omega arith, omega arith, rw (l.invariant.3, add-one l.i) (fill-next 0 a.entries.now a.from l.i l.invariant.0 (omega arith)))
+    (omega arith, omega arith, omega arith, rw (l.invariant.3, add-one l.i) (fill_next 0 a.entries.now a.from l.i l.invariant.0 (omega arith)))
 
 returns : tie.Need-returns invariant-loop decreases-loop
 returns c =

@@ -8,7 +8,7 @@ use Rattle.terms.proofs.atoms.equal_references.Tie as tie
 returns : tie.Need-returns
 returns c =
     let a = c.before.before.before.before.before.before.before.before.args in
-    let f = c.before.before.before.before.before.before.symbol-of.ensures in
+    let f = c.before.before.before.before.before.before.symbol_of.ensures in
     let g = c.before.before.before.before.before.symbol-of2.ensures in
     let e = c.before.before.before.before.if1.true in
     let u = c.before.before.push.ensures in
@@ -17,7 +17,7 @@ returns c =
 returns-2 : tie.Need-returns-2
 returns-2 c =
     let a = c.before.before.before.before.before.before.before.before.before.before.args in
-    let f = c.before.before.before.before.before.before.before.before.symbol-of.ensures in
+    let f = c.before.before.before.before.before.before.before.before.symbol_of.ensures in
     let g = c.before.before.before.before.before.before.before.symbol-of2.ensures in
     let n = c.before.before.before.before.before.before.if1.false in
     let t = sym c.before.before.before.before.before.apart.ensures ∙ c.before.before.before.before.if2.true in
@@ -27,7 +27,7 @@ returns-2 c =
 returns-3 : tie.Need-returns-3
 returns-3 c =
     let a = c.before.before.before.before.before.before.before.before.before.before.args in
-    let f = c.before.before.before.before.before.before.before.before.symbol-of.ensures in
+    let f = c.before.before.before.before.before.before.before.before.symbol_of.ensures in
     let g = c.before.before.before.before.before.before.before.symbol-of2.ensures in
     let n = c.before.before.before.before.before.before.if1.false in
     let t = sym c.before.before.before.before.before.apart.ensures ∙ c.before.before.before.before.if2.false in

@@ -4,8 +4,8 @@ use mathlib.Core.Path.{◌∙◌}
 use Prim.Native.Nat.{◌≤◌}
 use native.Mathlib.Omega.{arith}
 use Rattle.terms.specs.Search.{first-most}
-use Rattle.terms.specs.Terms.{countIn}
-use Rattle.terms.specs.Atoms.{atomAt, atomRowOf}
+use Rattle.terms.specs.Terms.{count_in}
+use Rattle.terms.specs.Atoms.{atom_at, atom_row_of}
 use Rattle.terms.specs.Atoms.Laws.{left-found, left-made}
 use Rattle.terms.proofs.atoms.symbols_atom.Statement.{statement}
 use Rattle.terms.proofs.atoms.symbols_atom.Tie as tie
@@ -18,17 +18,17 @@ returns c =
     let a = c.before.before.before.before.before.args in
     let e = c.before.before.find-atom.ensures in
     let t = c.if1.true in
-    (e, left-found a.space.now (atomRowOf a.space.now a.op a.a a.b) a.op a.a a.b (omega arith))
+    (e, left-found a.space.now (atom_row_of a.space.now a.op a.a a.b) a.op a.a a.b (omega arith))
 
 returns-2 : tie.Need-returns-2
 returns-2 c =
     let a = c.before.before.before.before.before.before.before.before.before.args in
     let e = c.before.before.before.before.before.before.find-atom.ensures in
     let t = c.before.before.before.before.if1.false in
-    let m = first-most (atomAt a.space.now a.op a.a a.b) (countIn a.space.now) in
+    let m = first-most (atom_at a.space.now a.op a.a a.b) (count_in a.space.now) in
     let u = c.before.before.push.ensures.0 in
-    let h : countIn a.space.now ≤ atomRowOf a.space.now a.op a.a a.b = omega arith in
-    (omega arith, c.before.before.push.ensures.1 ∙ left-made a.space.now (atomRowOf a.space.now a.op a.a a.b) a.op a.a a.b h)
+    let h : count_in a.space.now ≤ atom_row_of a.space.now a.op a.a a.b = omega arith in
+    (omega arith, c.before.before.push.ensures.1 ∙ left-made a.space.now (atom_row_of a.space.now a.op a.a a.b) a.op a.a a.b h)
 
 pub symbols-atom-spec : {M : Type 1} → statement M
 symbols-atom-spec =

@@ -1,6 +1,6 @@
 -- `texts::rounds::try_text` meets its contract: the table that is written is the one that was read. Assumes nothing.
 use borrow.Author.Rules.{rules}
-use Rattle.texts.specs.Rounds.{tried-read, tried-refused}
+use Rattle.texts.specs.Rounds.{tried_read, tried-refused}
 use Rattle.texts.proofs.rounds.try_text.Statement.{statement}
 use Rattle.texts.proofs.rounds.try_text.Tie as tie
 
@@ -12,7 +12,7 @@ returns c =
     let at-fill-words2 = at_read.before.before.before.before.before in
     let at-fill-words = at-fill-words2.before.before.before.before in
     let at-start = at-fill-words.before.before.before.before.before.before in
-    tried-read at-start.args.table.now at-start.args.entries.now at-fill-words.fill-words.ensures at-fill-words2.fill-words2.ensures
+    tried_read at-start.args.table.now at-start.args.entries.now at-fill-words.fill-words.ensures at-fill-words2.fill-words2.ensures
     at_read.read.ensures at-script.script.given.1 at-try-writer.try-writer.ensures
 
 returns-2 : tie.Need-returns-2

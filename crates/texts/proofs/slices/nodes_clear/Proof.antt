@@ -6,16 +6,16 @@ use Prim.Native.Nat.{◌-◌}
 use native.Mathlib.Numerals.{add-one}
 use native.Mathlib.Omega.{arith}
 use lib.ListN.{length, drop}
-use Rattle.script.specs.Flat.{nodesIn}
-use Rattle.script.specs.Flat.Laws.{length-nodesIn}
+use Rattle.script.specs.Flat.{nodes_in}
+use Rattle.script.specs.Flat.Laws.{length-nodes_in}
 use Rattle.script.specs.Table.{unused}
 use Rattle.script.specs.Tests.{all}
-use Rattle.texts.specs.Slices.{isUnused, all-fails, all-next, all_end}
+use Rattle.texts.specs.Slices.{is_unused, all-fails, all-next, all_end}
 use Rattle.texts.proofs.slices.nodes_clear.Statement.{statement}
 use Rattle.texts.proofs.slices.nodes_clear.Tie as tie
 
 abbrev invariant-loop : tie.invariant-loop
-invariant-loop table from nodes i₀ i = (all isUnused (drop i (nodesIn table)) ≡ all isUnused (drop from (nodesIn table)))
+invariant-loop table from nodes i₀ i = (all is_unused (drop i (nodes_in table)) ≡ all is_unused (drop from (nodes_in table)))
 
 abbrev decreases-loop : tie.decreases-loop
 decreases-loop table from nodes i₀ i = length table - i
@@ -27,24 +27,24 @@ returns : tie.Need-returns invariant-loop decreases-loop
 returns c =
     let xs = c.before.before.before.before.before.before.args.table.now in
     let l = c.before.before.before.before.loop in
-    let n = length-nodesIn xs in
+    let n = length-nodes_in xs in
     let e = rw c.before.before.Node-at.ensures at (sym c.before.is_false.ensures ∙ not-true c.before.is_false.result c.if1.true) in
-    sym (sym l.invariant ∙ all-fails isUnused (nodesIn xs) l.i unused (omega arith) e)
+    sym (sym l.invariant ∙ all-fails is_unused (nodes_in xs) l.i unused (omega arith) e)
 
 loop-again : tie.Need-loop-preserved invariant-loop decreases-loop
 loop-again c =
     let xs = c.before.before.before.before.before.before.args.table.now in
     let l = c.before.before.before.before.loop in
-    let n = length-nodesIn xs in
+    let n = length-nodes_in xs in
     let e = rw c.before.before.Node-at.ensures at (sym c.before.is_false.ensures ∙ not-false c.before.is_false.result c.if1.false) in
-    rw (add-one l.i) (sym (all-next isUnused (nodesIn xs) l.i unused (omega arith) e) ∙ l.invariant)
+    rw (add-one l.i) (sym (all-next is_unused (nodes_in xs) l.i unused (omega arith) e) ∙ l.invariant)
 
 returns-2 : tie.Need-returns-2 invariant-loop decreases-loop
 returns-2 c =
     let xs = c.before.before.before.args.table.now in
     let l = c.before.loop in
-    let n = length-nodesIn xs in
-    sym (sym l.invariant ∙ all_end isUnused (nodesIn xs) l.i (omega arith))
+    let n = length-nodes_in xs in
+    sym (sym l.invariant ∙ all_end is_unused (nodes_in xs) l.i (omega arith))
 
 pub nodes-clear-spec : {M : Type 1} → statement M
 nodes-clear-spec =

@@ -6,13 +6,13 @@ use Prim.Native.Nat.{◌-◌}
 use native.Mathlib.Numerals.{add-one}
 use native.Mathlib.Omega.{arith}
 use lib.ListN.{length, length-set}
-use Rattle.trial.specs.Given.{bytesLine}
-use Rattle.trial.specs.Given.Laws.{line-past, line-empty, line-starts, going, line-full, line-bad, line-last, line-more}
+use Rattle.trial.specs.Given.{bytes_line}
+use Rattle.trial.specs.Given.Laws.{line-past, line-empty, line-starts, going, line-full, line_bad, line-last, line-more}
 use Rattle.trial.proofs.given.bytes_line.Statement.{statement}
 use Rattle.trial.proofs.given.bytes_line.Tie as tie
 
 abbrev invariant-loop : tie.invariant-loop
-invariant-loop input at out₀ i₀ n₀ out i n = (length out ≡ length out₀) × (going input n i out ≡ bytesLine input at out₀)
+invariant-loop input at out₀ i₀ n₀ out i n = (length out ≡ length out₀) × (going input n i out ≡ bytes_line input at out₀)
 
 abbrev decreases-loop : tie.decreases-loop
 decreases-loop input at out₀ i₀ n₀ out i n = length out₀ - n
@@ -38,7 +38,7 @@ returns-3 : tie.Need-returns-3 invariant-loop decreases-loop
 returns-3 c = let l = c.before.before.before.before.before.loop in sym (line-last c.before.before.before.before.before.before.before.before.before.before.before.args.input.now l.n l.i l.out (omega arith) (sym c.before.before.before.byte_at.ensures ∙ c.before.b2.given.1)) ∙ l.invariant.1
 
 returns-4 : tie.Need-returns-4 invariant-loop decreases-loop
-returns-4 c = let l = c.before.before.before.before.loop in sym (line-bad c.before.before.before.before.before.before.before.before.before.before.args.input.now l.n l.i l.out (omega arith) (sym c.before.before.byte_at.ensures ∙ c.enum_told.given.1)) ∙ l.invariant.1
+returns-4 c = let l = c.before.before.before.before.loop in sym (line_bad c.before.before.before.before.before.before.before.before.before.before.args.input.now l.n l.i l.out (omega arith) (sym c.before.before.byte_at.ensures ∙ c.enum_told.given.1)) ∙ l.invariant.1
 
 returns-5 : tie.Need-returns-5 invariant-loop decreases-loop
 returns-5 c = let l = c.before.loop in sym (line-full c.before.before.before.before.before.before.before.args.input.now l.n l.i l.out (omega arith)) ∙ l.invariant.1

@@ -1,6 +1,6 @@
 -- `words::sums::gather` meets its contract. Assumes nothing.
 use Rattle.std.proofs.Common.{sym, ◌∙◌, arith, rules}
-use Rattle.words.specs.Sums.Laws.{symbol-of, gather-number, gather-symbol, gather-other}
+use Rattle.words.specs.Sums.Laws.{symbol_of, gather-number, gather-symbol, gather-other}
 use Rattle.words.proofs.sums.gather.Statement.{statement}
 use Rattle.words.proofs.sums.gather.Tie as tie
 
@@ -10,7 +10,7 @@ returns c =
     gather-number a.numbers.now a.row a.w c.before.before.before.times.result _ c.before.before.before.before.before.if1.true c.before.before.before.times.ensures c.before.before.add_at.ensures
 
 add-at-requires-2 : tie.Need-add-at-requires-2
-add-at-requires-2 c κs = let s = symbol-of c.before.before.before.before.before.before.before.args.row (sym c.before.before.before.is-symbol.ensures ∙ c.before.before.if2.true) in omega arith
+add-at-requires-2 c κs = let s = symbol_of c.before.before.before.before.before.before.before.args.row (sym c.before.before.before.is-symbol.ensures ∙ c.before.before.if2.true) in omega arith
 
 returns-2 : tie.Need-returns-2
 returns-2 c =

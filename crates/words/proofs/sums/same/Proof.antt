@@ -1,20 +1,20 @@
 -- `words::sums::same` meets its contract. The loop's invariant: the numbers passed are equal. Assumes nothing.
 use Rattle.std.proofs.Common.{◌-◌, arith, rules}
-use Rattle.script.specs.Tests.Loops.{Looked, look, look-on}
-use Rattle.terms.specs.Search.{nowhere-here, nowhere-end}
-use Rattle.words.specs.Sums.{differsAt, placeCount}
+use Rattle.script.specs.Tests.Loops.{Looked, look, look_on}
+use Rattle.terms.specs.Search.{nowhere-here, nowhere_end}
+use Rattle.words.specs.Sums.{differs_at, place_count}
 use Rattle.words.specs.Sums.Laws.{differs, agrees}
 use Rattle.words.proofs.sums.same.Statement.{statement}
 use Rattle.words.proofs.sums.same.Tie as tie
 
 abbrev invariant-loop : tie.invariant-loop
-invariant-loop xs ys k₀ k = Looked (differsAt xs ys) placeCount k
+invariant-loop xs ys k₀ k = Looked (differs_at xs ys) place_count k
 
 abbrev decreases-loop : tie.decreases-loop
-decreases-loop xs ys k₀ k = placeCount - k
+decreases-loop xs ys k₀ k = place_count - k
 
 loop-holds : tie.Need-loop-init invariant-loop decreases-loop
-loop-holds c = look (differsAt c.args.xs.now c.args.ys.now) placeCount
+loop-holds c = look (differs_at c.args.xs.now c.args.ys.now) place_count
 
 shared-slice-read-if1 : tie.Need-shared-slice-read-if1 invariant-loop decreases-loop
 shared-slice-read-if1 c = let p = c.before.before.before.requires in omega arith
@@ -26,19 +26,19 @@ returns : tie.Need-returns invariant-loop decreases-loop
 returns c =
     let a = c.before.before.before.before.before.args in
     let l = c.before.before.before.before.loop in
-    nowhere-here (differsAt a.xs.now a.ys.now) placeCount l.k l.invariant c.before.before.before.loop-test.true (differs _ _ c.if1.true)
+    nowhere-here (differs_at a.xs.now a.ys.now) place_count l.k l.invariant c.before.before.before.loop-test.true (differs _ _ c.if1.true)
 
 loop-again : tie.Need-loop-preserved invariant-loop decreases-loop
 loop-again c =
     let a = c.before.before.before.before.before.args in
     let l = c.before.before.before.before.loop in
-    look-on (differsAt a.xs.now a.ys.now) placeCount l.k l.invariant c.before.before.before.loop-test.true (agrees _ _ c.if1.false)
+    look_on (differs_at a.xs.now a.ys.now) place_count l.k l.invariant c.before.before.before.loop-test.true (agrees _ _ c.if1.false)
 
 returns-2 : tie.Need-returns-2 invariant-loop decreases-loop
 returns-2 c =
     let a = c.before.before.args in
     let l = c.before.loop in
-    nowhere-end (differsAt a.xs.now a.ys.now) placeCount l.k l.invariant c.loop-test.false
+    nowhere_end (differs_at a.xs.now a.ys.now) place_count l.k l.invariant c.loop-test.false
 
 pub same_spec : {M : Type 1} → statement M
 same_spec =

@@ -1,6 +1,6 @@
 -- `words::sums::spread` meets its contract. Assumes nothing.
 use Rattle.std.proofs.Common.{length, sym, ap, ◌∙◌, arith, rules}
-use Rattle.words.specs.Sums.Laws.{added-length, joined, spread-sum, spread-other}
+use Rattle.words.specs.Sums.Laws.{added-length, joined, spread_sum, spread-other}
 use Rattle.words.proofs.sums.spread.Statement.{statement}
 use Rattle.words.proofs.sums.spread.Tie as tie
 
@@ -17,7 +17,7 @@ add-at-requires-2 c κs =
 returns : tie.Need-returns
 returns c =
     let a = c.before.before.before.before.before.before.before.before.before.before.before.before.before.args in
-    spread-sum a.weights.now a.row a.i a.w _ _ (sym c.before.before.before.before.before.before.before.before.before.before.before.joins.ensures ∙ c.before.before.before.before.before.before.before.before.before.before.if1.true) c.before.before.before.before.before.before.before.add_at.ensures c.before.before.add-at2.ensures
+    spread_sum a.weights.now a.row a.i a.w _ _ (sym c.before.before.before.before.before.before.before.before.before.before.before.joins.ensures ∙ c.before.before.before.before.before.before.before.before.before.before.if1.true) c.before.before.before.before.before.before.before.add_at.ensures c.before.before.add-at2.ensures
 
 returns-2 : tie.Need-returns-2
 returns-2 c = let a = c.before.before.before.args in spread-other a.weights.now a.row a.i a.w (sym c.before.joins.ensures ∙ c.if1.false)

@@ -2,8 +2,8 @@
 use borrow.Author.Rules.{rules}
 use native.Mathlib.Omega.{arith}
 use lib.ListN.{length-set}
-use Rattle.log.proofs.write.Statement.{statement}
-use Rattle.log.proofs.write.Tie as tie
+use Rattle.write_log.proofs.write.Statement.{statement}
+use Rattle.write_log.proofs.write.Tie as tie
 
 pub write_spec : {M : Type 1} → statement M
 write_spec =

@@ -1,18 +1,18 @@
 // The log of writes: consistency, what `get` finds, and a write.
 ghost use Rattle.std.specs.Prelude.{◌≡◌, suc, ◌-◌, ◌<◌, ◌≤◌, length};
-ghost use Rattle.script.specs.Limits.{nodeLimit};
-ghost use Rattle.workspace.specs.Log.{rightOn, mendsOn, mendedOn, settledOn, written, emptied, consistentIn, lookupIn};
-ghost use Rattle.workspace.specs.Places.{spaceSize};
-ghost use Rattle.workspace.specs.State.{writesIn};
+ghost use Rattle.script.specs.Limits.{node_limit};
+ghost use Rattle.workspace.specs.Log.{right_on, mends_on, mended_on, settled_on, written, emptied, consistent_in, lookup_in};
+ghost use Rattle.workspace.specs.Places.{space_size};
+ghost use Rattle.workspace.specs.State.{writes_in};
 
 use terms::references::{apart, symbol_of};
 use workspace::{Found, LOG, START, WRITE, WRITES};
 
 // Write i has the type of its cell.
 fn is_right(space: &[u32], i: usize) -> bool
-    requires i_lt_node_limit { i < nodeLimit }
-    requires space_size_in_bounds { spaceSize ≤ length space.now }
-    ensures { result ≡ rightOn space.now i }
+    requires i_lt_node_limit { i < node_limit }
+    requires space_size_in_bounds { space_size ≤ length space.now }
+    ensures { result ≡ right_on space.now i }
 {
     let t = space[LOG + WRITE * i];
     let u = space[LOG + WRITE * i + 2];
@@ -21,9 +21,9 @@ fn is_right(space: &[u32], i: usize) -> bool
 
 // Write j has the type of its cell and is through this symbol.
 fn mends(space: &[u32], j: usize, symbol: u32) -> bool
-    requires j_lt_node_limit { j < nodeLimit }
-    requires space_size_in_bounds { spaceSize ≤ length space.now }
-    ensures { result ≡ mendsOn space.now symbol j }
+    requires j_lt_node_limit { j < node_limit }
+    requires space_size_in_bounds { space_size ≤ length space.now }
+    ensures { result ≡ mends_on space.now symbol j }
 {
     if !is_right(space, j) {
         return false;
@@ -33,10 +33,10 @@ fn mends(space: &[u32], j: usize, symbol: u32) -> bool
 
 // A write of the right type through this symbol comes after write i.
 fn mended(space: &[u32], i: usize, symbol: u32) -> bool
-    requires i_bound { i < writesIn space.now }
-    requires space_bound { writesIn space.now ≤ nodeLimit }
-    requires space_size_in_bounds { spaceSize ≤ length space.now }
-    ensures { result ≡ mendedOn space.now symbol (suc i) (writesIn space.now - suc i) }
+    requires i_bound { i < writes_in space.now }
+    requires space_bound { writes_in space.now ≤ node_limit }
+    requires space_size_in_bounds { space_size ≤ length space.now }
+    ensures { result ≡ mended_on space.now symbol (suc i) (writes_in space.now - suc i) }
 {
     let count = space[WRITES] as usize;
     let mut j = i + 1;
@@ -51,10 +51,10 @@ fn mended(space: &[u32], i: usize, symbol: u32) -> bool
 
 // Write i has the type of its cell, or a later one through its symbol has.
 fn settled(space: &[u32], i: usize) -> bool
-    requires i_bound { i < writesIn space.now }
-    requires space_bound { writesIn space.now ≤ nodeLimit }
-    requires space_size_in_bounds { spaceSize ≤ length space.now }
-    ensures { result ≡ settledOn space.now i (writesIn space.now - suc i) }
+    requires i_bound { i < writes_in space.now }
+    requires space_bound { writes_in space.now ≤ node_limit }
+    requires space_size_in_bounds { space_size ≤ length space.now }
+    ensures { result ≡ settled_on space.now i (writes_in space.now - suc i) }
 {
     if is_right(space, i) {
         return true;
@@ -64,9 +64,9 @@ fn settled(space: &[u32], i: usize) -> bool
 
 // Each write of a wrong type, from the first that counts on, is followed by one of the right type through the same symbol.
 pub fn consistent(space: &[u32]) -> bool
-    requires space_bound { writesIn space.now ≤ nodeLimit }
-    requires space_size_in_bounds { spaceSize ≤ length space.now }
-    ensures { result ≡ consistentIn space.now }
+    requires space_bound { writes_in space.now ≤ node_limit }
+    requires space_size_in_bounds { space_size ≤ length space.now }
+    ensures { result ≡ consistent_in space.now }
 {
     let first = space[START] as usize;
     let mut i = space[WRITES] as usize;
@@ -81,9 +81,9 @@ pub fn consistent(space: &[u32]) -> bool
 
 // What `get` finds through the reference at this place, seen from the newest write, among those that count.
 pub fn lookup(space: &[u32], place: u32) -> Found
-    requires space_bound { writesIn space.now ≤ nodeLimit }
-    requires space_size_in_bounds { spaceSize ≤ length space.now }
-    ensures { result ≡ lookupIn space.now place }
+    requires space_bound { writes_in space.now ≤ node_limit }
+    requires space_size_in_bounds { space_size ≤ length space.now }
+    ensures { result ≡ lookup_in space.now place }
 {
     let first = space[START] as usize;
     let mut i = space[WRITES] as usize;
@@ -105,8 +105,8 @@ pub fn lookup(space: &[u32], place: u32) -> Found
 
 // A write through the reference of type t at place q: a value of type u at place s.
 pub fn write(space: &mut [u32], t: u32, q: u32, u: u32, s: u32)
-    requires space_bound { writesIn space.old < nodeLimit }
-    requires space_size_in_bounds { spaceSize ≤ length space.old }
+    requires space_bound { writes_in space.old < node_limit }
+    requires space_size_in_bounds { space_size ≤ length space.old }
     ensures { space.new ≡ written space.old t q u s }
 {
     let count = space[WRITES];
@@ -120,7 +120,7 @@ pub fn write(space: &mut [u32], t: u32, q: u32, u: u32, s: u32)
 
 // No write counts any more, after a typed block.
 pub fn forget(space: &mut [u32])
-    requires { spaceSize ≤ length space.old }
+    requires { space_size ≤ length space.old }
     ensures { space.new ≡ emptied space.old }
 {
     space[START] = space[WRITES];

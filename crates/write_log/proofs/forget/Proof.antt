@@ -1,8 +1,8 @@
 -- `log::forget` meets its contract: the one number that it stores. Assumes nothing.
 use borrow.Author.Rules.{rules}
 use mathlib.Core.Path.{refl}
-use Rattle.log.proofs.forget.Statement.{statement}
-use Rattle.log.proofs.forget.Tie as tie
+use Rattle.write_log.proofs.forget.Statement.{statement}
+use Rattle.write_log.proofs.forget.Tie as tie
 
 returns : tie.Need-returns
 returns c = refl
