@@ -1,4 +1,6 @@
 // An answer as one number, for a host in C.
+#![tactic(auto)]
+
 ghost use Rattle.std.specs.Prelude.{◌≡◌, ◌^◌, ◌<◌};
 ghost use Rattle.answers.specs.Answers.{packed, answer_of_refusal, answer_of_check, answer_of_run};
 ghost use Rattle.answers.specs.Code.Packing.{used_in};

@@ -1,5 +1,7 @@
 // Writing from a table of records, and reading into one, for programs that keep a table in flat form. Each call has a table of records of its own, with two
 // places more than a script can use.
+#![tactic(auto)]
+
 ghost use Rattle.std.specs.Prelude.{length};
 ghost use Rattle.record_texts.specs.Texts.{Writes};
 ghost use Rattle.call_texts.specs.Tables.{table_as, ReadBack};

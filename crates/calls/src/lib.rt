@@ -1,5 +1,7 @@
 // Checking and running over a table of records, for programs that keep a table in flat form. Each call has a table of records of its own, with two places more
 // than a script can use.
+#![tactic(auto)]
+
 ghost use Rattle.records.specs.Records.{Checks, Runs};
 ghost use Rattle.call_texts.specs.Tables.{table_as};
 

@@ -1,4 +1,6 @@
 // The 5-byte form of values: the kind, then 32 bits, low byte first. Cells and environment share one load and one store.
+#![tactic(auto)]
+
 ghost use Rattle.std.specs.Prelude.{◌≡◌, ◌+◌, ◌*◌, ◌<◌, length, drop};
 ghost use Rattle.std.proofs.lemmas.List.Edits.{sets};
 ghost use Rattle.rules.specs.Running.{bytes_of, bits_at, value_at};

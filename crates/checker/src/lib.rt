@@ -1,6 +1,8 @@
 // The checker: the typed rules and the symbolic rules over a table. `check` is the whole call; `nodes` checks and executes nodes, `path` has a path's own
 // numbers, `steps` the way of a value up, `forks` the way back to a fork. Below it stand the rules, `types` and `symbolic`, and `log`, `notes` and `frames`,
 // over one `workspace`.
+#![tactic(auto)]
+
 ghost use Rattle.std.proofs.Math.Option.{none};
 ghost use Rattle.std.specs.Prelude.{◌≡◌, ◌*◌, ◌≤◌, length};
 ghost use Rattle.script.specs.Flat.{table_in};

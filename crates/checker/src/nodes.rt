@@ -30,7 +30,7 @@ use workspace::{DEPTH, FRAMES, Known, SPACE, Step};
 use write_log::consistent;
 
 // How a path ended: with a refusal of the `sym`, as the last path, or with another one after it, which goes on from a node; the type is the path's.
-#[derive(Drop)]
+#[derive(Clone, Copy)]
 pub enum Walked {
     Wrong(Refusal),
     Last(u32),

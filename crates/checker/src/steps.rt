@@ -19,7 +19,7 @@ use table::{has_one, node_at};
 use workspace::{Branch, DEPTH, FOR_BODY, FOR_FIRST, FOR_NEXT, GOAL, KNOWN, Step};
 
 // What comes next on a path: a value's type and place, an operand to execute, or a refusal.
-#[derive(Drop)]
+#[derive(Clone, Copy)]
 pub enum Move {
     Value(u32, u32),
     Operand(u32),

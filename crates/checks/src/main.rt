@@ -7,6 +7,8 @@
 // A malformed one ends the trial.
 //
 // Its line has fields parted by tabs: the name, then `accepted` and the letters of the type, or `refused`, number, and place or `-`.
+#![tactic(auto)]
+
 use script::table::WIDTH;
 use script::{Reading, Script};
 use trial::{name_end, say, say_checked, say_refusal, text_end};

@@ -1,4 +1,6 @@
 // Between a table of records and a table in flat form: one record out or in, and the whole table. What takes or fills a slice of records is proved by a walk.
+#![tactic(auto)]
+
 ghost use Rattle.std.specs.Prelude.{◌≡◌, ◌<◌, min, length, set};
 ghost use Rattle.script.specs.Flat.{nodes_in};
 ghost use Rattle.script.specs.Table.{node_at};

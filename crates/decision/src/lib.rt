@@ -2,6 +2,8 @@
 // atoms among them counted. Then the rows are computed for 64 assignments at a time, one bit each. A guard that shares no atom with the condition is
 // decided alone: the condition of a path is satisfiable. One that is a conjunct of the condition needs no search. What was found out of the condition is
 // known when the next guard comes.
+#![tactic(auto)]
+
 ghost use Rattle.std.specs.Prelude.{◌≡◌, ◌<◌, ◌≤◌, length, set};
 ghost use Rattle.script.specs.Tests.{pick};
 ghost use Rattle.rows.specs.Decision.{only_one};

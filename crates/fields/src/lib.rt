@@ -1,4 +1,6 @@
 // The fields of a text and what they say: the tab splitter, numbers and types.
+#![tactic(auto)]
+
 ghost use Rattle.std.specs.Prelude.{◌≡◌, ◌+◌, ◌≤◌, length, drop, []};
 ghost use Rattle.script.specs.Limits.{type_limit};
 ghost use Rattle.text.specs.Fields.{decimal_up_to, type_of, type_up_to, last_letter};

@@ -1,6 +1,8 @@
 // What waits on a path while an operand of it is executed. A frame is four numbers: the node that waits, four times the frame that its own value goes to
 // and what it waits for, and the type and the place of its first operand's value. Frames are only added, so a path can come back to any of them; there is
 // no frame 0. `forks` has what is kept where both branches of an `if` can be taken.
+#![tactic(auto)]
+
 ghost use Rattle.std.specs.Prelude.{◌≡◌, ◌*◌, ◌/◌, ◌≤◌, ◌<◌, length, set};
 ghost use Rattle.script.specs.Limits.{node_limit};
 ghost use Rattle.workspace.specs.Frames.{frame_in, Waitable, Waits, frame_at, waits_for, Descends, Descendable, await_limit, goes_to};

@@ -1,5 +1,7 @@
 // The library for a host in C: checking and running of script text, each answered by one number. `teqharis_check` and `teqharis_run` are what C calls;
 // `check_text` and `run_text` are the same calls with answers as enums, for Rattle.
+#![tactic(auto)]
+
 ghost use Rattle.std.specs.Prelude.{◌≡◌};
 ghost use Rattle.answers.specs.Answers.{answer_of_check, AnswersRun};
 ghost use Rattle.host.specs.Texts.{check_text, run_text, RanTo};

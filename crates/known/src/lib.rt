@@ -1,5 +1,7 @@
 // What is known of a condition, so that it is not gone through again: the rows of its atoms, and its truths. It stands among the lent numbers from a place
 // on: 1 if something is known, how many atoms, their rows, and two numbers for each block.
+#![tactic(auto)]
+
 ghost use Rattle.std.specs.Prelude.{◌≡◌, ◌+◌, ◌*◌, ◌≤◌, ◌<◌, length, get_or, set};
 ghost use Rattle.terms.specs.Places.{row_limit, rows_end};
 ghost use Rattle.terms.specs.Terms.{row_in};

@@ -1,4 +1,6 @@
 // Reads a script's text from standard input, checks it, and prints one line: `accepted` and its type, or `refused`, a number, and a place or `-`.
+#![tactic(auto)]
+
 mod line;
 
 use script::Script;

@@ -2,6 +2,8 @@
 // mentions, and of these only the ones that are bound inside the `sym` may differ from path to path. A note has four numbers, the block's operand, how many
 // variables there are and one more (0 in a note that says nothing), the block's type, how many variables follow; and two numbers for each of these, which
 // one it is and its type.
+#![tactic(auto)]
+
 ghost use Rattle.std.specs.Prelude.{◌≡◌, suc, ◌≤◌, length};
 ghost use Rattle.script.specs.Code.Forms.{form_of, tree_in};
 ghost use Rattle.script.specs.Flat.{FormedNodes};

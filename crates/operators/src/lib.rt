@@ -1,4 +1,6 @@
 // The rules of evaluation: what node n gives once its operands have given theirs. `steps` has how that is handed up, and which operand comes next.
+#![tactic(auto)]
+
 ghost use Rattle.std.specs.Prelude.{ℕ, ◌*◌, ◌≤◌, length};
 ghost use Rattle.std.proofs.Math.ListN.{get_elem?};
 ghost use Rattle.script.specs.Code.Forms.{form_of};
@@ -16,7 +18,7 @@ use script::{Node, Value};
 use std::num::wrapping_add_u32;
 
 // What a node comes to: a value and the used count, or the node of the error state and the used count.
-#[derive(Drop)]
+#[derive(Clone, Copy)]
 pub enum Step {
     Gave(Value, u32),
     Failed(u32, u32),
@@ -24,7 +26,7 @@ pub enum Step {
 
 // A step with its value's number beside the others. This is how a step is handed up: a value inside it would be written in two pieces and read as one, and
 // a processor waits where these meet.
-#[derive(Drop)]
+#[derive(Clone, Copy)]
 pub enum Parts {
     Word(u32, u32),
     Truth(bool, u32),
@@ -33,7 +35,7 @@ pub enum Parts {
 }
 
 // The operand of a node that comes after its first, or a condition that is no truth.
-#[derive(Drop)]
+#[derive(Clone, Copy)]
 pub enum Next {
     Operand(u32),
     Wrong,

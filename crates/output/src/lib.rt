@@ -1,5 +1,7 @@
 // Bytes, numbers and types written from a place of the output on. What does not fit is left out, and the place after it is given all the same: so a text
 // is measured by writing it into no bytes.
+#![tactic(auto)]
+
 ghost use Rattle.std.specs.Prelude.{◌≡◌, ◌+◌, ◌^◌, ◌<◌, length, set};
 ghost use Rattle.script.specs.Rows.Kinds.{kind_count};
 ghost use Rattle.text.specs.Code.Output.{Put, word_of};

@@ -1,4 +1,6 @@
 // The reader: from a text to a lent table in flat form and a lent list of entries.
+#![tactic(auto)]
+
 ghost use Rattle.std.specs.Prelude.{[], ◌≡◌, ◌*◌, ◌≤◌, ltb, length, take};
 ghost use Rattle.script.specs.Flat.{node_width, nodes_in};
 ghost use Rattle.script.specs.Limits.{node_limit, entry_limit, byte_limit};

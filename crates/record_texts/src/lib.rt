@@ -1,5 +1,7 @@
 // Writing from a lent table of records, and reading into one. Each copies the table to flat form, or from it, and hands on to the call over a table in flat
 // form, which makes every refusal.
+#![tactic(auto)]
+
 ghost use Rattle.std.specs.Prelude.{◌≡◌, ◌*◌, ◌≤◌, length, take};
 ghost use Rattle.script.specs.Flat.{node_width, table_in};
 ghost use Rattle.script.specs.Limits.{node_limit};

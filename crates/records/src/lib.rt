@@ -1,5 +1,7 @@
 // Checking and running over a lent table of records. Each copies the table to flat form and ends in the call over a table in flat form, which makes every
 // refusal.
+#![tactic(auto)]
+
 ghost use Rattle.std.specs.Prelude.{◌≡◌, ◌*◌, ◌≤◌, length, take};
 ghost use Rattle.script.specs.Flat.{node_width, table_in};
 ghost use Rattle.copies.specs.Copies.{table_of};

@@ -1,5 +1,7 @@
 // The rows that a decision looks at: which of them the condition and the guard reach, by a mark on each, and how many atoms are among them. What the
 // functions of a decision compute of the lent numbers stands in `specs/`.
+#![tactic(auto)]
+
 ghost use Rattle.std.specs.Prelude.{◌&&◌, ◌≡◌, ◌+◌, ◌<◌, ◌≤◌, length};
 ghost use Rattle.terms.specs.Places.{row_limit};
 ghost use Rattle.rows.specs.Decision.{branches_of};
@@ -8,7 +10,7 @@ ghost use Rattle.rows.specs.Code.{above, Room, Low, operand_below, reached, mark
 use terms::{CONJUNCTION, EXCLUSION, FIRST_ATOM, NEGATION, Row, row_at};
 
 // Which branches are taken: none, since there are too many atoms; both; or one.
-#[derive(Drop)]
+#[derive(Clone, Copy)]
 pub enum Decision {
     TooMany,
     Both,
@@ -17,7 +19,7 @@ pub enum Decision {
 }
 
 // How many atoms are marked, how many of them the guard reaches, and how many both do.
-#[derive(Drop)]
+#[derive(Clone, Copy)]
 pub struct Counts {
     pub all: u32,
     pub own: u32,

@@ -1,5 +1,7 @@
 // The runner: evaluation of a table on lent cells. `run` is the whole call; `steps` runs a node. Below it stand `operators`, the rules for values, and
 // `cells`, the 5-byte form and the tests 35 and 34.
+#![tactic(auto)]
+
 ghost use Rattle.std.proofs.Math.Option.{none};
 ghost use Rattle.std.specs.Prelude.{◌≡◌, take};
 ghost use Rattle.script.specs.Flat.{nodes_in, table_in};

@@ -11,6 +11,8 @@
 // after the run, `KIND:BITS` parted by blanks, `-` if there is none, or `?` if the used count is more than the cells lent; then `kept` if each lent byte
 // after the used cells is as it was before the run, else `touched`.
 // After a refusal: the name, `refused`, number, place or `-`, and `kept` if each lent byte is as it was; `unread` if the text was refused, and nothing run.
+#![tactic(auto)]
+
 ghost use Rattle.std.specs.Prelude.{◌≡◌};
 ghost use Rattle.runs.specs.Given.{left, given_at};
 

@@ -1,4 +1,6 @@
 // The plain data that all layers share, declared once: the node record, values, refusals and answers, and the limits of a script.
+#![tactic(auto)]
+
 ghost use Rattle.std.specs.Prelude.{◌≡◌};
 ghost use Rattle.script.specs.Answers.{number_of, place_of, kind_of, bits_of};
 ghost use Rattle.script.specs.Limits.{script_of, size_of, with_node, with_entry};
@@ -6,7 +8,7 @@ ghost use Rattle.script.specs.Limits.{script_of, size_of, with_node, with_entry}
 pub mod table;
 
 // A node of a script: its kind, 0 to 14, and three operands, of which the unused ones are 0.
-#[derive(Drop)]
+#[derive(Clone, Copy)]
 pub struct Node {
     pub kind: u32,
     pub a: u32,
@@ -15,7 +17,7 @@ pub struct Node {
 }
 
 // What evaluation gives and a cell holds: a 32-bit word, a truth, or the number of a cell.
-#[derive(Drop)]
+#[derive(Clone, Copy)]
 pub enum Value {
     Word(u32),
     Truth(bool),
@@ -52,7 +54,7 @@ impl Value {
 }
 
 // Why an input is turned down, with the line or the node where it has a place. `number` gives its number.
-#[derive(Drop)]
+#[derive(Clone, Copy)]
 pub enum Refusal {
     BadLine(u32),
     TooManyAt(u32),
@@ -77,7 +79,7 @@ pub enum Refusal {
 }
 
 // Where a refusal is: at a line or a node, or nowhere.
-#[derive(Drop)]
+#[derive(Clone, Copy)]
 pub enum Place {
     Nowhere,
     At(u32),
@@ -142,14 +144,14 @@ impl Refusal {
 }
 
 // The checker's answer: the type's code, or why not.
-#[derive(Drop)]
+#[derive(Clone, Copy)]
 pub enum Checked {
     Accepted(u32),
     Refused(Refusal),
 }
 
 // The runner's answer: a value and the used count; the node of the error state and the used count; or why not.
-#[derive(Drop)]
+#[derive(Clone, Copy)]
 pub enum Ran {
     Gave(Value, u32),
     Failed(u32, u32),
@@ -157,28 +159,28 @@ pub enum Ran {
 }
 
 // The reader's answer: the script's counts, or why not.
-#[derive(Drop)]
+#[derive(Clone, Copy)]
 pub enum Reading {
     Read(Script),
     Refused(Refusal),
 }
 
 // The writer's answer: the length of the text, or why not.
-#[derive(Drop)]
+#[derive(Clone, Copy)]
 pub enum Writing {
     Wrote(usize),
     Refused(Refusal),
 }
 
 // A script by its counts. Made by `empty`, `of`, `with_node` and `with_entry`, both are within the limits.
-#[derive(Drop)]
+#[derive(Clone, Copy)]
 pub struct Script {
     pub nodes: usize,
     pub entries: usize,
 }
 
 // A script's counts where they are within the limits.
-#[derive(Drop)]
+#[derive(Clone, Copy)]
 pub enum Sized {
     Fits(Script),
     TooLarge,

@@ -42,14 +42,14 @@ pub const SYM: u32 = 14;
 pub const LEAVES: u32 = ADD;
 
 // What the operands of a kind are: numbers up to a limit, or nodes.
-#[derive(Drop)]
+#[derive(Clone, Copy)]
 pub enum Takes {
     Number(u32),
     Nodes,
 }
 
 // A table passes its tests, or is turned down.
-#[derive(Drop)]
+#[derive(Clone, Copy)]
 pub enum Tested {
     Passed,
     Refused(Refusal),

@@ -1,5 +1,7 @@
 // The symbolic rules: what node n gives on a path once its operands have given theirs. A value is its type's code and its place: a row of the terms, or what
 // `terms::references` says of a reference.
+#![tactic(auto)]
+
 ghost use Rattle.std.specs.Prelude.{◌*◌, ◌≤◌, length};
 ghost use Rattle.script.specs.Code.Forms.{form_of};
 ghost use Rattle.script.specs.Rows.{var_form, unary_form, binary_form, not_op, ref_op, get_op, add_op, eq_op, and_op, set_op};

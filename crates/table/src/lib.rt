@@ -1,4 +1,6 @@
 // A table in its flat form: the operand counts of the kinds, a well-formed node, the unused node, and the one door to a node.
+#![tactic(auto)]
+
 ghost use Rattle.std.specs.Prelude.{◌≡◌, ◌*◌, eqb, get_or};
 ghost use Rattle.std.proofs.lemmas.List.Edits.{sets};
 ghost use Rattle.script.specs.Flat.{numbers_of, node_width, nodes_in, HasNode};

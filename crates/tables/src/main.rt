@@ -8,6 +8,8 @@
 //
 // Its line has fields parted by tabs: the name, then `accepted` and the letters of the type, or `refused`, number, and place or `-`; then `wrote` and the
 // length of the text, or `refused`, number, and place or `-`.
+#![tactic(auto)]
+
 ghost use Rattle.std.specs.Prelude.{◌++◌, ◌≡◌, ◌≤◌, length, drop};
 
 use call_texts::PLACES;

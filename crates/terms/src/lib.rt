@@ -1,6 +1,8 @@
 // The terms of a path: its words and truths, each a row that refers to earlier rows. They stand in the workspace of a `sym`: a lent slice of numbers
 // whose first part is the environment, two numbers a variable; then come the count of the rows and the rows, three numbers each; then what the checker
 // keeps of a path.
+#![tactic(auto)]
+
 ghost use Rattle.std.specs.Prelude.{◌≡◌, ◌+◌, ◌*◌, ◌<◌, length};
 ghost use Rattle.terms.specs.Places.{row_at};
 ghost use Rattle.terms.specs.Terms.{row_in, Space, pushed, count_in};
@@ -61,7 +63,7 @@ pub const DIFFERENCE: u32 = 10;
 pub const FIRST_ATOM: u32 = TRUTH;
 
 // A row: what it is, and its two operands.
-#[derive(Drop)]
+#[derive(Clone, Copy)]
 pub struct Row {
     pub op: u32,
     pub a: u32,

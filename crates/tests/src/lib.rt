@@ -1,4 +1,6 @@
 // The tests of a table in its flat form, in their order: 32, 2, 3, 33, 4, 5, 13. Each loop passes once over the nodes.
+#![tactic(auto)]
+
 ghost use Rattle.std.specs.Prelude.{◌≡◌, ◌+◌, ◌<◌, ◌≤◌, leb, length, take};
 ghost use Rattle.script.specs.Flat.{nodes_in, table_in};
 ghost use Rattle.script.specs.Limits.{node_limit, type_limit, word_limit};

@@ -1,6 +1,8 @@
 // Tries the reader and the writer of script text on framed texts, and prints a line for each: its name, a tab, and what came of it.
 // A frame is a line `LENGTH<tab>OUT<tab>NAME`, then LENGTH bytes of text and an LF; OUT bytes are lent to the writer.
 // Names tell what is tried.
+#![tactic(auto)]
+
 ghost use Rattle.std.specs.Prelude.{◌≡◌, length};
 ghost use Rattle.texts.specs.Frames.{frame_at, lent, Framed, after_frames};
 

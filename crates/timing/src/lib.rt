@@ -1,5 +1,7 @@
 // Reading and writing of script text and test 5 of a table, each answered by one number, for the program `bench`, which times them from outside. Hosts have
 // no use for this library: their calls are those of `host`.
+#![tactic(auto)]
+
 ghost use Rattle.std.specs.Prelude.{◌≡◌};
 ghost use Rattle.script.specs.Flat.{nodes_in, table_in};
 ghost use Rattle.text.specs.Reading.{reading_in};

@@ -5,7 +5,7 @@ ghost use Rattle.trial.specs.Given.{byte_at, line, bytes_line};
 use crate::{Number, number_until};
 
 // A byte of a line and what comes after it: where the next byte starts, or where the next line does; or not of the form.
-#[derive(Drop)]
+#[derive(Clone, Copy)]
 pub enum Byte {
     More(u8, usize),
     Last(u8, usize),

@@ -1,4 +1,6 @@
 // What the programs that try the other crates share: the headers, names and texts in their input, and what they print. `given` has lines of bytes.
+#![tactic(auto)]
+
 ghost use Rattle.std.specs.Prelude.{◌≡◌};
 ghost use Rattle.trial.specs.Numbers.{digit_of, number_at, header_at};
 ghost use Rattle.trial.specs.Places.{name_end, text_end};
@@ -9,7 +11,7 @@ use libc::STDOUT_FILENO;
 use script::{Checked, Place, Refusal};
 
 // What a frame's header says: two numbers, and where its name starts.
-#[derive(Drop)]
+#[derive(Clone, Copy)]
 pub enum Header {
     Is {
         first: usize,
@@ -20,7 +22,7 @@ pub enum Header {
 }
 
 // A number and where the next field starts; or not of the form.
-#[derive(Drop)]
+#[derive(Clone, Copy)]
 pub enum Number {
     Is(usize, usize),
     Bad,

@@ -1,4 +1,6 @@
 // The rows that a decision looks at, in order, with the numbers of the atoms among them; and their truths under 64 assignments at a time, one bit each.
+#![tactic(auto)]
+
 ghost use Rattle.std.specs.Prelude.{◌≡◌, ◌+◌, ◌≤◌, ◌<◌, length, get_or, take};
 ghost use Rattle.terms.specs.Places.{row_limit, rows_end};
 ghost use Rattle.rows.specs.Code.{Listable, listed_row, count_after, Lists, Rows, number_row, seen_at, numbers_to, is_numbered, numbered_to, spread_of, pattern_of, row_word, evaluate_row, evaluated_to, change_of, change_row, changed_to, changes_of};

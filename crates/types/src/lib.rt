@@ -1,4 +1,6 @@
 // The type rules: what node n gives in typed mode once its operands have given their types. A type is its code.
+#![tactic(auto)]
+
 ghost use Rattle.std.specs.Prelude.{◌||◌, ◌≡◌, ◌*◌, ◌<◌, ◌≤◌, eqb, length};
 ghost use Rattle.std.proofs.Math.ListN.{get_elem?};
 ghost use Rattle.script.specs.Code.Forms.{form_of};

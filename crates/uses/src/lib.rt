@@ -1,5 +1,7 @@
 // The use count of test 5 in one walk: each node of a table is handed once to a step, which sees a state and that node. After the last node a field of the
 // state says which node, other than the last, is the lowest that is not used exactly once.
+#![tactic(auto)]
+
 ghost use Rattle.std.specs.Prelude.{true, ◌≡◌, ◌-◌, ◌^◌, ◌<◌, take};
 ghost use Rattle.script.specs.Code.TableTests.{Lent};
 ghost use Rattle.script.specs.Flat.{nodes_in};
@@ -19,7 +21,7 @@ const LIMIT: u32 = Script::NODES as u32;
 
 // The nodes by how the nodes seen use them: a 1 for each that is unused, of the first 64 in `low` and of the others in `high`; the lowest that is used again,
 // or 128; and how many nodes were seen.
-#[derive(Drop)]
+#[derive(Clone, Copy)]
 pub struct Uses {
     pub low: u64,
     pub high: u64,
@@ -28,7 +30,7 @@ pub struct Uses {
 }
 
 // What the walk knows after the nodes seen: their uses, and the lowest of them, other than the last, that is not used exactly once.
-#[derive(Drop)]
+#[derive(Clone, Copy)]
 pub struct State {
     pub uses: Uses,
     pub wrong: Place,

@@ -1,4 +1,6 @@
 // Equality of words: true or false if the difference is a constant, else an atom, which is found again if the same difference or its negation has a row.
+#![tactic(auto)]
+
 ghost use Rattle.std.specs.Prelude.{◌≡◌, ◌≤◌, length};
 ghost use Rattle.terms.specs.Terms.{Space};
 ghost use Rattle.words.specs.Sums.{place_count, Two};

@@ -1,5 +1,7 @@
 // The workspace of a `sym`: where its numbers stand, and what the functions on it hand to each other. What the numbers stand for, and the laws of every step
 // on them, stand in `specs/`. No function.
+#![tactic(auto)]
+
 use script::{Refusal, Script};
 use terms::END;
 
@@ -91,21 +93,21 @@ pub const AWAITS: u32 = 4;
 // ---- what the functions hand to each other
 
 // What `get` finds: a value's type and place, or nothing.
-#[derive(Drop)]
+#[derive(Clone, Copy)]
 pub enum Found {
     Value(u32, u32),
     Nothing,
 }
 
 // What the notes say of a block: its type, or nothing.
-#[derive(Drop)]
+#[derive(Clone, Copy)]
 pub enum Known {
     Typed(u32),
     Nothing,
 }
 
 // What a frame has: the node that waits, for what, and the type and the place of its first operand's value.
-#[derive(Drop)]
+#[derive(Clone, Copy)]
 pub struct Frame {
     pub node: u32,
     pub awaits: u32,
@@ -114,7 +116,7 @@ pub struct Frame {
 }
 
 // What becomes of an `if`: a branch, both, or a refusal.
-#[derive(Drop)]
+#[derive(Clone, Copy)]
 pub enum Branch {
     First,
     Second,
@@ -123,7 +125,7 @@ pub enum Branch {
 }
 
 // A path's step: a value's type and place, or a refusal that ends the path.
-#[derive(Drop)]
+#[derive(Clone, Copy)]
 pub enum Step {
     Gave(u32, u32),
     Stopped(Refusal),

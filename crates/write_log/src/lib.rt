@@ -1,4 +1,6 @@
 // The log of writes: consistency, what `get` finds, and a write.
+#![tactic(auto)]
+
 ghost use Rattle.std.specs.Prelude.{◌≡◌, suc, ◌-◌, ◌<◌, ◌≤◌, length};
 ghost use Rattle.script.specs.Limits.{node_limit};
 ghost use Rattle.workspace.specs.Log.{right_on, mends_on, mended_on, settled_on, written, emptied, consistent_in, lookup_in};

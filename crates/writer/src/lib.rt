@@ -1,4 +1,6 @@
 // The writer: from a table in flat form to lent bytes.
+#![tactic(auto)]
+
 ghost use Rattle.std.proofs.Math.Option.{none};
 ghost use Rattle.std.specs.Prelude.{◌≡◌, ℕ, ◌+◌, ◌*◌, ◌^◌, ◌≤◌, ◌<◌, length, take};
 ghost use Rattle.script.specs.Flat.{node_width, nodes_in, table_in};

@@ -1,0 +1,11 @@
+use Prim.Native.Nat.{◌-◌, ◌/◌}
+use lib.ListN.{length}
+use Rattle.script.specs.Code.Clearing.Laws.{Clearing}
+use Rattle.script.specs.Flat.{node_width}
+use Rattle.table.proofs.clearing.clear_nodes.Given as goal
+
+abbrev pub invariant-loop-i : goal.invariant-loop-i
+invariant-loop-i l = Clearing l.from l.initial.table l.table l.i
+
+abbrev pub decreases-loop-i : goal.decreases-loop-i
+decreases-loop-i l = length l.initial.table / node_width - l.i
