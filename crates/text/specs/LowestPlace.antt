@@ -270,6 +270,8 @@ by-node : (text : List ℕ) {r : Refusal} → OfNode r → Refuses text r → Re
 by-node text o (at-node d) = d
 by-node text used-once (at-line l h) = let n = line-number l in absurd (omega arith)
 by-node text nested (at-line l h) = let n = line-number l in absurd (omega arith)
+by-node text o (too_long _) = elim o [ ]
+by-node text o (no_node _) = elim o [ ]
 
 -- a refusal at a node: all lines are taken, and it is the lowest node that fails
 pub lowest-node : (text : List ℕ) (r : Refusal) → OfNode r → meaning_of text ≡ refused r → RefusedNode (parts lf text) r

@@ -75,6 +75,7 @@ follows_good (at_end_lem {v = v} {x = x} q) (and_good c e g) =
     })
 follows_good (first {t = ps} {u = qs} h) g = follows_good h (good_first (leaves ps) (leaves qs) g)
 follows_good (second {t = ps} h) g = follows_good h (good_second (leaves ps) g)
+follows_good {typing = typing} {ρ = ρ} {t = t} (at-stop {r = r} {o = o}) g = elim g [ ]
 
 verdict-kept : (n limit : ℕ) {typing : List ℕ} {ρ : List Entry} {ps : Paths} {o : Outcome} → Follows typing ρ ps o → Promise typing (verdict n limit (leaves ps)) o
 verdict-kept n limit {typing} {ρ} {ps} {o} h = go (verdict n limit (leaves ps)) refl

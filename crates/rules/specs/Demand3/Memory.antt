@@ -111,6 +111,7 @@ two-variables s u e f = rw (e, f) refl
 valuation-at : (xs : List Value) {s : ℕ} {e : Entry} → At (valuation xs) s e → (e.origin ≡ initial) × At xs s e.value
 valuation-at (x ∷ xs) here = (refl, here)
 valuation-at (x ∷ xs) (there a) = let q = valuation-at xs a in (q.0, there q.1)
+valuation-at [] {s = s} {e = e} x' = elim x' [ ]
 
 pub memory_start : {typing : List ℕ} {cells env : List Value} {types : List ℕ} → Fits typing cells → HaveTypes typing env types
     → Memory typing (valuation env) cells []

@@ -53,6 +53,7 @@ module _ {A : Type 0} where
       next : At zs i y ⊎ ((i ≡ length zs) × (y ≡ x)) → At (z ∷ zs) (suc i) y ⊎ ((suc i ≡ suc (length zs)) × (y ≡ x))
       next (inl b) = inl (there b)
       next (inr q) = inr (ap suc q.0, q.1)
+  split-last [] {x = x} {y = y} (there {i = i} a) = elim a [ ]
 
   pub at_set_same : {xs : List A} {i : ℕ} {x : A} (y : A) → At xs i x → At (set xs i y) i y
   at_set_same y here = here
@@ -69,6 +70,7 @@ module _ {A : Type 0} where
   at_unset (z ∷ zs) zero y ne (there a) = there a
   at_unset (z ∷ zs) (suc j) y ne here = here
   at_unset (z ∷ zs) (suc j) y ne (there a) = there (at_unset zs j y (λ q. ne (ap suc q)) a)
+  at_unset [] {i = i} j y ne x4 = elim x4 [ ]
 
   -- ---- extensions
 
@@ -95,10 +97,12 @@ module _ {A B : Type 0} {R : A → B → Type 0} where
   pub each_at : {xs : List A} {ys : List B} {i : ℕ} {y : B} → Each R xs ys → At ys i y → (x : A) × At xs i x × R x y
   each_at (also {a = x} r e) here = (x, here, r)
   each_at (also r e) (there a) = let q = each_at e a in (q.0, there q.1, q.2)
+  each_at {i = i} {y = y} empty x4 = elim x4 [ ]
 
   pub each_from : {xs : List A} {ys : List B} {i : ℕ} {x : A} → Each R xs ys → At xs i x → (y : B) × At ys i y × R x y
   each_from (also {b = y} r e) here = (y, here, r)
   each_from (also r e) (there a) = let q = each_from e a in (q.0, there q.1, q.2)
+  each_from {i = i} empty x8 = elim x8 [ ]
 
   pub each_last : {xs : List A} {ys : List B} {x : A} {y : B} → Each R xs ys → R x y → Each R (xs ++ (x ∷ [])) (ys ++ (y ∷ []))
   each_last empty r = also r empty
@@ -107,6 +111,7 @@ module _ {A B : Type 0} {R : A → B → Type 0} where
   pub each_set : {xs : List A} {ys : List B} {i : ℕ} {x : A} {y : B} → Each R xs ys → At ys i y → R x y → Each R (set xs i x) ys
   each_set (also q e) here r = also r e
   each_set (also q e) (there a) r = also q (each_set e a r)
+  each_set {i = i} {y = y} empty x11 r = elim x11 [ ]
 
   pub each_map : {S : A → B → Type 0} {xs : List A} {ys : List B} → ((x : A) (y : B) → R x y → S x y) → Each R xs ys → Each S xs ys
   each_map f empty = empty

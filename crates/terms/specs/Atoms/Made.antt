@@ -66,6 +66,10 @@ same_row (AtomRow.pair_row e f g) (AtomRow.pair_row e' f' g') (SameAtoms.crossed
     turned (e ∙ sym e') (f ∙ k ∙ sym g') (g ∙ l ∙ sym f')
 same_row u (AtomRow.difference_row e' f' g' l m p q) (SameAtoms.same_difference k) h = absurd (omega arith)
 same_row u (AtomRow.difference_row e' f' g' l m p q) (SameAtoms.opposites k) h = absurd (omega arith)
+same_row {ws = ws} {left = left} {i = i} {n = n} (Rattle.terms.specs.Terms.pair_row {r = r} {s = s} e f g) (Rattle.terms.specs.Terms.truth_symbol_row e' f' g') x20 h = elim x20 [ ]
+same_row {ws = ws} {left = left} {i = i} {n = n} (Rattle.terms.specs.Terms.difference_row {j = j} {k = k} {p = p} {q = q} _ _ _ _ _ _ _) (Rattle.terms.specs.Terms.truth_symbol_row {s = s} e' f' g') x36 h = elim x36 [ ]
+same_row {ws = ws} {left = left} {i = i} {n = n} (Rattle.terms.specs.Terms.truth_symbol_row {s = s} e f g) (Rattle.terms.specs.Terms.pair_row {r = r} e' f' g') x18 h = elim x18 [ ]
+same_row {ws = ws} {left = left} {i = i} {n = n} (Rattle.terms.specs.Terms.difference_row {j = j} {k = k} {p = p} {q = q} _ _ _ _ _ _ _) (Rattle.terms.specs.Terms.pair_row {r = r} {s = s} e' f' g') x34 h = elim x34 [ ]
 
 -- ---- found or made
 
