@@ -42,6 +42,8 @@ unfolding is_found
 again {ws} {i} {p} {q} (AtomRow.difference_row {j = j} {k = k} e f g l m a b) h u v c d same =
     true-both (joins (row_in ws i) of_difference i) _ (joined-joins (row_in ws i) of_difference i (record { is = e; first = omega arith; second = omega arith }))
     (rw (f, g) (told-alike (numbers_stand a b (omega arith) (omega arith)) (numbers_stand u v c d) same))
+again {ws = ws} {i = i} {p = p} {q = q} {y = y} {z = z} (Rattle.terms.specs.Terms.truth_symbol_row {s = s} _ _ _) h u v c d same = elim same [ ]
+again {ws = ws} {i = i} {p = p} {q = q} {y = y} {z = z} (Rattle.terms.specs.Terms.pair_row {r = r} {s = s} _ _ _) h u v c d same = elim same [ ]
 
 module _ {ws : List ℕ} (s : Space ws 1) (d : Distinct ws) {p q : ℕ} {x y : Sum} (u : SumRow ws p x) (v : SumRow ws q y)
     (h : p < count_in ws) (l : q < count_in ws) where

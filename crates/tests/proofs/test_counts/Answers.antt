@@ -1,0 +1,19 @@
+-- `tests::test_counts` meets its contract. The loop's invariant: each count passed is 1. Assumes nothing.
+use Prim.Native.Nat.{pred}
+use native.Mathlib.Omega.{arith}
+use Rattle.script.specs.Tests.Loops.{look}
+use Rattle.tests.specs.Lowest.{not_once, count-wrong, count-right, counts-passed}
+use Rattle.tests.proofs.test_counts.Goals as goal
+
+pub loop-i-init : goal.loop-i-init
+loop-i-init c = (omega arith, look (not_once c.args.counts.now) (pred c.args.nodes))
+
+pub returns-then-counts-i-ne1 : goal.returns-then-counts-i-ne1
+returns-then-counts-i-ne1 c = count-wrong c.args.counts.now c.args.nodes c.loop-i.i c.loop-i.invariant.1 c.loop-i-test.true c.if-counts-i-ne1.true
+
+pub loop-i-preserved : goal.loop-i-preserved
+loop-i-preserved c =
+    (omega arith, count-right c.args.counts.now c.args.nodes c.loop-i.i c.loop-i.invariant.1 c.loop-i-test.true c.if-counts-i-ne1.false)
+
+pub returns : goal.returns
+returns c = counts-passed c.args.counts.now c.args.nodes c.loop-i.i c.loop-i.invariant.1 c.loop-i-test.false
