@@ -1,0 +1,58 @@
+-- `reader::lines::line_at` meets its contract. Assumes nothing.
+use borrow.Author.Rules.{rules}
+use mathlib.Core.Path.{sym, ap, ◌∙◌}
+use native.Mathlib.Omega.{arith}
+use lib.ListN.{length}
+use Rattle.text.specs.Fields.{kind_named}
+use Rattle.text.specs.Fields.Words.{kind-below}
+use Rattle.text.specs.Code.Scan.Laws.{said_number, said_nothing}
+use Rattle.text.specs.Code.Scan.Lines.{line-entry, line-node, line-none, word-most, word-ends}
+use Rattle.reader.proofs.lines.line_at.Goals as goal
+
+pub overflow_add-end : goal.overflow_add-end
+overflow_add-end c =
+    let a = c.args in
+    let l = ap length c.field-w.ensures in
+    let h = word-most a.text.now a.at (omega arith) in
+    search rules
+
+pub entry_line-requires : goal.entry_line-requires
+entry_line-requires c =
+    let a = c.args in
+    let f = c.field-w.ensures in
+    record {
+      at_in_bounds = rw f (word-most a.text.now a.at (omega arith));
+      text_value = rw f (word-ends a.text.now a.at);
+    }
+
+pub returns-then-same : goal.returns-then-same
+returns-then-same c =
+    let a = c.args in
+    let f = c.field-w.ensures in
+    let w = sym c.same.ensures ∙ c.if-same.true in
+    sym (line-entry a.text.now a.at (rw f at w) ∙ rw (← f) (sym c.entry_line.ensures))
+
+pub node_line-requires : goal.node_line-requires
+node_line-requires c =
+    let a = c.args in
+    let f = c.field-w.ensures in
+    let k = said_number (kind_named c.field-w.result.now) c.in-Number.kind (sym c.kind_of.ensures ∙ c.in-Number.is) in (
+      rw f (word-most a.text.now a.at (omega arith)),
+      (rw f (word-ends a.text.now a.at), kind-below c.field-w.result.now c.in-Number.kind k),
+    )
+
+pub returns-in-Number : goal.returns-in-Number
+returns-in-Number c =
+    let a = c.args in
+    let f = c.field-w.ensures in
+    let w = sym c.same.ensures ∙ c.if-same.false in
+    let k = said_number (kind_named c.field-w.result.now) c.in-Number.kind (sym c.kind_of.ensures ∙ c.in-Number.is) in
+    sym (line-node a.text.now a.at c.in-Number.kind (rw f at w) (rw f at k) ∙ rw (← f) (sym c.node_line.ensures))
+
+pub returns-in-Nothing : goal.returns-in-Nothing
+returns-in-Nothing c =
+    let a = c.args in
+    let f = c.field-w.ensures in
+    let w = sym c.same.ensures ∙ c.if-same.false in
+    let k = said_nothing (kind_named c.field-w.result.now) (sym c.kind_of.ensures ∙ c.in-Nothing.is) in
+    sym (line-none a.text.now a.at (rw f at w) (rw f at k))
