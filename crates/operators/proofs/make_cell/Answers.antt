@@ -4,4 +4,4 @@ use Rattle.operators.proofs.make_cell.Goals as goal
 
 pub returns : goal.returns
 returns c =
-    λ n. rw c.store.ensures (ref-next c.requires.0 n c.args.v)
+    λ n. rw c.store.ensures (ref-next c.requires.cells n c.args.v)

@@ -8,7 +8,7 @@ use Rattle.operators.proofs.one.Goals as goal
 
 pub returns-in-6 : goal.returns-in-6
 unfolding one_on form_of row_of rows
-returns-in-6 c = rw c.in-6.is (does-says c.requires.0 c.negation.ensures)
+returns-in-6 c = rw c.in-6.is (does-says c.requires.cells c.negation.ensures)
 
 pub returns-in-10 : goal.returns-in-10
 unfolding one_on form_of row_of rows
@@ -17,9 +17,9 @@ returns-in-10 c =
 
 pub returns-in-11 : goal.returns-in-11
 unfolding one_on form_of row_of rows
-returns-in-11 c = rw c.in-11.keys3 c.read_cell.ensures
+returns-in-11 c = rw c.in-11.is c.read_cell.ensures
 
 pub returns-in_default : goal.returns-in_default
 returns-in_default c =
     let d = c.in_default.in_default-own.rest in
-    does-gave c.requires.0 _ (one_other c.args.n c.args.v _ c.args.kind (but d.0.0.1 (but d.0.1 (but d.1 none_left))))
+    does-gave c.requires.cells _ (one_other c.args.n c.args.v _ c.args.kind (but d.0.0.1 (but d.0.1 (but d.1 none_left))))

@@ -6,7 +6,6 @@ use Rattle.operators.proofs.read_cell.Goals as goal
 
 pub returns-then-l-used : goal.returns-then-l-used
 returns-then-l-used c =
-    let v = c.v-1.given in
     rw (c.in-Location.is, c.load.ensures) (get_used c.requires c.args.n c.in-Location.l (omega arith))
 
 pub returns-in-Word : goal.returns-in-Word
@@ -19,5 +18,4 @@ returns-in-Truth c = rw c.in-Truth.is (does-failed c.requires _ refl)
 
 pub returns-else-l-used : goal.returns-else-l-used
 returns-else-l-used c =
-    let v = c.v-1.given in
     rw c.in-Location.is (get_unused c.requires c.args.n c.in-Location.l (omega arith))

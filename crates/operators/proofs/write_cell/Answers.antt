@@ -6,18 +6,16 @@ use Rattle.operators.proofs.write_cell.Goals as goal
 
 pub returns-then-l-used : goal.returns-then-l-used
 returns-then-l-used c =
-    let v = c.v-1.given in
-    rw (c.in-Location.is, c.store.ensures) (set-used c.requires.0 c.args.n c.in-Location.l c.args.w (omega arith))
+    rw (c.in-Location.is, c.store.ensures) (set-used c.requires.cells c.args.n c.in-Location.l c.args.w (omega arith))
 
 pub returns-in-Word : goal.returns-in-Word
 unfolding binary_on
-returns-in-Word c = rw c.in-Word.is (does-failed c.requires.0 _ refl)
+returns-in-Word c = rw c.in-Word.is (does-failed c.requires.cells _ refl)
 
 pub returns-in-Truth : goal.returns-in-Truth
 unfolding binary_on
-returns-in-Truth c = rw c.in-Truth.is (does-failed c.requires.0 _ refl)
+returns-in-Truth c = rw c.in-Truth.is (does-failed c.requires.cells _ refl)
 
 pub returns-else-l-used : goal.returns-else-l-used
 returns-else-l-used c =
-    let v = c.v-1.given in
-    rw c.in-Location.is (set-unused c.requires.0 c.args.n c.in-Location.l c.args.w (omega arith))
+    rw c.in-Location.is (set-unused c.requires.cells c.args.n c.in-Location.l c.args.w (omega arith))

@@ -35,6 +35,7 @@ overflow_add-result c =
     omega (arith, ap (λ (t : ℕ). length (type_text t)) e)
 
 pub shape_of-out-then-t-eq0 : goal.shape_of-out-then-t-eq0
+unfolding type_text
 shape_of-out-then-t-eq0 c = put_length ((let l = c.loop-t in let e : l.t ≡ 0 = c.if-t-eq0.true in remains_none (remains_byte (rw e at l.invariant) c.put-then-t-eq0.ensures)))
 
 pub returns-then-t-eq0 : goal.returns-then-t-eq0
@@ -52,6 +53,7 @@ overflow_add-result-2 c =
     omega (arith, ap (λ (t : ℕ). length (type_text t)) e)
 
 pub shape_of-out : goal.shape_of-out
+unfolding type_text
 shape_of-out c = put_length ((let l = c.loop-t in let e : l.t ≡ 1 = omega arith in remains_none (remains_byte (rw e at l.invariant) c.put-2.ensures)))
 
 pub returns : goal.returns

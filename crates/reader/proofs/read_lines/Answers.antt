@@ -1,6 +1,4 @@
 -- `reader::read_lines` meets its contract. The loop's invariant is `Walked`; each line takes the place where the next one starts further. Assumes nothing.
-use mathlib.Core.Path.{◌∙◌}
-use Prim.Native.Nat.{◌-◌}
 use native.Mathlib.Omega.{arith}
 use native.Mathlib.Numerals.{add-one}
 use Rattle.text.specs.Code.Steps.Walk.{walk_start, walk_on, walk_refused, walk_end}
@@ -10,7 +8,7 @@ pub loop-at-init : goal.loop-at-init
 loop-at-init c =
     let a = c.args in
     let p = c.requires in
-    rw c.empty-script.ensures (walk_start a.text.now a.table.now a.entries.now p.node_limit_in_bounds.0 p.node_limit_in_bounds.1)
+    rw c.empty-script.ensures (walk_start a.text.now a.table.now a.entries.now p.node_limit_in_bounds p.entry_limit_in_bounds)
 
 pub take_line-requires : goal.take_line-requires
 take_line-requires c =
@@ -19,19 +17,13 @@ take_line-requires c =
       kept = w.kept;
     }
 
-pub shape_of-table-in-Refused : goal.shape_of-table-in-Refused
-shape_of-table-in-Refused c = let w = c.loop-at.invariant in let t = c.take_line.ensures in t.framed.table-length ∙ w.framed.table-length
-
-pub shape_of-entries-in-Refused : goal.shape_of-entries-in-Refused
-shape_of-entries-in-Refused c = let w = c.loop-at.invariant in let t = c.take_line.ensures in t.framed.entries-length ∙ w.framed.entries-length
-
 pub returns-in-Refused : goal.returns-in-Refused
 returns-in-Refused c =
     walk_refused c.loop-at.invariant c.loop-at-test.true (rw c.in-Refused.is at c.take_line.ensures)
 
 pub overflow_add-i : goal.overflow_add-i
 overflow_add-i c =
-    let w = c.loop-at.invariant in let l = w.lines-most in let m = w.within in omega (arith, c.requires.text_len_bound)
+    let w = c.loop-at.invariant in omega (arith, c.requires.text_len_bound)
 
 pub loop-at-smaller : goal.loop-at-smaller
 loop-at-smaller c =
@@ -47,15 +39,7 @@ loop-at-preserved c =
 pub at_end-requires : goal.at_end-requires
 at_end-requires c =
     let k = c.loop-at.invariant.kept in
-    let a = k.lent-nodes in
-    let b = k.nodes-most in
     record { most = k.nodes-most; room = omega arith; formed = k.formed }
-
-pub shape_of-table : goal.shape_of-table
-shape_of-table c = c.loop-at.invariant.framed.table-length
-
-pub shape_of-entries : goal.shape_of-entries
-shape_of-entries c = c.loop-at.invariant.framed.entries-length
 
 pub returns : goal.returns
 returns c = rw c.at_end.ensures (walk_end c.loop-at.invariant c.loop-at-test.false)

@@ -17,12 +17,6 @@ returns-then-text-gt-BYTES c =
     let a = c.args in
     holds-refused _ _ a.table.now a.entries.now (too_long a.text.now a.table.now a.entries.now c.if-table-lt-NODES.false c.if-entries-lt-ENTRIES.false c.if-text-gt-BYTES.true)
 
-pub shape_of-table : goal.shape_of-table
-shape_of-table c = c.read_lines.ensures.framed.table-length
-
-pub shape_of-entries : goal.shape_of-entries
-shape_of-entries c = c.read_lines.ensures.framed.entries-length
-
 pub returns : goal.returns
 returns c =
     let a = c.args in

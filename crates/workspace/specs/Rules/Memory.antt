@@ -176,8 +176,8 @@ get_found n q {ws} {u = u} {i = i} p h (refers {o = o} {c = c} {s = s} r) m e = 
     go : (f : Found) (r : Option Symbolic) → FoundAs ws f r → f ≡ Value u i → Yields ws (Gave u i) (got n r c p)
     go Nothing none found_none y = absurd (nothing-found y)
     go (Value w j) (some x) (found_some k) y = rw (sym (found_type y), sym (found-place y)) (ending k h)
-go (Value w j) none x15 y = elim x15 [ ]
-go Nothing (some x) x17 y = elim x17 [ ]
+    go (Value w j) none x15 y = elim x15 [ ]
+    go Nothing (some x) x17 y = elim x17 [ ]
 
 -- where nothing is found, the log is looked at
 get_nothing : (n q : ℕ) {ws left : List ℕ} {t : ℕ} {r : Step} {v : Symbolic} (p : Path) → PathIn ws p → Refers t q v → Means ws t q v
@@ -189,8 +189,8 @@ get_nothing n q {ws} {left} {r = r} p h (refers {o = o} {c = c} {s = s} z) m e k
     go : (f : Found) (x : Option Symbolic) → FoundAs ws f x → f ≡ Nothing → Yields left r (got n x c p)
     go Nothing none found_none y = k c refl
     go (Value w j) (some x) (found_some i) y = absurd (nothing-found (sym y))
-go (Value w j) none x21 y = elim x21 [ ]
-go Nothing (some x) x23 y = elim x23 [ ]
+    go (Value w j) none x21 y = elim x21 [ ]
+    go Nothing (some x) x23 y = elim x23 [ ]
 
 module _ (n t q : ℕ) {ws : List ℕ} where
   pub get_wrong : t < 2 → One (unary_form get_op) n t q ws (Stopped (WrongType n)) ws

@@ -36,10 +36,11 @@ pub node_line-requires : goal.node_line-requires
 node_line-requires c =
     let a = c.args in
     let f = c.field-w.ensures in
-    let k = said_number (kind_named c.field-w.result.now) c.in-Number.kind (sym c.kind_of.ensures ∙ c.in-Number.is) in (
-      rw f (word-most a.text.now a.at (omega arith)),
-      (rw f (word-ends a.text.now a.at), kind-below c.field-w.result.now c.in-Number.kind k),
-    )
+    let k = said_number (kind_named c.field-w.result.now) c.in-Number.kind (sym c.kind_of.ensures ∙ c.in-Number.is) in record {
+      at_in_bounds = rw f (word-most a.text.now a.at (omega arith));
+      text_value = rw f (word-ends a.text.now a.at);
+      kind_lt_kind_count = kind-below c.field-w.result.now c.in-Number.kind k;
+    }
 
 pub returns-in-Number : goal.returns-in-Number
 returns-in-Number c =

@@ -1,6 +1,5 @@
 -- `reader::lines::node_line` meets its contract. Each operand goes on from where the one before it ended. Assumes nothing.
 use borrow.Author.Rules.{rules}
-use borrow.Author.Tests.{not-true, not-false}
 use mathlib.Core.Path.{sym, ◌∙◌}
 use Prim.Native.Nat.{◌≤◌}
 use Rattle.script.specs.Rows.Laws.{operands-most}
@@ -13,7 +12,7 @@ returns-in_default c =
     let a = c.args in
     let n = c.operand_count-count.result in
     let m = c.largest-limit.result in
-    let r0 = reach_start a.text.now a.kind a.at n m c.requires.text_value.1 c.requires.at_in_bounds c.requires.text_value.0
+    let r0 = reach_start a.text.now a.kind a.at n m c.requires.kind_lt_kind_count c.requires.at_in_bounds c.requires.text_value
     c.operand_count-count.ensures c.largest-limit.ensures in
     sym (reach_bad a.text.now a.kind a.at n m r0 (sym c.operand_at.ensures ∙ c.in_default.is))
 
@@ -22,7 +21,7 @@ operand_at-requires-2 c =
     let a = c.args in
     let n = c.operand_count-count.result in
     let m = c.largest-limit.result in
-    let r0 = reach_start a.text.now a.kind a.at n m c.requires.text_value.1 c.requires.at_in_bounds c.requires.text_value.0
+    let r0 = reach_start a.text.now a.kind a.at n m c.requires.kind_lt_kind_count c.requires.at_in_bounds c.requires.text_value
     c.operand_count-count.ensures c.largest-limit.ensures in
     let e1 = sym c.operand_at.ensures ∙ c.in-Is.is in
     let r1 = reach_next a.text.now a.kind a.at n m r0 c.in-Is.a c.in-Is.after_a e1 in
@@ -33,7 +32,7 @@ returns-in_default-operand_at c =
     let a = c.args in
     let n = c.operand_count-count.result in
     let m = c.largest-limit.result in
-    let r0 = reach_start a.text.now a.kind a.at n m c.requires.text_value.1 c.requires.at_in_bounds c.requires.text_value.0
+    let r0 = reach_start a.text.now a.kind a.at n m c.requires.kind_lt_kind_count c.requires.at_in_bounds c.requires.text_value
     c.operand_count-count.ensures c.largest-limit.ensures in
     let e1 = sym c.operand_at.ensures ∙ c.in-Is.is in
     let r1 = reach_next a.text.now a.kind a.at n m r0 c.in-Is.a c.in-Is.after_a e1 in
@@ -44,7 +43,7 @@ operand_at-requires-3 c =
     let a = c.args in
     let n = c.operand_count-count.result in
     let m = c.largest-limit.result in
-    let r0 = reach_start a.text.now a.kind a.at n m c.requires.text_value.1 c.requires.at_in_bounds c.requires.text_value.0
+    let r0 = reach_start a.text.now a.kind a.at n m c.requires.kind_lt_kind_count c.requires.at_in_bounds c.requires.text_value
     c.operand_count-count.ensures c.largest-limit.ensures in
     let e1 = sym c.operand_at.ensures ∙ c.in-Is.is in
     let r1 = reach_next a.text.now a.kind a.at n m r0 c.in-Is.a c.in-Is.after_a e1 in
@@ -57,7 +56,7 @@ returns-in_default-operand_at-2 c =
     let a = c.args in
     let n = c.operand_count-count.result in
     let m = c.largest-limit.result in
-    let r0 = reach_start a.text.now a.kind a.at n m c.requires.text_value.1 c.requires.at_in_bounds c.requires.text_value.0
+    let r0 = reach_start a.text.now a.kind a.at n m c.requires.kind_lt_kind_count c.requires.at_in_bounds c.requires.text_value
     c.operand_count-count.ensures c.largest-limit.ensures in
     let e1 = sym c.operand_at.ensures ∙ c.in-Is.is in
     let r1 = reach_next a.text.now a.kind a.at n m r0 c.in-Is.a c.in-Is.after_a e1 in
@@ -70,7 +69,7 @@ returns-then-not-byte_is c =
     let a = c.args in
     let n = c.operand_count-count.result in
     let m = c.largest-limit.result in
-    let r0 = reach_start a.text.now a.kind a.at n m c.requires.text_value.1 c.requires.at_in_bounds c.requires.text_value.0
+    let r0 = reach_start a.text.now a.kind a.at n m c.requires.kind_lt_kind_count c.requires.at_in_bounds c.requires.text_value
     c.operand_count-count.ensures c.largest-limit.ensures in
     let e1 = sym c.operand_at.ensures ∙ c.in-Is.is in
     let r1 = reach_next a.text.now a.kind a.at n m r0 c.in-Is.a c.in-Is.after_a e1 in
@@ -79,11 +78,11 @@ returns-then-not-byte_is c =
     let e3 = sym c.operand_at-3.ensures ∙ c.in-Is-operand_at-2.is in
     let r3 = reach_next a.text.now a.kind a.at n m r2 c.in-Is-operand_at-2.c c.in-Is-operand_at-2.after_c e3 in
     let l : n ≤ 3 = rw c.operand_count-count.ensures (operands-most a.kind) in
-    sym (reach_no_lf a.text.now a.kind a.at n m r3 l (sym c.byte_is.ensures ∙ not-true _ c.if-not-byte_is.true))
+    sym (reach_no_lf a.text.now a.kind a.at n m r3 l (sym c.byte_is.ensures ∙ c.if-not-byte_is.true))
 
 pub overflow_add-result : goal.overflow_add-result
 overflow_add-result c =
-    let h = starts-within 10 c.args.text.now c.in-Is-operand_at-2.after_c (sym c.byte_is.ensures ∙ not-false _ c.if-not-byte_is.false) in
+    let h = starts-within 10 c.args.text.now c.in-Is-operand_at-2.after_c (sym c.byte_is.ensures ∙ c.if-not-byte_is.false) in
     search rules
 
 pub returns : goal.returns
@@ -91,7 +90,7 @@ returns c =
     let a = c.args in
     let n = c.operand_count-count.result in
     let m = c.largest-limit.result in
-    let r0 = reach_start a.text.now a.kind a.at n m c.requires.text_value.1 c.requires.at_in_bounds c.requires.text_value.0
+    let r0 = reach_start a.text.now a.kind a.at n m c.requires.kind_lt_kind_count c.requires.at_in_bounds c.requires.text_value
     c.operand_count-count.ensures c.largest-limit.ensures in
     let e1 = sym c.operand_at.ensures ∙ c.in-Is.is in
     let r1 = reach_next a.text.now a.kind a.at n m r0 c.in-Is.a c.in-Is.after_a e1 in
@@ -103,5 +102,5 @@ returns c =
     let u1 = reach_unwanted a.text.now a.kind a.at n m r0 c.in-Is.a c.in-Is.after_a e1 in
     let u2 = reach_unwanted a.text.now a.kind a.at n m r1 c.in-Is-operand_at.b c.in-Is-operand_at.after_b e2 in
     let u3 = reach_unwanted a.text.now a.kind a.at n m r2 c.in-Is-operand_at-2.c c.in-Is-operand_at-2.after_c e3 in
-    let f = reach_lf a.text.now a.kind a.at n m r3 l (sym c.byte_is.ensures ∙ not-false _ c.if-not-byte_is.false) in
+    let f = reach_lf a.text.now a.kind a.at n m r3 l (sym c.byte_is.ensures ∙ c.if-not-byte_is.false) in
     sym (f ∙ node_made a.kind n c.in-Is.a c.in-Is-operand_at.b c.in-Is-operand_at-2.c c.in-Is-operand_at-2.after_c l u1 u2 u3)

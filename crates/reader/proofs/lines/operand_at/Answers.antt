@@ -1,5 +1,4 @@
 -- `reader::lines::operand_at` meets its contract. Assumes nothing.
-use borrow.Author.Tests.{not-true, not-false}
 use mathlib.Core.Path.{refl, sym, ◌∙◌}
 use native.Mathlib.Omega.{arith}
 use lib.ListN.{drop}
@@ -9,32 +8,32 @@ use Rattle.text.specs.Code.Scan.Lines.{operand_no_tab, operand-tab, starts-withi
 use Rattle.reader.proofs.lines.operand_at.Goals as goal
 
 pub returns-then-not-wanted : goal.returns-then-not-wanted
-returns-then-not-wanted c = rw c.if-not-wanted.true refl
+returns-then-not-wanted c = rw (c.if-not-wanted.true) refl
 
 pub returns-then-not-byte_is : goal.returns-then-not-byte_is
 returns-then-not-byte_is c =
     let a = c.args in
-    let b = sym c.byte_is.ensures ∙ not-true _ c.if-not-byte_is.true in
-    rw c.if-not-wanted.false (sym (operand_no_tab a.limit a.at (drop a.at a.text.now) b))
+    let b = sym c.byte_is.ensures ∙ c.if-not-byte_is.true in
+    rw (c.if-not-wanted.false) (sym (operand_no_tab a.limit a.at (drop a.at a.text.now) b))
 
 pub field-f-requires : goal.field-f-requires
 field-f-requires c =
     let a = c.args in
-    let h = starts-within 9 a.text.now a.at (sym c.byte_is.ensures ∙ not-false _ c.if-not-byte_is.false) in
+    let h = starts-within 9 a.text.now a.at (sym c.byte_is.ensures ∙ c.if-not-byte_is.false) in
     omega arith
 
 pub returns-in-Number : goal.returns-in-Number
 returns-in-Number c =
     let a = c.args in
-    let t = sym c.byte_is.ensures ∙ not-false _ c.if-not-byte_is.false in
+    let t = sym c.byte_is.ensures ∙ c.if-not-byte_is.false in
     let f = c.field-f.ensures in
     let n = said_number (decimal_up_to a.limit c.field-f.result.now) c.in-Number.n (sym c.number.ensures ∙ c.in-Number.is) in
-    rw (not-false a.wanted c.if-not-wanted.false, operand-tab a.text.now a.at t a.limit, ← f, n) refl
+    rw (c.if-not-wanted.false, operand-tab a.text.now a.at t a.limit, ← f, n) refl
 
 pub returns-in-Nothing : goal.returns-in-Nothing
 returns-in-Nothing c =
     let a = c.args in
-    let t = sym c.byte_is.ensures ∙ not-false _ c.if-not-byte_is.false in
+    let t = sym c.byte_is.ensures ∙ c.if-not-byte_is.false in
     let f = c.field-f.ensures in
     let n = said_nothing (decimal_up_to a.limit c.field-f.result.now) (sym c.number.ensures ∙ c.in-Nothing.is) in
-    rw (not-false a.wanted c.if-not-wanted.false, operand-tab a.text.now a.at t a.limit, ← f, n) refl
+    rw (c.if-not-wanted.false, operand-tab a.text.now a.at t a.limit, ← f, n) refl

@@ -1,0 +1,15 @@
+-- `known::keep_words` meets its contract: the truths of the blocks passed are kept. Assumes nothing.
+use Rattle.rows.specs.Code.Leaves.{storing, storing_on, storing_end}
+use Rattle.known.proofs.keep_words.Goals as goal
+
+pub loop-block-init : goal.loop-block-init
+loop-block-init c = let a = c.args in storing a.space.now a.at a.truths.now a.blocks
+
+pub loop-block-preserved : goal.loop-block-preserved
+loop-block-preserved c = storing_on _ c.loop-block.invariant c.loop-block-test.true c.keep_word.ensures
+
+pub shape_of-space : goal.shape_of-space
+shape_of-space c = c.loop-block.invariant.same
+
+pub returns : goal.returns
+returns c = storing_end c.loop-block.invariant c.loop-block-test.false

@@ -1,0 +1,72 @@
+-- `notes::name_types` meets its contract. The loop's invariant: the variables below k that are bound on the path and mentioned are named. In the
+-- answers a is the arguments, n that a note can be made, l the loop, t that k is below the depth, e the node's tree, w how an arm went. Assumes nothing.
+use mathlib.Core.Logic.{⊎_elim}
+use mathlib.Core.Path.{sym, ◌∙◌}
+use Prim.Native.Nat.{◌-◌}
+use native.Mathlib.Omega.{arith}
+use Rattle.script.specs.Code.Forms.{tree_in}
+use Rattle.workspace.specs.Notes.Making.{upto_start, upto_on, upto_named, upto_more, upto_full, upto_end}
+use Rattle.workspace.specs.Places.{base_at}
+use Rattle.notes.proofs.name_types.Goals as goal
+
+pub bounds-space-1241 : goal.bounds-space-1241
+bounds-space-1241 c = omega (arith, c.requires.nameable.lent)
+
+pub loop-k-init : goal.loop-k-init
+loop-k-init c = let a = c.args in upto_start (tree_in a.table.now a.a) a.depth a.at a.space.now
+
+pub overflow_cast-k : goal.overflow_cast-k
+overflow_cast-k c = omega (arith, c.loop-k.invariant.bounded, c.slice_known-2-1.given base_at, c.requires.nameable.small)
+
+pub shape_of-space-then-count-eq-NAMES : goal.shape_of-space-then-count-eq-NAMES
+shape_of-space-then-count-eq-NAMES c = c.loop-k.invariant.naming.same
+
+pub returns-then-count-eq-NAMES : goal.returns-then-count-eq-NAMES
+returns-then-count-eq-NAMES c =
+    let a = c.args in
+    let l = c.loop-k in
+    upto_full (tree_in a.table.now a.a) a.depth a.at a.space.now l.k l.count l.space l.invariant
+    c.loop-k-test.true (sym c.mentions.ensures ∙ c.if-mentions.true) c.if-count-eq-NAMES.true
+
+pub name_type-requires : goal.name_type-requires
+name_type-requires c =
+    let a = c.args in
+    let n = c.requires.nameable in
+    let l = c.loop-k in
+    let t = c.loop-k-test.true in
+    let e = tree_in a.table.now a.a in
+    upto_named e a.depth a.at a.space.now n l.k l.count l.space l.invariant t
+    (omega (arith, l.invariant.naming.few, c.if-count-eq-NAMES.false))
+
+pub overflow_add-count : goal.overflow_add-count
+overflow_add-count c = omega (arith, c.loop-k.invariant.naming.few)
+
+pub overflow_add-k : goal.overflow_add-k
+overflow_add-k c = omega (arith, c.loop-k-test.true, c.requires.nameable.small)
+
+pub loop-k-smaller : goal.loop-k-smaller
+loop-k-smaller c = omega (arith, c.loop-k-test.true)
+
+pub loop-k-preserved : goal.loop-k-preserved
+loop-k-preserved c =
+    let a = c.args in
+    let n = c.requires.nameable in
+    let l = c.loop-k in
+    let t = c.loop-k-test.true in
+    let e = tree_in a.table.now a.a in
+    ⊎_elim
+    (λ w.
+    upto_more e a.depth a.at a.space.now n l.k l.count l.space l.invariant t (omega (arith, l.invariant.naming.few, w.1.left))
+    (sym c.mentions.ensures ∙ w.0.taken) (w.6 ∙ w.3.ensures) w.7)
+    (λ w.
+    upto_on e a.depth a.at a.space.now n l.k l.count l.space l.invariant t (sym c.mentions.ensures ∙ w.0.left) w.1 w.2)
+    c.if-mentions.branch
+
+pub shape_of-space : goal.shape_of-space
+shape_of-space c = c.loop-k.invariant.naming.same
+
+pub returns : goal.returns
+returns c =
+    let a = c.args in
+    let l = c.loop-k in
+    upto_end (tree_in a.table.now a.a) a.depth a.at a.space.now l.k l.count l.space l.invariant c.loop-k-test.false
