@@ -1,6 +1,5 @@
 -- `notes::agrees` meets its contract. The loop's invariant: the first i variables have the types that are named. In the answers a is the
 -- arguments, l the loop, b that the variable read is one of the environment. Assumes nothing.
-use Prim.Native.Nat.{◌-◌}
 use native.Mathlib.Omega.{arith}
 use Rattle.workspace.specs.Notes.Recalling.{agreeing_start, agreeing_wrong, agreeing_on, agreeing_end}
 use Rattle.notes.proofs.agrees.Goals as goal

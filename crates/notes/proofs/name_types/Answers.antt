@@ -8,6 +8,7 @@ use Rattle.script.specs.Code.Forms.{tree_in}
 use Rattle.workspace.specs.Notes.Making.{upto_start, upto_on, upto_named, upto_more, upto_full, upto_end}
 use Rattle.workspace.specs.Places.{base_at}
 use Rattle.notes.proofs.name_types.Goals as goal
+use Rattle.notes.proofs.name_types.Goals.{then-mentions+else-count-eq-NAMES, else-mentions}
 
 pub bounds-space-1241 : goal.bounds-space-1241
 bounds-space-1241 c = omega (arith, c.requires.nameable.lent)
@@ -54,13 +55,13 @@ loop-k-preserved c =
     let l = c.loop-k in
     let t = c.loop-k-test.true in
     let e = tree_in a.table.now a.a in
-    ⊎_elim
-    (λ w.
-    upto_more e a.depth a.at a.space.now n l.k l.count l.space l.invariant t (omega (arith, l.invariant.naming.few, w.1.left))
-    (sym c.mentions.ensures ∙ w.0.taken) (w.6 ∙ w.3.ensures) w.7)
-    (λ w.
-    upto_on e a.depth a.at a.space.now n l.k l.count l.space l.invariant t (sym c.mentions.ensures ∙ w.0.left) w.1 w.2)
-    c.if-mentions.branch
+    elim c.if-mentions.branch [
+      then-mentions+else-count-eq-NAMES w ↦
+      upto_more e a.depth a.at a.space.now n l.k l.count l.space l.invariant t (omega (arith, l.invariant.naming.few, w.if-count-eq-NAMES.false))
+      (sym c.mentions.ensures ∙ w.if-mentions.true) (w.space-is ∙ w.name_type.ensures) w.count-is
+    | else-mentions w ↦
+      upto_on e a.depth a.at a.space.now n l.k l.count l.space l.invariant t (sym c.mentions.ensures ∙ w.if-mentions.false) w.space-is w.count-is
+    ]
 
 pub shape_of-space : goal.shape_of-space
 shape_of-space c = c.loop-k.invariant.naming.same

@@ -1,7 +1,6 @@
 -- `notes::recall` meets its contract. The loop's invariant: none of the first i notes is one of node a. In the answers a is
 -- the arguments, l the loop, t that i is below the count of the notes. Assumes nothing.
 use mathlib.Core.Path.{sym, ◌∙◌}
-use Prim.Native.Nat.{◌-◌}
 use native.Mathlib.Omega.{arith}
 use Rattle.workspace.specs.Notes.Recalling.{recalling-start, recalling-found, recalling_on, recalling_end}
 use Rattle.notes.proofs.recall.Goals as goal

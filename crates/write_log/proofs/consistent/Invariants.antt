@@ -1,4 +1,3 @@
-use Prim.Native.Nat.{◌-◌}
 use Rattle.workspace.specs.Log.Loops.{Settling}
 use Rattle.workspace.specs.State.{writes_in, start_in}
 use Rattle.write_log.proofs.consistent.Given as goal

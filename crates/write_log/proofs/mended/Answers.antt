@@ -1,6 +1,5 @@
 -- `log::mended` meets its contract. The loop's invariant: no write passed mends. Assumes nothing.
 use mathlib.Core.Path.{sym, ◌∙◌}
-use Prim.Native.Nat.{◌-◌}
 use Rattle.workspace.specs.Log.Loops.{mending_start, mending_found, mending_on, mending_end}
 use Rattle.write_log.proofs.mended.Goals as goal
 

@@ -1,0 +1,33 @@
+-- `writer::put_text` meets its contract: a table that passed its tests lends what its lines need. Assumes nothing.
+use native.Mathlib.Omega.{arith}
+use Rattle.script.specs.Flat.{table_in}
+use Rattle.text.specs.Code.Output.Laws.{put_length}
+use Rattle.text.specs.Code.Output.Passed.{entries-lent, nodes-lent, kinds_known, parts-most, put_parts}
+use Rattle.writer.proofs.put_text.Goals as goal
+
+pub put_entries-after_entries-requires : goal.put_entries-after_entries-requires
+put_entries-after_entries-requires c =
+    let a = c.args in
+    let m = parts-most a.table.now a.nodes a.entries.now a.entry_count c.requires in
+    record {
+      count_in_bounds = entries-lent a.table.now a.nodes a.entries.now a.entry_count c.requires;
+      entries_len_bound = omega arith;
+    }
+
+pub put_nodes-requires : goal.put_nodes-requires
+put_nodes-requires c =
+    let a = c.args in
+    let m = parts-most a.table.now a.nodes a.entries.now a.entry_count c.requires in
+    record {
+      count_in_bounds = nodes-lent a.table.now a.nodes a.entries.now a.entry_count c.requires;
+      by_index = kinds_known a.table.now a.nodes a.entries.now a.entry_count c.requires;
+      table_bound = omega arith;
+    }
+
+pub shape_of-out : goal.shape_of-out
+shape_of-out c = put_length ((let a = c.args in put_parts (table_in a.table.now a.nodes a.entries.now a.entry_count) c.put_entries-after_entries.ensures c.put_nodes.ensures))
+
+pub returns : goal.returns
+returns c =
+    let a = c.args in
+    put_parts (table_in a.table.now a.nodes a.entries.now a.entry_count) c.put_entries-after_entries.ensures c.put_nodes.ensures

@@ -1,0 +1,18 @@
+-- `writer::write_passed` meets its contract: the text where it fits, else the bytes as they were. Assumes nothing.
+use mathlib.Core.Path.{sym, ◌∙◌}
+use Rattle.script.specs.Flat.{table_in}
+use Rattle.text.specs.Code.Output.Passed.{wrote, short}
+use Rattle.writer.proofs.write_passed.Goals as goal
+
+pub returns-then-fits : goal.returns-then-fits
+returns-then-fits c =
+    let a = c.args in
+    let f = c.??fits2.ensures in
+    wrote (table_in a.table.now a.nodes a.entries.now a.entry_count) c.requires (sym f.0 ∙ c.if-fits.true)
+    (rw f.1 at c.put_text-length.ensures)
+
+pub returns : goal.returns
+returns c =
+    let a = c.args in
+    let f = c.??fits2.ensures in
+    rw f.1 (short (table_in a.table.now a.nodes a.entries.now a.entry_count) c.requires (sym f.0 ∙ c.if-fits.false))
