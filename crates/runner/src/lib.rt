@@ -39,7 +39,7 @@ fn run_tested(
     ensures { Does (eval (root (take nodes (nodes_in table.now))) (values_of entries values.now) (values_of used cells.old)) result cells.old cells.new }
 {
     let mut environment = [0u8; ENVIRONMENT];
-    bytes::copy(values, &mut environment);
+    environment[..values.len()].copy_from_slice(values);
     whole(run_node(
         table,
         &mut environment,

@@ -9,7 +9,12 @@ use Rattle.rows.specs.Known.{blocks_most}
 use Rattle.known.proofs.compare.Goals as goal
 
 pub begin-more-requires : goal.begin-more-requires
-begin-more-requires c = let p = c.requires in (compare_rows c.requires, ((p.numbers, omega arith), (omega (arith, p.high), omega (arith, p.high))))
+begin-more-requires c =
+    let p = c.requires in record {
+      rows = compare_rows c.requires;
+      row_limit_in_bounds = (p.numbers, omega arith);
+      n_le_row_limit = (omega (arith, p.high), omega (arith, p.high));
+    }
 
 pub bounds-space-at : goal.bounds-space-at
 bounds-space-at c = omega (arith, c.requires.lent)
@@ -36,16 +41,16 @@ guarded_word-g-requires c =
     let p = c.requires in
     let l = c.begin-more.ensures.lists in
     let s = changes_of a.space.now a.order.now a.numbers.now a.count in
-    let f = order_long s 1 (a.guard + 1) c.begin-more.result c.begin-more.new.order.1.1.1.1.1.0 (omega (arith, p.high)) l.many
-    l.same in (
-      rows-listed a.space.now s 1 (a.guard + 1) c.begin-more.new.order.1.1.1.1.1.0 c.begin-more.result
-          (omega (arith, p.behind, p.lent)) (omega (arith, p.high)) f l.many l.rows,
-      ((p.numbers, omega (arith, c.loop-block.invariant.whole)), p.high),
-    )
+    let f = order_long s 1 (a.guard + 1) c.begin-more.result c.begin-more.new.later (omega (arith, p.high)) l.many
+    l.same in record {
+      rows = rows-listed a.space.now s 1 (a.guard + 1) c.begin-more.new.later c.begin-more.result (omega (arith, p.behind, p.lent)) (omega (arith, p.high)) f l.many l.rows;
+      row_limit_in_bounds = (p.numbers, omega (arith, c.loop-block.invariant.whole));
+      guard_lt_row_limit = p.high;
+    }
 
 pub returns-then-both_found : goal.returns-then-both_found
 returns-then-both_found c =
-    let k = comparing_on c.requires c.blocks_of-blocks.result c.loop-block.invariant c.begin-more.new.order.1.1.1.1.1.0
+    let k = comparing_on c.requires c.blocks_of-blocks.result c.loop-block.invariant c.begin-more.new.later
     c.begin-more.result c.begin-more.ensures.lists.many c.begin-more.ensures.lists.rows c.known_word-c.result
     c.guarded_word-g.result _ c.loop-block-test.true c.known_word-c.ensures
     c.guarded_word-g.ensures.words_after c.guarded_word-g.ensures.value in
@@ -54,7 +59,7 @@ returns-then-both_found c =
 
 pub loop-block-preserved : goal.loop-block-preserved
 loop-block-preserved c =
-    comparing_on c.requires c.blocks_of-blocks.result c.loop-block.invariant c.begin-more.new.order.1.1.1.1.1.0
+    comparing_on c.requires c.blocks_of-blocks.result c.loop-block.invariant c.begin-more.new.later
     c.begin-more.result c.begin-more.ensures.lists.many c.begin-more.ensures.lists.rows c.known_word-c.result
     c.guarded_word-g.result _ c.loop-block-test.true c.known_word-c.ensures
     c.guarded_word-g.ensures.words_after c.guarded_word-g.ensures.value

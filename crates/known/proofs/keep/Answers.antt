@@ -1,17 +1,12 @@
 -- `known::keep` meets its contract: the parts, one after the other. Assumes nothing.
 use native.Mathlib.Omega.{arith}
-use Rattle.rows.specs.Code.Leaves.{kept-room, kept_same, kept-made}
+use Rattle.rows.specs.Code.Leaves.{kept-room, kept-made}
 use Rattle.known.proofs.keep.Goals as goal
 
 pub bounds-space-at-2 : goal.bounds-space-at-2
 bounds-space-at-2 c =
     let a = c.args in
     kept-room a.space.now a.at a.marks.now a.n a.blocks a.truths.now c.keep_rows-count.ensures.space_after c.keep_words.ensures _ (omega arith)
-
-pub shape_of-space : goal.shape_of-space
-shape_of-space c =
-    let a = c.args in
-    kept_same a.space.now a.at a.marks.now a.n a.blocks a.truths.now c.keep_rows-count.ensures.space_after c.keep_words.ensures _
 
 pub returns : goal.returns
 returns c =

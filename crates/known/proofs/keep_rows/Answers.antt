@@ -8,9 +8,6 @@ loop-i-init c = let a = c.args in keeping a.space.now a.at a.marks.now a.n
 pub loop-i-preserved : goal.loop-i-preserved
 loop-i-preserved c = keeping_on _ _ c.requires c.loop-i.invariant c.loop-i-test.true c.keep_row-count.ensures.value c.keep_row-count.ensures.space_after
 
-pub shape_of-space : goal.shape_of-space
-shape_of-space c = c.loop-i.invariant.same
-
 pub returns : goal.returns
 returns c =
     let it = keeping_end c.loop-i.invariant c.loop-i-test.false in

@@ -8,8 +8,5 @@ loop-block-init c = let a = c.args in storing a.space.now a.at a.truths.now a.bl
 pub loop-block-preserved : goal.loop-block-preserved
 loop-block-preserved c = storing_on _ c.loop-block.invariant c.loop-block-test.true c.keep_word.ensures
 
-pub shape_of-space : goal.shape_of-space
-shape_of-space c = c.loop-block.invariant.same
-
 pub returns : goal.returns
 returns c = storing_end c.loop-block.invariant c.loop-block-test.false

@@ -3,12 +3,6 @@ use Prim.Native.Nat.{◌+◌, ◌*◌}
 use native.Mathlib.Omega.{arith}
 use Rattle.known.proofs.known_word.Goals as goal
 
-pub overflow_cast-result : goal.overflow_cast-result
-overflow_cast-result c = let a = c.args in omega (arith, c.shared_slice_known-1.given (a.at + 12 + 2 * a.block))
-
-pub overflow_cast-result-2 : goal.overflow_cast-result-2
-overflow_cast-result-2 c = let a = c.args in omega (arith, c.shared_slice_known-2-1.given (a.at + 12 + 2 * a.block + 1))
-
 pub overflow_mul-result : goal.overflow_mul-result
 overflow_mul-result c = let a = c.args in omega (arith, c.shared_slice_known-2-1.given (a.at + 12 + 2 * a.block + 1))
 
