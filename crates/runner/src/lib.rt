@@ -3,7 +3,7 @@
 #![tactic(auto)]
 
 ghost use Rattle.std.proofs.Math.Option.{none};
-ghost use Rattle.std.specs.Prelude.{◌≡◌, take};
+ghost use Rattle.std.specs.Prelude.{◌≡◌, ◌≤◌, ◌++◌, length, take, drop};
 ghost use Rattle.script.specs.Flat.{nodes_in, table_in};
 ghost use Rattle.script.specs.Table.{table_test};
 ghost use Rattle.script.specs.Tree.{root};
@@ -26,6 +26,14 @@ use tests::test_table;
 // Bytes of the environment: a script has at most as many variables as entries and nodes together.
 const ENVIRONMENT: usize = 5 * (Script::ENTRIES + Script::NODES);
 
+// Puts bytes at the front of lent ones.
+fn put_front(bytes: &[u8], out: &mut [u8])
+    requires { length bytes.now ≤ length out.old }
+    ensures { out.new ≡ take (length bytes.now) bytes.now ++ drop (length bytes.now) out.old }
+{
+    out[..bytes.len()].copy_from_slice(bytes);
+}
+
 // Runs a table that passes its tests on values and cells that do.
 fn run_tested(
     table: &[u32],
@@ -39,7 +47,7 @@ fn run_tested(
     ensures { Does (eval (root (take nodes (nodes_in table.now))) (values_of entries values.now) (values_of used cells.old)) result cells.old cells.new }
 {
     let mut environment = [0u8; ENVIRONMENT];
-    environment[..values.len()].copy_from_slice(values);
+    put_front(values, &mut environment);
     whole(run_node(
         table,
         &mut environment,

@@ -1,5 +1,5 @@
 -- `runner::run_tested` meets its contract: the last node is run, with the entry values as its variables. Assumes nothing.
-use native.Mathlib.Omega.{arith}
+use Rattle.std.proofs.Common.{arith}
 use Rattle.rules.specs.Running.Laws.{Bytes}
 use Rattle.runner.specs.Code.Whole.{last_ready, last-does}
 use Rattle.runner.proofs.run_tested.Goals as goal
@@ -8,9 +8,11 @@ pub run_node-requires : goal.run_node-requires
 run_node-requires c =
     let values : Bytes c.args.values.now = record { byte = λ i. omega (arith, c.shared_slice_known-2-1.given i) } in
     let cells : Bytes c.args.cells.now = record { byte = λ i. omega (arith, c.slice_known-1.given i) } in
-    last_ready c.requires _ (omega (arith, c.requires.nodes_rooted.least)) values _ _ c.copy_from_slice.ensures.after cells (omega (arith, c.environment-2-1.given))
+    last_ready c.requires _ (omega (arith, c.requires.nodes_rooted.least)) values _ _ c.put_front.ensures cells
+    (omega (arith, c.environment-2-1.given))
 
 pub returns : goal.returns
 returns c =
     let values : Bytes c.args.values.now = record { byte = λ i. omega (arith, c.shared_slice_known-2-1.given i) } in
-    rw c.whole.ensures (last-does c.requires _ (omega (arith, c.requires.nodes_rooted.least)) values _ _ c.copy_from_slice.ensures.after c.run_node.ensures)
+    rw c.whole.ensures
+    (last-does c.requires _ (omega (arith, c.requires.nodes_rooted.least)) values _ _ c.put_front.ensures c.run_node.ensures)

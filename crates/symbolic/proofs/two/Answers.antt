@@ -1,0 +1,39 @@
+-- `symbolic::two` meets its contract: the rule of each kind. Assumes nothing.
+use Rattle.script.specs.Code.Forms.{form_of}
+use Rattle.script.specs.Rows.{rows, row_of}
+use Rattle.script.specs.Rows.Laws.{none_left, but}
+use Rattle.workspace.specs.Rules.Operators.{two-other}
+use Rattle.symbolic.proofs.two.Goals as goal
+
+pub sum-requires : goal.sum-requires
+sum-requires c = c.requires.room
+
+pub equality-requires : goal.equality-requires
+equality-requires c = c.requires
+
+pub conjunction-requires : goal.conjunction-requires
+conjunction-requires c = c.requires.room
+
+pub write_cell-requires : goal.write_cell-requires
+write_cell-requires c = c.requires.room
+
+pub returns-in-4 : goal.returns-in-4
+unfolding form_of row_of rows
+returns-in-4 c = rw c.in-4.is c.sum.ensures
+
+pub returns-in-5 : goal.returns-in-5
+unfolding form_of row_of rows
+returns-in-5 c = rw c.in-5.is c.equality.ensures
+
+pub returns-in-7 : goal.returns-in-7
+unfolding form_of row_of rows
+returns-in-7 c = rw c.in-7.is c.conjunction.ensures
+
+pub returns-in-12 : goal.returns-in-12
+unfolding form_of row_of rows
+returns-in-12 c = rw c.in-12.is c.write_cell.ensures
+
+pub returns-in_default : goal.returns-in_default
+returns-in_default c =
+    let d = c.in_default.in_default-own.rest in
+    two-other c.args.n c.args.t c.args.q c.args.u c.args.s c.args.kind (but d.0.0.0.1 (but d.0.0.1 (but d.0.1 (but d.1 none_left))))
