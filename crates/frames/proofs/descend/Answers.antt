@@ -16,31 +16,30 @@ loop-node-init c = (c.node_at-node.ensures, c.requires, refl, λ r left d. d)
 pub wait-requires : goal.wait-requires
 wait-requires c =
     record {
-      waitable = down_waitable c.loop-node.invariant.1 ((rw (sym c.loop-node.invariant.0) (sym c.waits.ensures ∙ c.loop-node-test.true)));
+      waitable = down_waitable c.loop-node.invariant.1 (rw (sym c.loop-node.invariant.0) (sym c.waits.ensures ∙ c.loop-node-test.true));
       awaits_lt_await_limit = omega arith;
     }
 
 pub overflow_cast-n-in-loop-node : goal.overflow_cast-n-in-loop-node
 overflow_cast-n-in-loop-node c =
-    let e = down_earlier c.loop-node.invariant.1 ((rw (sym c.loop-node.invariant.0) (sym c.waits.ensures ∙ c.loop-node-test.true))) in
+    let e = down_earlier c.loop-node.invariant.1 (rw (sym c.loop-node.invariant.0) (sym c.waits.ensures ∙ c.loop-node-test.true)) in
     record { fits = rw c.loop-node.invariant.0 (omega arith) }
 
 pub node_at-node-requires-in-loop-node : goal.node_at-node-requires-in-loop-node
 node_at-node-requires-in-loop-node c =
-    let e = down_earlier c.loop-node.invariant.1 ((rw (sym c.loop-node.invariant.0) (sym c.waits.ensures ∙ c.loop-node-test.true))) in
+    let e = down_earlier c.loop-node.invariant.1 (rw (sym c.loop-node.invariant.0) (sym c.waits.ensures ∙ c.loop-node-test.true)) in
     rw c.loop-node.invariant.0 (omega arith)
 
 pub loop-node-smaller : goal.loop-node-smaller
-loop-node-smaller c = rw c.loop-node.invariant.0 (down_earlier c.loop-node.invariant.1 ((rw (sym c.loop-node.invariant.0) (sym c.waits.ensures ∙ c.loop-node-test.true))))
+loop-node-smaller c = rw c.loop-node.invariant.0 (down_earlier c.loop-node.invariant.1 (rw (sym c.loop-node.invariant.0) (sym c.waits.ensures ∙ c.loop-node-test.true)))
 
 pub loop-node-preserved : goal.loop-node-preserved
 loop-node-preserved c =
-    let w = (rw (sym c.loop-node.invariant.0) (sym c.waits.ensures ∙ c.loop-node-test.true)) in
     let s = c.wait.ensures in (
       c.node_at-node-in-loop-node.ensures,
-      rw c.loop-node.invariant.0 (down_next c.loop-node.invariant.1 w s),
+      rw c.loop-node.invariant.0 (down_next c.loop-node.invariant.1 (rw (sym c.loop-node.invariant.0) (sym c.waits.ensures ∙ c.loop-node-test.true)) s),
       s.same ∙ c.loop-node.invariant.2,
-      λ r left d. c.loop-node.invariant.3 r left (down_from w s (rw c.loop-node.invariant.0 at d)),
+      λ r left d. c.loop-node.invariant.3 r left (down_from (rw (sym c.loop-node.invariant.0) (sym c.waits.ensures ∙ c.loop-node-test.true)) s (rw c.loop-node.invariant.0 at d)),
     )
 
 pub shape_of-frames : goal.shape_of-frames

@@ -24,4 +24,7 @@ pub returns : goal.returns
 unfolding long_enough
 returns c =
     let p = c.put_text-length.ensures in
-    rw (put_empty p, p.next-is, zero-add) (refl, refl)
+    rw (put_empty p, p.next-is, zero-add) record {
+      value = refl;
+      out_unchanged = refl;
+    }

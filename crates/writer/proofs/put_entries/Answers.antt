@@ -2,7 +2,7 @@
 use mathlib.Core.Path.{◌≡◌}
 use native.Mathlib.Omega.{arith}
 use lib.ListN.{get_or}
-use Rattle.text.specs.Code.Output.Laws.{remains_all, remains_less, remains_room, remains_none, put_length}
+use Rattle.text.specs.Code.Output.Laws.{remains_all, remains_less, remains_room, remains_none}
 use Rattle.text.specs.Code.Output.Lines.{entries_next, entries_end}
 use Rattle.text.specs.Writing.{entry_text}
 use Rattle.writer.proofs.put_entries.Goals as goal
@@ -30,9 +30,6 @@ loop-i-preserved c =
     let l = c.loop-i in
     let r = rw (entries_next es c.args.count l.i (omega arith) c.requires.count_in_bounds) at l.invariant.1 in
     (omega arith, remains_less {xs = entry_text (get_or es l.i 0)} r c.put_entry-at.ensures)
-
-pub shape_of-out : goal.shape_of-out
-shape_of-out c = put_length ((let l = c.loop-i in let e : l.i ≡ c.args.count = omega arith in remains_none (rw (e, entries_end c.args.entries.now c.args.count c.requires.count_in_bounds) at l.invariant.1)))
 
 pub returns : goal.returns
 returns c =

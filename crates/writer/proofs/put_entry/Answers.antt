@@ -1,7 +1,7 @@
 -- `writer::put_entry` meets its contract: the word with its tab, the type and the line's end in a row. Assumes nothing.
 use native.Mathlib.Omega.{arith}
 use lib.ListN.{length-append}
-use Rattle.text.specs.Code.Output.Laws.{put_one, put_then, put_length}
+use Rattle.text.specs.Code.Output.Laws.{put_one, put_then}
 use Rattle.writer.proofs.put_entry.Goals as goal
 
 pub put_bytes-after_word-requires : goal.put_bytes-after_word-requires
@@ -14,9 +14,6 @@ put_type-after_type-requires c =
 
 pub overflow_add-result : goal.overflow_add-result
 overflow_add-result c = let r = ((put_then (put_then c.put_bytes-after_word.ensures c.put_type-after_type.ensures) (put_one c.put.ensures))).next-is in omega (arith, c.requires)
-
-pub shape_of-out : goal.shape_of-out
-shape_of-out c = put_length ((put_then (put_then c.put_bytes-after_word.ensures c.put_type-after_type.ensures) (put_one c.put.ensures)))
 
 pub returns : goal.returns
 returns c =

@@ -5,7 +5,7 @@ use native.Mathlib.Omega.{arith}
 use Rattle.script.specs.Flat.{nodes_in}
 use Rattle.script.specs.Flat.Laws.{nodes_in-holds}
 use Rattle.script.specs.Table.{node_at}
-use Rattle.text.specs.Code.Output.Laws.{remains_all, remains_less, remains_room, remains_none, put_length}
+use Rattle.text.specs.Code.Output.Laws.{remains_all, remains_less, remains_room, remains_none}
 use Rattle.text.specs.Code.Output.Lines.{nodes-next, nodes_end}
 use Rattle.text.specs.Writing.{node_text}
 use Rattle.writer.proofs.put_nodes.Goals as goal
@@ -22,7 +22,10 @@ put_node_line-at-requires c =
     let l = c.loop-i in
     let r = rw (nodes-next ns c.args.count l.i (omega arith) (nodes_in-holds _ _ c.requires.count_in_bounds)) at l.invariant.1 in
     let m = remains_room (node_text (node_at ns l.i)) _ r in
-    rw c.node_at-n.ensures (c.requires.by_index l.i (omega arith), omega (arith, c.requires.table_bound))
+    rw c.node_at-n.ensures record {
+      kind_lt_kind_count = c.requires.by_index l.i (omega arith);
+      n_bound = omega (arith, c.requires.table_bound);
+    }
 
 pub overflow_add-i : goal.overflow_add-i
 overflow_add-i c = omega arith
@@ -36,9 +39,6 @@ loop-i-preserved c =
     let l = c.loop-i in
     let r = rw (nodes-next ns c.args.count l.i (omega arith) (nodes_in-holds _ _ c.requires.count_in_bounds)) at l.invariant.1 in
     (omega arith, remains_less r (rw c.node_at-n.ensures at c.put_node_line-at.ensures))
-
-pub shape_of-out : goal.shape_of-out
-shape_of-out c = put_length ((let l = c.loop-i in let e : l.i ≡ c.args.count = omega arith in remains_none (rw (e, nodes_end (nodes_in c.args.table.now) c.args.count (nodes_in-holds _ _ c.requires.count_in_bounds)) at l.invariant.1)))
 
 pub returns : goal.returns
 returns c =

@@ -1,7 +1,6 @@
 -- `writer::put_text` meets its contract: a table that passed its tests lends what its lines need. Assumes nothing.
 use native.Mathlib.Omega.{arith}
 use Rattle.script.specs.Flat.{table_in}
-use Rattle.text.specs.Code.Output.Laws.{put_length}
 use Rattle.text.specs.Code.Output.Passed.{entries-lent, nodes-lent, kinds_known, parts-most, put_parts}
 use Rattle.writer.proofs.put_text.Goals as goal
 
@@ -23,9 +22,6 @@ put_nodes-requires c =
       by_index = kinds_known a.table.now a.nodes a.entries.now a.entry_count c.requires;
       table_bound = omega arith;
     }
-
-pub shape_of-out : goal.shape_of-out
-shape_of-out c = put_length ((let a = c.args in put_parts (table_in a.table.now a.nodes a.entries.now a.entry_count) c.put_entries-after_entries.ensures c.put_nodes.ensures))
 
 pub returns : goal.returns
 returns c =

@@ -7,12 +7,12 @@ use Rattle.writer.proofs.write_passed.Goals as goal
 pub returns-then-fits : goal.returns-then-fits
 returns-then-fits c =
     let a = c.args in
-    let f = c.??fits2.ensures in
-    wrote (table_in a.table.now a.nodes a.entries.now a.entry_count) c.requires (sym f.0 ∙ c.if-fits.true)
-    (rw f.1 at c.put_text-length.ensures)
+    let f = c.fits.ensures in
+    wrote (table_in a.table.now a.nodes a.entries.now a.entry_count) c.requires (sym f.value ∙ c.if-fits.true)
+    (rw f.out_unchanged at c.put_text-length.ensures)
 
 pub returns : goal.returns
 returns c =
     let a = c.args in
-    let f = c.??fits2.ensures in
-    rw f.1 (short (table_in a.table.now a.nodes a.entries.now a.entry_count) c.requires (sym f.0 ∙ c.if-fits.false))
+    let f = c.fits.ensures in
+    rw f.out_unchanged (short (table_in a.table.now a.nodes a.entries.now a.entry_count) c.requires (sym f.value ∙ c.if-fits.false))
