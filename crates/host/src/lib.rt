@@ -1,5 +1,5 @@
-// The library for a host in C: checking and running of script text, each answered by one number. `teqharis_check` and `teqharis_run` are what C calls;
-// `check_text` and `run_text` are the same calls with answers as enums, for Rattle.
+// Checking and running of script text: `check_text` and `run_text` with answers as enums, for Rattle; `teqharis_check` and `teqharis_run` with each answer as
+// one number, which `host_c` exports to C.
 #![tactic(auto)]
 
 ghost use Rattle.std.specs.Prelude.{◌≡◌};
@@ -43,16 +43,14 @@ pub fn run_text(text: &[u8], values: &[u8], cells: &mut [u8], used: u32) -> Ran
 }
 
 // Checks a script text. The answer is a number that include/teqharis.h takes apart.
-#[unsafe(no_mangle)]
-pub extern "C" fn teqharis_check(text: &[u8]) -> u64
+pub fn teqharis_check(text: &[u8]) -> u64
     ensures { result ≡ answer_of_check (check_text text.now) }
 {
     check_answer(check_text(text))
 }
 
 // Runs a script text on entry values and cells. The answer is a number that include/teqharis.h takes apart.
-#[unsafe(no_mangle)]
-pub extern "C" fn teqharis_run(text: &[u8], values: &[u8], cells: &mut [u8], used: u32) -> u64
+pub fn teqharis_run(text: &[u8], values: &[u8], cells: &mut [u8], used: u32) -> u64
     ensures { AnswersRun (run_text text.now values.now cells.old used) result cells.new }
 {
     run_answer(run_text(text, values, cells, used))

@@ -35,6 +35,7 @@ then_on (forks t u) f k g h = rw (then_on t f k g h, then_on u f k g h)
 
 one_less : (k : ℕ) → 1 ≤ k → (r : ℕ) × (k ≡ suc r)
 one_less (suc r) h = (r, refl)
+one_less Prim.Native.Nat.zero h = elim h [ ]
 
 module _ {limit : ℕ} {table : List ℕ} {bound base : ℕ} {ground : List Symbolic} {ws fs : List ℕ} {m : ℕ} {ls : List Leaf}
     (q : Entering limit table bound base ground ws fs m ls) where

@@ -1,0 +1,422 @@
+-- The checker meets its contracts: `check_node`, `check_several`, `operand_type`, `paths`, `walk`, `arrive`, `block_up` and `block_type` of `checker::nodes`, which call each
+-- other; a node's number falls on the way round. In the answers s is the start's measure and `requires`, q the `requires`, node what was read, h that it has an operand,
+-- d what that one came to, or the way down to the inner node, w what holds at a turn of the loop, b what was bound, or what a block came to. Assumes nothing.
+use mathlib.Core.Path.{refl, sym, ◌∙◌}
+use Prim.Native.Nat.{◌-◌}
+use native.Mathlib.Omega.{arith}
+use Rattle.script.specs.Code.Forms.{has_one, has_more, some-operand}
+use Rattle.workspace.specs.Frames.Laws.{waits_none}
+use Rattle.workspace.specs.Paths.Empty.{blank}
+use Rattle.workspace.specs.Rules.Blocks.{block_small, block_recallables, block_recalled, judged_lent, block_judged, block_noted}
+use Rattle.workspace.specs.Rules.Typed.{some_of, several_no_sym, leaf_judged, first-earlier, first_checkable, sym_judged, one_judged, rest_checkable, rest_judged, first-refused, bind-room, second-earlier, second_checkable, third_earlier, third_checkable, if_judged, third_refused, two_judged, second-refused}
+use Rattle.checker.specs.Code.Going.Arriving.{up-node, up-space, up-earlier, up_checkable, up_noting, up-refused, up_room, up-returnable, up_climbing, up-stopping}
+use Rattle.checker.specs.Code.Going.Steps.{enters_formed, descends_other}
+use Rattle.checker.specs.Code.Going.Walking.{walking_start, walking_descendable, walking-enterable, walking-earlier, walking_less, walking_on, walking-stopped, walking_end, walking-ended, turn-start, turn_walkable, turn-none, turn-wrong, turn_last, turn_more, no_frames}
+use Rattle.checker.proofs.nodes.+arrive_block_type_block_up_check_node_check_several_operand_type_paths_walk.Goals as goal
+
+pub arrive-node_at-requires : goal.arrive-node_at-requires
+arrive-node_at-requires t c = omega (arith, (enters_formed c.requires.enterable.entering).room)
+
+pub arrive-block_up-requires : goal.arrive-block_up-requires
+arrive-block_up-requires t c =
+    let s = c.requires in
+    let k = rw c.node_at.ensures at c.if-node_at-eq-TYPED.true in
+    (
+      omega (arith, c.decreases),
+      (s.enterable, k),
+    )
+
+pub arrive-returns-then-node_at-eq-TYPED : goal.arrive-returns-then-node_at-eq-TYPED
+arrive-returns-then-node_at-eq-TYPED t c = c.block_up.ensures
+
+pub arrive-leaf_up-requires : goal.arrive-leaf_up-requires
+arrive-leaf_up-requires t c =
+    let s = c.requires in
+    let l = waits_none _ s.n_value (rw c.node_at.ensures at c.if-node_at-eq-TYPED.false) in
+    record { leaf = l; limit = _; enterable = s.enterable }
+
+pub arrive-returns : goal.arrive-returns
+arrive-returns t c = c.leaf_up.ensures.each _
+
+pub block_type-recall-requires : goal.block_type-recall-requires
+block_type-recall-requires t c = let s = c.requires in block_recallables s.checkable s.noting
+
+pub block_type-check_node-requires : goal.block_type-check_node-requires
+block_type-check_node-requires t c = let s = c.requires in (omega (arith, c.decreases), s.checkable)
+
+pub block_type-note-requires : goal.block_type-note-requires
+block_type-note-requires t c =
+    let s = c.requires in
+    let j = c.check_node.ensures in
+    record {
+      formed_nodes = s.checkable.formed;
+      depth_le_symbol_limit = block_small s.checkable s.noting;
+      space_size_in_bounds = judged_lent s.checkable s.noting j;
+    }
+
+pub block_type-returns-in-Typed : goal.block_type-returns-in-Typed
+block_type-returns-in-Typed t c =
+    let s = c.requires in
+    block_recalled s.checkable s.noting c.recall.ensures c.in-Typed.is
+
+pub block_type-returns-in-Refused : goal.block_type-returns-in-Refused
+block_type-returns-in-Refused t c =
+    let s = c.requires in
+    block_judged s.checkable s.noting c.check_node.ensures c.in-Refused.is
+
+pub block_type-returns-in-Accepted : goal.block_type-returns-in-Accepted
+block_type-returns-in-Accepted t c =
+    let s = c.requires in
+    block_noted s.checkable s.noting c.check_node.ensures c.in-Accepted.is c.note.ensures
+
+pub block_up-node_at-a-requires : goal.block_up-node_at-a-requires
+block_up-node_at-a-requires t c = up-node c.requires.enterable c.requires.n_value
+
+pub block_up-bounds-space-728 : goal.block_up-bounds-space-728
+block_up-bounds-space-728 t c = omega (arith, up-space c.requires.enterable c.requires.n_value)
+
+pub block_up-block_type-requires : goal.block_up-block_type-requires
+block_up-block_type-requires t c =
+    let s = c.requires in
+    let node = c.node_at-a.ensures in
+    rw node (
+      omega (arith, up-earlier s.enterable s.n_value, c.decreases),
+      (up_checkable s.enterable s.n_value, up_noting s.enterable s.n_value),
+    )
+
+pub block_up-typed_result-requires : goal.block_up-typed_result-requires
+block_up-typed_result-requires t c =
+    let s = c.requires in
+    let b = rw c.node_at-a.ensures at c.block_type.ensures in
+    up_room s.enterable s.n_value b
+
+pub block_up-climb-requires : goal.block_up-climb-requires
+block_up-climb-requires t c =
+    let s = c.requires in
+    let b = rw c.node_at-a.ensures at c.block_type.ensures in
+    up-returnable s.enterable s.n_value b c.in-Accepted.is c.typed_result.ensures c.in-Gave.is
+
+pub block_up-returns-in-Refused : goal.block_up-returns-in-Refused
+block_up-returns-in-Refused t c =
+    let s = c.requires in
+    let b = rw c.node_at-a.ensures at c.block_type.ensures in
+    up-refused s.enterable s.n_value b c.in-Refused.is
+
+pub block_up-returns-in-Stopped : goal.block_up-returns-in-Stopped
+block_up-returns-in-Stopped t c =
+    let s = c.requires in
+    let b = rw c.node_at-a.ensures at c.block_type.ensures in
+    up-stopping s.enterable s.n_value b c.in-Accepted.is c.typed_result.ensures c.in-Stopped.is
+
+pub block_up-returns-in-Gave : goal.block_up-returns-in-Gave
+block_up-returns-in-Gave t c =
+    let s = c.requires in
+    let b = rw c.node_at-a.ensures at c.block_type.ensures in
+    up_climbing s.enterable s.n_value b c.in-Accepted.is c.typed_result.ensures c.in-Gave.is c.climb.ensures
+
+pub check_node-node_at-node-requires : goal.check_node-node_at-node-requires
+check_node-node_at-node-requires t c = omega (arith, c.requires.formed.room)
+
+pub check_node-leaf_type-requires : goal.check_node-leaf_type-requires
+check_node-leaf_type-requires t c =
+    let q = c.requires in
+    omega (arith, q.variables, q.lent)
+
+pub check_node-returns-then-node-lt-LEAVES : goal.check_node-returns-then-node-lt-LEAVES
+check_node-returns-then-node-lt-LEAVES t c =
+    let q = c.requires in
+    let node = c.node_at-node.ensures in
+    leaf_judged q _ (rw node at c.if-node-lt-LEAVES.true) (rw node at c.leaf_type.ensures)
+
+pub check_node-paths-requires : goal.check_node-paths-requires
+check_node-paths-requires t c =
+    let q = c.requires in
+    let node = c.node_at-node.ensures in
+    let h = some-operand q.formed (rw node at c.if-node-lt-LEAVES.false) in
+    rw node (
+      omega (arith, c.decreases),
+      (first_checkable q h, first-earlier q h),
+    )
+
+pub check_node-returns-then-node-eq-SYM : goal.check_node-returns-then-node-eq-SYM
+check_node-returns-then-node-eq-SYM t c =
+    let q = c.requires in
+    let node = c.node_at-node.ensures in
+    rw c.copied.ensures (sym_judged q _ (rw node at c.if-node-eq-SYM.true) (rw node at c.paths.ensures))
+
+pub check_node-check_node-requires : goal.check_node-check_node-requires
+check_node-check_node-requires t c =
+    let q = c.requires in
+    let node = c.node_at-node.ensures in
+    let h = some-operand q.formed (rw node at c.if-node-lt-LEAVES.false) in
+    rw node (omega (arith, first-earlier q h, c.decreases), first_checkable q h)
+
+pub check_node-returns-in-Refused : goal.check_node-returns-in-Refused
+check_node-returns-in-Refused t c =
+    let q = c.requires in
+    let node = c.node_at-node.ensures in
+    let h = some-operand q.formed (rw node at c.if-node-lt-LEAVES.false) in
+    let d = rw node at c.check_node.ensures in
+    first-refused q h _ d c.in-Refused.is (rw node at c.if-node-eq-SYM.false)
+
+pub check_node-returns-in-Accepted : goal.check_node-returns-in-Accepted
+check_node-returns-in-Accepted t c =
+    let q = c.requires in
+    let node = c.node_at-node.ensures in
+    let h = some-operand q.formed (rw node at c.if-node-lt-LEAVES.false) in
+    let d = rw node at c.check_node.ensures in
+    let z = has_one _ (rw node at c.has_one.ensures) c.if-has_one.true in
+    one_judged q h _ d c.in-Accepted.is z (rw node at c.if-node-eq-SYM.false) (rw node at c.one_type.ensures)
+
+pub check_node-check_several-requires : goal.check_node-check_several-requires
+check_node-check_several-requires t c =
+    let q = c.requires in
+    let node = c.node_at-node.ensures in
+    let h = some-operand q.formed (rw node at c.if-node-lt-LEAVES.false) in
+    (
+      omega (arith, c.decreases),
+      (q, has_more _ h (rw node at c.has_one.ensures) c.if-has_one.false),
+    )
+
+pub check_node-returns : goal.check_node-returns
+check_node-returns t c = rw c.copied-2.ensures c.check_several.ensures
+
+pub check_several-node_at-node-requires : goal.check_several-node_at-node-requires
+check_several-node_at-node-requires t c = omega (arith, c.requires.checkable.formed.room)
+
+pub check_several-operand_type-requires : goal.check_several-operand_type-requires
+check_several-operand_type-requires t c =
+    let s = c.requires in
+    let q = s.checkable in
+    let h = some_of s.bound in
+    let node = c.node_at-node.ensures in
+    rw node (omega (arith, first-earlier q h, c.decreases), first_checkable q h)
+
+pub check_several-bind_type-inner-requires : goal.check_several-bind_type-inner-requires
+check_several-bind_type-inner-requires t c =
+    let s = c.requires in
+    let q = s.checkable in
+    let h = some_of s.bound in
+    let node = c.node_at-node.ensures in
+    let d = rw node at c.operand_type.ensures in
+    let r = rest_checkable q h _ d c.in-Accepted.is s.bound in
+    record {
+      depth_lt_symbol_limit = bind-room r;
+      variables_end_in_bounds = r.lent;
+    }
+
+pub check_several-operand_type-requires-in-Accepted : goal.check_several-operand_type-requires-in-Accepted
+check_several-operand_type-requires-in-Accepted t c =
+    let s = c.requires in
+    let q = s.checkable in
+    let h = some_of s.bound in
+    let node = c.node_at-node.ensures in
+    let d = rw node at c.operand_type.ensures in
+    let r = rest_checkable q h _ d c.in-Accepted.is s.bound in
+    let b = rw node at c.bind_type-inner.ensures in
+    rw node (omega (arith, second-earlier r, c.decreases), second_checkable r b)
+
+pub check_several-operand_type-requires-then-node-eq-IF : goal.check_several-operand_type-requires-then-node-eq-IF
+check_several-operand_type-requires-then-node-eq-IF t c =
+    let s = c.requires in
+    let q = s.checkable in
+    let h = some_of s.bound in
+    let node = c.node_at-node.ensures in
+    let d = rw node at c.operand_type.ensures in
+    let r = rest_checkable q h _ d c.in-Accepted.is s.bound in
+    let b = rw node at c.bind_type-inner.ensures in
+    let e = rw node at c.operand_type-in-Accepted.ensures in
+    let i = rw node at c.if-node-eq-IF.true in
+    rw node (omega (arith, third_earlier r b _ e i, c.decreases), third_checkable r b _ e i)
+
+pub check_several-returns-in-Refused-operand_type-2 : goal.check_several-returns-in-Refused-operand_type-2
+check_several-returns-in-Refused-operand_type-2 t c =
+    let s = c.requires in
+    let q = s.checkable in
+    let h = some_of s.bound in
+    let node = c.node_at-node.ensures in
+    let d = rw node at c.operand_type.ensures in
+    let r = rest_checkable q h _ d c.in-Accepted.is s.bound in
+    let b = rw node at c.bind_type-inner.ensures in
+    let e = rw node at c.operand_type-in-Accepted.ensures in
+    let i = rw node at c.if-node-eq-IF.true in
+    rest_judged q h _ d c.in-Accepted.is s.bound
+    (third_refused r b _ e i c.in-Accepted-operand_type.is (rw node at c.operand_type-then-node-eq-IF.ensures) c.in-Refused-operand_type-2.is)
+
+pub check_several-returns-in-Accepted-operand_type-2 : goal.check_several-returns-in-Accepted-operand_type-2
+check_several-returns-in-Accepted-operand_type-2 t c =
+    let s = c.requires in
+    let q = s.checkable in
+    let h = some_of s.bound in
+    let node = c.node_at-node.ensures in
+    let d = rw node at c.operand_type.ensures in
+    let r = rest_checkable q h _ d c.in-Accepted.is s.bound in
+    let b = rw node at c.bind_type-inner.ensures in
+    let e = rw node at c.operand_type-in-Accepted.ensures in
+    let i = rw node at c.if-node-eq-IF.true in
+    rest_judged q h _ d c.in-Accepted.is s.bound
+    (if_judged r b _ e i c.in-Accepted-operand_type.is (rw node at c.operand_type-then-node-eq-IF.ensures) c.in-Accepted-operand_type-2.is c.if_type.ensures)
+
+pub check_several-returns-in-Refused : goal.check_several-returns-in-Refused
+check_several-returns-in-Refused t c =
+    let s = c.requires in
+    let q = s.checkable in
+    let h = some_of s.bound in
+    let node = c.node_at-node.ensures in
+    let d = rw node at c.operand_type.ensures in
+    first-refused q h _ d c.in-Refused.is (several_no_sym s.bound)
+
+pub check_several-returns-in-Refused-operand_type : goal.check_several-returns-in-Refused-operand_type
+check_several-returns-in-Refused-operand_type t c =
+    let s = c.requires in
+    let q = s.checkable in
+    let h = some_of s.bound in
+    let node = c.node_at-node.ensures in
+    let d = rw node at c.operand_type.ensures in
+    let r = rest_checkable q h _ d c.in-Accepted.is s.bound in
+    let b = rw node at c.bind_type-inner.ensures in
+    let e = rw node at c.operand_type-in-Accepted.ensures in
+    rest_judged q h _ d c.in-Accepted.is s.bound (second-refused r b _ e c.in-Refused-operand_type.is)
+
+pub check_several-returns-else-node-eq-IF : goal.check_several-returns-else-node-eq-IF
+check_several-returns-else-node-eq-IF t c =
+    let s = c.requires in
+    let q = s.checkable in
+    let h = some_of s.bound in
+    let node = c.node_at-node.ensures in
+    let d = rw node at c.operand_type.ensures in
+    let r = rest_checkable q h _ d c.in-Accepted.is s.bound in
+    let b = rw node at c.bind_type-inner.ensures in
+    let e = rw node at c.operand_type-in-Accepted.ensures in
+    rest_judged q h _ d c.in-Accepted.is s.bound
+    (two_judged r b _ e (rw node at c.if-node-eq-IF.false) c.in-Accepted-operand_type.is (rw node at c.two_type.ensures))
+
+pub operand_type-node_at-node-requires : goal.operand_type-node_at-node-requires
+operand_type-node_at-node-requires t c = omega (arith, c.requires.formed.room)
+
+pub operand_type-leaf_type-requires : goal.operand_type-leaf_type-requires
+operand_type-leaf_type-requires t c =
+    let q = c.requires in
+    omega (arith, q.variables, q.lent)
+
+pub operand_type-returns-then-node-lt-LEAVES : goal.operand_type-returns-then-node-lt-LEAVES
+operand_type-returns-then-node-lt-LEAVES t c =
+    let q = c.requires in
+    let node = c.node_at-node.ensures in
+    leaf_judged q _ (rw node at c.if-node-lt-LEAVES.true) (rw node at c.leaf_type.ensures)
+
+pub operand_type-check_node-requires : goal.operand_type-check_node-requires
+operand_type-check_node-requires t c = (omega (arith, c.decreases), c.requires)
+
+pub operand_type-returns-then-has_one : goal.operand_type-returns-then-has_one
+operand_type-returns-then-has_one t c = rw c.copied.ensures c.check_node.ensures
+
+pub operand_type-check_several-requires : goal.operand_type-check_several-requires
+operand_type-check_several-requires t c =
+    let q = c.requires in
+    let node = c.node_at-node.ensures in
+    let h = some-operand q.formed (rw node at c.if-node-lt-LEAVES.false) in
+    (
+      omega (arith, c.decreases),
+      (q, has_more _ h (rw node at c.has_one.ensures) c.if-has_one.false),
+    )
+
+pub operand_type-returns : goal.operand_type-returns
+operand_type-returns t c = rw c.copied-2.ensures c.check_several.ensures
+
+pub paths-slice_bounds-start-end : goal.paths-slice_bounds-start-end
+paths-slice_bounds-start-end t c = refl
+
+pub paths-start-requires : goal.paths-start-requires
+paths-start-requires t c =
+    let q = c.requires.checkable in
+    record {
+      depth_in_bounds = omega (arith, q.variables, q.lent);
+      depth_le_symbol_limit = omega (arith, q.variables);
+      blank = blank;
+    }
+
+pub paths-loop-followed-init : goal.paths-loop-followed-init
+paths-loop-followed-init t c =
+    let s = c.requires in
+    turn-start (omega (arith, c.space-2-1.given)) refl no_frames s.a_lt_n s.checkable c.start.ensures
+
+pub paths-slice_bounds-walk-end : goal.paths-slice_bounds-walk-end
+paths-slice_bounds-walk-end t c = sym c.loop-followed.invariant.whole
+
+pub paths-slice_bounds-walk-end-in-loop-followed : goal.paths-slice_bounds-walk-end-in-loop-followed
+paths-slice_bounds-walk-end-in-loop-followed t c = sym c.loop-followed.invariant.framed
+
+pub paths-walk-requires : goal.paths-walk-requires
+paths-walk-requires t c = (omega (arith, c.decreases), turn_walkable c.loop-followed.invariant)
+
+pub paths-returns-in-Wrong : goal.paths-returns-in-Wrong
+paths-returns-in-Wrong t c = turn-wrong c.loop-followed.invariant c.loop-followed-test.true c.walk.ensures c.in-Wrong.is
+
+pub paths-returns-in-Last : goal.paths-returns-in-Last
+paths-returns-in-Last t c = turn_last c.loop-followed.invariant c.loop-followed-test.true c.walk.ensures c.in-Last.is
+
+pub paths-overflow_add-followed : goal.paths-overflow_add-followed
+paths-overflow_add-followed t c = omega arith
+
+pub paths-loop-followed-smaller : goal.paths-loop-followed-smaller
+paths-loop-followed-smaller t c = omega arith
+
+pub paths-loop-followed-preserved : goal.paths-loop-followed-preserved
+paths-loop-followed-preserved t c =
+    turn_more c.loop-followed.invariant c.loop-followed-test.true c.walk.ensures c.in-More.is c.walk.auto.space
+    c.walk.auto.frames
+
+pub paths-returns : goal.paths-returns
+paths-returns t c = turn-none c.loop-followed.invariant c.loop-followed-test.false
+
+pub walk-loop-why-init : goal.walk-loop-why-init
+walk-loop-why-init t c = walking_start c.requires
+
+pub walk-descend-inner-requires : goal.walk-descend-inner-requires
+walk-descend-inner-requires t c = walking_descendable c.loop-why.invariant
+
+pub walk-arrive-requires : goal.walk-arrive-requires
+walk-arrive-requires t c =
+    let w = c.loop-why.invariant in
+    let d = c.descend-inner.ensures in
+    (
+      omega (arith, walking-earlier w d, c.decreases),
+      (walking-enterable w d, descends_other d),
+    )
+
+pub walk-shape_of-space-in-Stopped : goal.walk-shape_of-space-in-Stopped
+walk-shape_of-space-in-Stopped t c = c.arrive.auto.space ∙ c.loop-why.invariant.same
+
+pub walk-shape_of-frames-in-Stopped : goal.walk-shape_of-frames-in-Stopped
+walk-shape_of-frames-in-Stopped t c =
+    c.arrive.auto.frames ∙ c.descend-inner.auto.frames ∙ c.loop-why.invariant.framed
+
+pub walk-returns-in-Stopped : goal.walk-returns-in-Stopped
+walk-returns-in-Stopped t c =
+    walking-stopped c.loop-why.invariant c.descend-inner.ensures c.arrive.ensures c.in-Stopped.is
+
+pub walk-path_end-requires : goal.walk-path_end-requires
+walk-path_end-requires t c =
+    walking_end c.loop-why.invariant c.descend-inner.ensures c.arrive.ensures c.in-Value.is
+
+pub walk-shape_of-space-in-Value : goal.walk-shape_of-space-in-Value
+walk-shape_of-space-in-Value t c =
+    c.path_end.auto.space ∙ c.arrive.auto.space ∙ c.loop-why.invariant.same
+
+pub walk-shape_of-frames-in-Value : goal.walk-shape_of-frames-in-Value
+walk-shape_of-frames-in-Value t c =
+    c.path_end.auto.frames ∙ c.arrive.auto.frames ∙ c.descend-inner.auto.frames ∙ c.loop-why.invariant.framed
+
+pub walk-returns-in-Value : goal.walk-returns-in-Value
+walk-returns-in-Value t c =
+    walking-ended c.loop-why.invariant c.descend-inner.ensures c.arrive.ensures c.in-Value.is c.path_end.ensures
+
+pub walk-loop-why-smaller : goal.walk-loop-why-smaller
+walk-loop-why-smaller t c =
+    walking_less c.loop-why.invariant c.descend-inner.ensures c.arrive.ensures c.in-Operand.is
+
+pub walk-loop-why-preserved : goal.walk-loop-why-preserved
+walk-loop-why-preserved t c =
+    walking_on c.loop-why.invariant c.descend-inner.ensures c.arrive.ensures c.in-Operand.is c.arrive.auto.space
+    (c.arrive.auto.frames ∙ c.descend-inner.auto.frames)
