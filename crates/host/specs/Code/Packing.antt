@@ -1,8 +1,8 @@
 -- The answers of the two calls as numbers. Assumes nothing.
 use Rattle.std.specs.Prelude.{List, ◌≡◌, ℕ, ◌≤◌, ◌<◌}
-use Rattle.std.proofs.Common.{sym, ap, ◌∙◌, arith}
+use Rattle.std.proofs.Common.{ap, ◌∙◌, arith}
 use Rattle.script.specs.declared.Ran.{Ran}
-use Rattle.rules.specs.Running.{Run, lent_limit}
+use Rattle.rules.specs.Running.{Run}
 use Rattle.answers.specs.Answers.{answer_of_run, AnswersRun}
 use Rattle.answers.specs.Code.Packing.{used_in}
 use Rattle.host.specs.Texts.{run_text, RanTo}

@@ -1,5 +1,5 @@
 -- The whole calls as the code makes them: what a reading into a table of the full size leaves, and the answer of each way through a call. Assumes nothing.
-use Rattle.std.specs.Prelude.{List, [], ◌++◌, ◌≡◌, ℕ, ◌+◌, ◌*◌, drop}
+use Rattle.std.specs.Prelude.{List, [], ◌++◌, ◌≡◌, ℕ, ◌*◌, drop}
 use Rattle.std.proofs.Common.{append-nil, ◌∙◌, arith}
 use Rattle.std.proofs.Math.Option.{none}
 use Rattle.std.proofs.Math.Path.{refl, sym, ap}
