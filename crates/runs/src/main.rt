@@ -51,7 +51,8 @@ fn try_given(
     if input.len() <= end {
         return Ok(0);
     }
-    try_text(rt, &input[from..end], &values[..count], before, cells, used)?;
+    let text = &input[from..end];
+    try_text(rt, text, &values[..count], before, cells, used)?;
     say(rt, b"\n")?;
     Ok(end + 1)
 }

@@ -5,7 +5,7 @@ ghost use Rattle.call_texts.specs.Tables.{table_as};
 ghost use Rattle.runs.specs.Outcome.{cells_after};
 
 use script::table::WIDTH;
-use script::{Ran, Reading, Script};
+use script::{Ran, Reading, Refusal, Script};
 use std::io;
 use trial::{say, say_decimal, say_either, say_number, say_refusal};
 
@@ -69,21 +69,9 @@ fn say_after(rt: &impl Print, before: &[u8], cells: &[u8], used: u32) -> io::Res
     say_kept(rt, before, cells, 5 * count)
 }
 
-// Runs a script that was read, on cells that hold what `before` holds, and then prints what came of it.
-fn try_script(
-    rt: &impl Print,
-    table: &[u32],
-    nodes: usize,
-    entries: &[u32],
-    entry_count: usize,
-    values: &[u8],
-    before: &[u8],
-    cells: &mut [u8],
-    used: u32,
-) -> io::Result<()>
-    ensures { cells.new ≡ (run_table (table_as table.now nodes entries.now entry_count) values.now cells.old used).cells }
-{
-    match calls::run(table, nodes, entries, entry_count, values, cells, used) {
+// Prints what came of a run, on cells that held what `before` holds.
+fn say_ran(rt: &impl Print, before: &[u8], cells: &[u8], answer: Ran) -> io::Result<()> {
+    match answer {
         Ran::Gave(v, now) => {
             say(rt, b"value")?;
             say_number(rt, v.kind() as u64)?;
@@ -100,6 +88,30 @@ fn try_script(
             say_kept(rt, before, cells, 0)
         }
     }
+}
+
+// Prints why a text could not be read, so that nothing was run.
+fn say_unread(rt: &impl Print, why: Refusal) -> io::Result<()> {
+    say_refusal(rt, why)?;
+    say(rt, b"\tunread")
+}
+
+// Runs a script that was read, on cells that hold what `before` holds, and then prints what came of it.
+fn try_script(
+    rt: &impl Print,
+    table: &[u32],
+    nodes: usize,
+    entries: &[u32],
+    entry_count: usize,
+    values: &[u8],
+    before: &[u8],
+    cells: &mut [u8],
+    used: u32,
+) -> io::Result<()>
+    ensures { cells.new ≡ (run_table (table_as table.now nodes entries.now entry_count) values.now cells.old used).cells }
+{
+    let answer = calls::run(table, nodes, entries, entry_count, values, cells, used);
+    say_ran(rt, before, cells, answer)
 }
 
 // Reads a text, and runs it if it could be read. The line is left open. Whether the printing fails or not, the cells hold what the run leaves.
@@ -123,9 +135,6 @@ pub fn try_text(
                 rt, &table, nodes, &entries, count, values, before, cells, used,
             )
         }
-        Reading::Refused(r) => {
-            say_refusal(rt, r)?;
-            say(rt, b"\tunread")
-        }
+        Reading::Refused(why) => say_unread(rt, why),
     }
 }
