@@ -1,5 +1,5 @@
 -- A text that was found is in the input, and there are as many values as were counted.
-use Rattle.std.proofs.Common.{arith, ap}
+use Rattle.std.proofs.Common.{arith, sym, length-take-le}
 use Rattle.trial.specs.Anyway.{on_err_anyway}
 use Rattle.trial.specs.Given.Laws.{count_most}
 use Rattle.trial.specs.Places.Laws.{text-after}
@@ -23,8 +23,13 @@ slice_bounds-text-count g c = text-after _ _ c.text_end-end.ensures
 pub slice_bounds-text-start : goal.slice_bounds-text-start
 slice_bounds-text-start g c = let h = text-after _ _ c.text_end-end.ensures in omega arith
 
+pub slice_bounds-try_text-end : goal.slice_bounds-try_text-end
+slice_bounds-try_text-end g c = let h = count_most _ _ _ c.bytes_line.ensures c.in-Is.is in omega arith
+
 pub slice_bounds-try_text-end-2 : goal.slice_bounds-try_text-end-2
-slice_bounds-try_text-end-2 g c = let h = count_most _ _ _ c.bytes_line.ensures c.in-Is.is in omega arith
+slice_bounds-try_text-end-2 g c =
+    let h = count_most _ _ _ c.bytes_line.ensures c.in-Is.is in
+    sym (length-take-le _ _ (omega arith))
 
 pub returns-in_err-try_text-clause-err : goal.returns-in_err-try_text-clause-err
 returns-in_err-try_text-clause-err g c =
