@@ -11,57 +11,56 @@
 
 use script::table::WIDTH;
 use script::{Reading, Script};
-use trial::{name_end, say, say_checked, say_refusal, text_end};
+use std::io;
+use trial::{name_end, read_full, say, say_checked, say_refusal, text_end};
 
 // Reads a text, checks it if it could be read, and prints what came of it. The line is left open.
-fn try_text(text: &[u8]) {
+fn try_text(rt: &impl Print, text: &[u8]) -> io::Result<()> {
     let mut table = [0u32; WIDTH * Script::NODES];
     let mut entries = [0u32; Script::ENTRIES];
     match call_texts::read(text, &mut table, &mut entries) {
         Reading::Read(script) => {
             let nodes = script.nodes;
             let count = script.entries;
-            say_checked(calls::check(&table, nodes, &entries, count));
+            say_checked(rt, calls::check(&table, nodes, &entries, count))
         }
-        Reading::Refused(r) => {
-            say_refusal(r);
-        }
+        Reading::Refused(r) => say_refusal(rt, r),
     }
 }
 
 // Tries the script at `at`, and answers where the next one starts; 0 after a malformed one.
-fn try_script(input: &[u8], at: usize) -> usize {
+fn try_script(rt: &impl Print, input: &[u8], at: usize) -> io::Result<usize> {
     let stop = name_end(input, at);
     if stop <= at {
-        return 0;
+        return Ok(0);
     }
     let from = stop + 1;
     let end = text_end(input, from);
     if input.len() <= end {
-        return 0;
+        return Ok(0);
     }
-    say(&input[at..stop]);
-    say(b"\t");
-    try_text(&input[from..end]);
-    say(b"\n");
-    end + 1
+    say(rt, &input[at..stop])?;
+    say(rt, b"\t")?;
+    try_text(rt, &input[from..end])?;
+    say(rt, b"\n")?;
+    Ok(end + 1)
 }
 
 // Tries all scripts in turn. A malformed one ends it.
-fn try_all(input: &[u8]) {
+fn try_all(rt: &impl Print, input: &[u8]) -> io::Result<()> {
     let mut at = 0;
     while at < input.len() {
-        let next = try_script(input, at);
+        let next = try_script(rt, input, at)?;
         if next <= at {
-            say(b"malformed\n");
-            return;
+            return say(rt, b"malformed\n");
         }
         at = next;
     }
+    Ok(())
 }
 
-fn main() {
+fn main(rt: HostRuntime) -> io::Result<()> {
     let mut input = [0u8; 262144];
-    let n = io::read_full(libc::STDIN_FILENO, &mut input);
-    try_all(&input[..n]);
+    let n = read_full(&mut rt.stdin(), &mut input)?;
+    try_all(&rt, &input[..n])
 }

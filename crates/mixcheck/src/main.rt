@@ -4,12 +4,14 @@
 mod line;
 
 use script::Script;
+use std::io;
+use trial::{read_full, say};
 
-fn main() {
+fn main(rt: HostRuntime) -> io::Result<()> {
     // one byte more than a text may have tells that it is too long
     let mut input = [0u8; Script::BYTES + 1];
-    let n = io::read_full(libc::STDIN_FILENO, &mut input);
+    let n = read_full(&mut rt.stdin(), &mut input)?;
     let mut out = [0u8; line::MOST];
     let length = line::put_line(&input[..n], &mut out);
-    io::write_all(libc::STDOUT_FILENO, &out[..length]);
+    say(&rt, &out[..length])
 }

@@ -13,69 +13,74 @@
 // After a refusal: the name, `refused`, number, place or `-`, and `kept` if each lent byte is as it was; `unread` if the text was refused, and nothing run.
 #![tactic(auto)]
 
-ghost use Rattle.std.specs.Prelude.{◌≡◌};
+ghost use Rattle.std.specs.Prelude.{◌≡◌, IfOk, OnErr};
 ghost use Rattle.runs.specs.Given.{left, given_at};
 
 mod outcome;
 
 use outcome::try_text;
+use std::io;
 use trial::given::bytes_line;
-use trial::{Header, Number, header_at, name_end, say, text_end};
+use trial::{Header, Number, header_at, name_end, read_full, say, text_end};
 
 // What lent bytes hold that the input does not give.
 const BLANK: u8 = 165;
 
 // Tries a run from the line of its values on. The line of its cells goes into `before` and `cells` alike: the run changes only `cells`.
-// Answers where the next run starts; 0 after a malformed one.
+// Answers where the next run starts; 0 after a malformed one. A failure to print changes nothing of what the lent bytes then hold.
 fn try_given(
+    rt: &impl Print,
     input: &[u8],
     at: usize,
     values: &mut [u8],
     before: &mut [u8],
     cells: &mut [u8],
     used: u32,
-) -> usize
-    ensures { left result values.new before.new cells.new ≡ given_at input.now used at values.old before.old cells.old }
+) -> io::Result<usize>
+    ensures ok { IfOk result (λ next. left next values.new before.new cells.new ≡ given_at input.now used at values.old before.old cells.old) }
+    ensures err { OnErr result (left (given_at input.now used at values.old before.old cells.old).next values.new before.new cells.new ≡ given_at input.now used at values.old before.old cells.old) }
 {
     let Number::Is(count, next) = bytes_line(input, at, values) else {
-        return 0;
+        return Ok(0);
     };
     let Number::Is(_, from) = bytes_line(input, next, before) else {
-        return 0;
+        return Ok(0);
     };
     bytes_line(input, next, cells);
     let end = text_end(input, from);
     if input.len() <= end {
-        return 0;
+        return Ok(0);
     }
-    try_text(&input[from..end], &values[..count], before, cells, used);
-    say(b"\n");
-    end + 1
+    let text = &input[from..end];
+    try_text(rt, text, &values[..count], before, cells, used)?;
+    say(rt, b"\n")?;
+    Ok(end + 1)
 }
 
 // Tries the run at `at`, and answers where the next one starts; 0 after a malformed one.
-fn try_run(input: &[u8], at: usize) -> usize {
+fn try_run(rt: &impl Print, input: &[u8], at: usize) -> io::Result<usize> {
     let Header::Is {
         first: lent,
         second: used,
         name,
     } = header_at(input, at)
     else {
-        return 0;
+        return Ok(0);
     };
     let stop = name_end(input, name);
     if stop <= name {
-        return 0;
+        return Ok(0);
     }
-    say(&input[name..stop]);
-    say(b"\t");
+    say(rt, &input[name..stop])?;
+    say(rt, b"\t")?;
     let mut values = [0u8; 128];
     let mut before = [BLANK; 1024];
     let mut cells = [BLANK; 1024];
     if cells.len() < lent {
-        return 0;
+        return Ok(0);
     }
     try_given(
+        rt,
         input,
         stop + 1,
         &mut values,
@@ -86,20 +91,20 @@ fn try_run(input: &[u8], at: usize) -> usize {
 }
 
 // Tries all runs in turn. A malformed one ends it.
-fn try_all(input: &[u8]) {
+fn try_all(rt: &impl Print, input: &[u8]) -> io::Result<()> {
     let mut at = 0;
     while at < input.len() {
-        let next = try_run(input, at);
+        let next = try_run(rt, input, at)?;
         if next <= at {
-            say(b"malformed\n");
-            return;
+            return say(rt, b"malformed\n");
         }
         at = next;
     }
+    Ok(())
 }
 
-fn main() {
+fn main(rt: HostRuntime) -> io::Result<()> {
     let mut input = [0u8; 262144];
-    let n = io::read_full(libc::STDIN_FILENO, &mut input);
-    try_all(&input[..n]);
+    let n = read_full(&mut rt.stdin(), &mut input)?;
+    try_all(&rt, &input[..n])
 }

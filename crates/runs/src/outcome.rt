@@ -5,7 +5,8 @@ ghost use Rattle.call_texts.specs.Tables.{table_as};
 ghost use Rattle.runs.specs.Outcome.{cells_after};
 
 use script::table::WIDTH;
-use script::{Ran, Reading, Script};
+use script::{Ran, Reading, Refusal, Script};
+use std::io;
 use trial::{say, say_decimal, say_either, say_number, say_refusal};
 
 // A byte as a number of 64 bits.
@@ -16,65 +17,88 @@ fn wide(b: u8) -> u64
 }
 
 // Prints the cell at place i: its kind, a colon, and its bits.
-fn say_cell(cells: &[u8], i: usize)
+fn say_cell(rt: &impl Print, cells: &[u8], i: usize) -> io::Result<()>
     requires { 5 * i + 4 < length cells.now }
 {
     let at = 5 * i;
-    say_decimal(wide(cells[at]));
-    say(b":");
+    say_decimal(rt, wide(cells[at]))?;
+    say(rt, b":")?;
     say_decimal(
+        rt,
         wide(cells[at + 1])
             + 256 * wide(cells[at + 2])
             + 65536 * wide(cells[at + 3])
             + 16777216 * wide(cells[at + 4]),
-    );
+    )
 }
 
 // Prints the first `count` cells after a tab, parted by blanks: `-` if there is none, `?` if they are not lent.
-fn say_cells(cells: &[u8], count: usize) {
-    say(b"\t");
+fn say_cells(rt: &impl Print, cells: &[u8], count: usize) -> io::Result<()> {
+    say(rt, b"\t")?;
     if count == 0 {
-        say(b"-");
-        return;
+        return say(rt, b"-");
     }
     if cells.len() / 5 < count {
-        say(b"?");
-        return;
+        return say(rt, b"?");
     }
-    say_cell(cells, 0);
+    say_cell(rt, cells, 0)?;
     let mut i = 1;
     while i < count {
-        say(b" ");
-        say_cell(cells, i);
+        say(rt, b" ")?;
+        say_cell(rt, cells, i)?;
         i += 1;
     }
+    Ok(())
 }
 
 // Prints whether the lent bytes from `from` on are as they were.
-fn say_kept(before: &[u8], cells: &[u8], from: usize) {
+fn say_kept(rt: &impl Print, before: &[u8], cells: &[u8], from: usize) -> io::Result<()> {
     if from <= before.len() {
         if from <= cells.len() {
-            say_either(
-                check::same(&before[from..], &cells[from..]),
-                b"kept",
-                b"touched",
-            );
-            return;
+            return say_either(rt, &before[from..] == &cells[from..], b"kept", b"touched");
         }
     }
-    say(b"\ttouched");
+    say(rt, b"\ttouched")
 }
 
 // Prints a used count, the used cells, and whether those after them are as they were.
-fn say_after(before: &[u8], cells: &[u8], used: u32) {
+fn say_after(rt: &impl Print, before: &[u8], cells: &[u8], used: u32) -> io::Result<()> {
     let count = used as usize;
-    say_number(used as u64);
-    say_cells(cells, count);
-    say_kept(before, cells, 5 * count);
+    say_number(rt, used as u64)?;
+    say_cells(rt, cells, count)?;
+    say_kept(rt, before, cells, 5 * count)
 }
 
-// Runs a script that was read, on cells that hold what `before` holds, and prints what came of it.
+// Prints what came of a run, on cells that held what `before` holds.
+fn say_ran(rt: &impl Print, before: &[u8], cells: &[u8], answer: Ran) -> io::Result<()> {
+    match answer {
+        Ran::Gave(v, now) => {
+            say(rt, b"value")?;
+            say_number(rt, v.kind() as u64)?;
+            say_number(rt, v.bits() as u64)?;
+            say_after(rt, before, cells, now)
+        }
+        Ran::Failed(node, now) => {
+            say(rt, b"error")?;
+            say_number(rt, node as u64)?;
+            say_after(rt, before, cells, now)
+        }
+        Ran::Refused(r) => {
+            say_refusal(rt, r)?;
+            say_kept(rt, before, cells, 0)
+        }
+    }
+}
+
+// Prints why a text could not be read, so that nothing was run.
+fn say_unread(rt: &impl Print, why: Refusal) -> io::Result<()> {
+    say_refusal(rt, why)?;
+    say(rt, b"\tunread")
+}
+
+// Runs a script that was read, on cells that hold what `before` holds, and then prints what came of it.
 fn try_script(
+    rt: &impl Print,
     table: &[u32],
     nodes: usize,
     entries: &[u32],
@@ -83,30 +107,22 @@ fn try_script(
     before: &[u8],
     cells: &mut [u8],
     used: u32,
-)
+) -> io::Result<()>
     ensures { cells.new ≡ (run_table (table_as table.now nodes entries.now entry_count) values.now cells.old used).cells }
 {
-    match calls::run(table, nodes, entries, entry_count, values, cells, used) {
-        Ran::Gave(v, now) => {
-            say(b"value");
-            say_number(v.kind() as u64);
-            say_number(v.bits() as u64);
-            say_after(before, cells, now);
-        }
-        Ran::Failed(node, now) => {
-            say(b"error");
-            say_number(node as u64);
-            say_after(before, cells, now);
-        }
-        Ran::Refused(r) => {
-            say_refusal(r);
-            say_kept(before, cells, 0);
-        }
-    }
+    let answer = calls::run(table, nodes, entries, entry_count, values, cells, used);
+    say_ran(rt, before, cells, answer)
 }
 
-// Reads a text, and runs it if it could be read. The line is left open.
-pub fn try_text(text: &[u8], values: &[u8], before: &[u8], cells: &mut [u8], used: u32)
+// Reads a text, and runs it if it could be read. The line is left open. Whether the printing fails or not, the cells hold what the run leaves.
+pub fn try_text(
+    rt: &impl Print,
+    text: &[u8],
+    values: &[u8],
+    before: &[u8],
+    cells: &mut [u8],
+    used: u32,
+) -> io::Result<()>
     ensures { cells.new ≡ cells_after text.now values.now cells.old used }
 {
     let mut table = [0u32; WIDTH * Script::NODES];
@@ -115,11 +131,10 @@ pub fn try_text(text: &[u8], values: &[u8], before: &[u8], cells: &mut [u8], use
         Reading::Read(script) => {
             let nodes = script.nodes;
             let count = script.entries;
-            try_script(&table, nodes, &entries, count, values, before, cells, used);
+            try_script(
+                rt, &table, nodes, &entries, count, values, before, cells, used,
+            )
         }
-        Reading::Refused(r) => {
-            say_refusal(r);
-            say(b"\tunread");
-        }
+        Reading::Refused(why) => say_unread(rt, why),
     }
 }

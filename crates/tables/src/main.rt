@@ -15,8 +15,11 @@ ghost use Rattle.std.specs.Prelude.{◌++◌, ◌≡◌, ◌≤◌, length, drop
 use call_texts::PLACES;
 use script::Writing;
 use script::table::WIDTH;
+use std::io;
 use trial::given::bytes_line;
-use trial::{Header, Number, header_at, name_end, say, say_checked, say_number, say_refusal};
+use trial::{
+    Header, Number, header_at, name_end, read_full, say, say_checked, say_number, say_refusal,
+};
 
 // A byte as a number of 32 bits.
 fn wide(b: u8) -> u32
@@ -38,77 +41,87 @@ fn widen(bytes: &[u8], words: &mut [u32])
 }
 
 // Checks and writes a table, and prints what came of it. The line is left open.
-fn try_table(table: &[u32], nodes: usize, entries: &[u32], used: usize) {
+fn try_table(
+    rt: &impl Print,
+    table: &[u32],
+    nodes: usize,
+    entries: &[u32],
+    used: usize,
+) -> io::Result<()> {
     let mut out = [0u8; 2288];
-    say_checked(calls::check(table, nodes, entries, used));
-    say(b"\t");
+    say_checked(rt, calls::check(table, nodes, entries, used))?;
+    say(rt, b"\t")?;
     match call_texts::write(table, nodes, entries, used, &mut out) {
         Writing::Wrote(length) => {
-            say(b"wrote");
-            say_number(length as u64);
+            say(rt, b"wrote")?;
+            say_number(rt, length as u64)
         }
-        Writing::Refused(r) => {
-            say_refusal(r);
-        }
+        Writing::Refused(r) => say_refusal(rt, r),
     }
 }
 
 // Tries a table from the line of its entries on, and answers where the next table starts; 0 after a malformed one.
-fn try_given(input: &[u8], at: usize, nodes: usize, used: usize) -> usize {
+fn try_given(
+    rt: &impl Print,
+    input: &[u8],
+    at: usize,
+    nodes: usize,
+    used: usize,
+) -> io::Result<usize> {
     let mut codes = [0u8; 20];
     let mut numbers = [0u8; WIDTH * PLACES];
     let Number::Is(lent, next) = bytes_line(input, at, &mut codes) else {
-        return 0;
+        return Ok(0);
     };
     let Number::Is(_, end) = bytes_line(input, next, &mut numbers) else {
-        return 0;
+        return Ok(0);
     };
     let mut entries = [0u32; 20];
     let mut table = [0u32; WIDTH * PLACES];
     if entries.len() < lent {
-        return 0;
+        return Ok(0);
     }
     widen(&codes, &mut entries);
     widen(&numbers, &mut table);
-    try_table(&table, nodes, &entries[..lent], used);
-    say(b"\n");
-    end
+    try_table(rt, &table, nodes, &entries[..lent], used)?;
+    say(rt, b"\n")?;
+    Ok(end)
 }
 
 // Tries the table at `at`, and answers where the next one starts; 0 after a malformed one.
-fn try_next(input: &[u8], at: usize) -> usize {
+fn try_next(rt: &impl Print, input: &[u8], at: usize) -> io::Result<usize> {
     let Header::Is {
         first: nodes,
         second: used,
         name,
     } = header_at(input, at)
     else {
-        return 0;
+        return Ok(0);
     };
     let stop = name_end(input, name);
     if stop <= name {
-        return 0;
+        return Ok(0);
     }
-    say(&input[name..stop]);
-    say(b"\t");
-    try_given(input, stop + 1, nodes, used)
+    say(rt, &input[name..stop])?;
+    say(rt, b"\t")?;
+    try_given(rt, input, stop + 1, nodes, used)
 }
 
 // Tries all tables in turn. A malformed one ends it.
-fn try_all(input: &[u8]) {
+fn try_all(rt: &impl Print, input: &[u8]) -> io::Result<()> {
     let mut at = 0;
     while at < input.len() {
-        let next = try_next(input, at);
+        let next = try_next(rt, input, at)?;
         if next <= at {
-            say(b"malformed\n");
-            return;
+            return say(rt, b"malformed\n");
         }
         at = next;
     }
+    Ok(())
 }
 
-fn main() {
+fn main(rt: HostRuntime) -> io::Result<()> {
     let mut input = [0u8; 262144];
-    let n = io::read_full(libc::STDIN_FILENO, &mut input);
-    try_all(&input[..n]);
+    let n = read_full(&mut rt.stdin(), &mut input)?;
+    try_all(&rt, &input[..n])
 }

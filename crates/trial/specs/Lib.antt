@@ -1,3 +1,4 @@
+pub mod Anyway
 pub mod Given
 pub mod Numbers
 pub mod Places

@@ -1,14 +1,15 @@
 // What the programs that try the other crates share: the headers, names and texts in their input, and what they print. `given` has lines of bytes.
 #![tactic(auto)]
 
-ghost use Rattle.std.specs.Prelude.{◌≡◌};
+ghost use Rattle.std.specs.Prelude.{◌≡◌, ◌≤◌, length, IfOk};
 ghost use Rattle.trial.specs.Numbers.{digit_of, number_at, header_at};
 ghost use Rattle.trial.specs.Places.{name_end, text_end};
 
 pub mod given;
 
-use libc::STDOUT_FILENO;
 use script::{Checked, Place, Refusal};
+use std::io;
+use std::io::Read;
 
 // What a frame's header says: two numbers, and where its name starts.
 #[derive(Clone, Copy)]
@@ -122,69 +123,73 @@ pub fn text_end(input: &[u8], at: usize) -> usize
     i
 }
 
+// Reads until the bytes are full or the input ends, and says how many were read.
+pub fn read_full(from: &mut impl Read, into: &mut [u8]) -> io::Result<usize>
+    ensures { IfOk result (λ n. n ≤ length into.old) }
+{
+    let mut done = 0;
+    while done < into.len() {
+        let count = from.read(&mut into[done..])?;
+        if count == 0 {
+            return Ok(done);
+        }
+        done += count;
+    }
+    Ok(done)
+}
+
 // Prints bytes.
-pub fn say(s: &[u8]) {
-    io::write_all(STDOUT_FILENO, s);
+pub fn say(rt: &impl Print, s: &[u8]) -> io::Result<()> {
+    rt.write_all(s)
 }
 
 // Prints one of two words, after a tab.
-pub fn say_either(first: bool, a: &[u8], b: &[u8]) {
-    say(b"\t");
-    if first {
-        say(a);
-    } else {
-        say(b);
-    }
+pub fn say_either(rt: &impl Print, first: bool, a: &[u8], b: &[u8]) -> io::Result<()> {
+    say(rt, b"\t")?;
+    say(rt, if first { a } else { b })
 }
 
 // Prints a number.
-pub fn say_decimal(n: u64) {
-    io::print_decimal(STDOUT_FILENO, n);
+pub fn say_decimal(rt: &impl Print, n: u64) -> io::Result<()> {
+    print!(rt; "{n}")
 }
 
 // Prints a number, after a tab.
-pub fn say_number(n: u64) {
-    say(b"\t");
-    say_decimal(n);
+pub fn say_number(rt: &impl Print, n: u64) -> io::Result<()> {
+    say(rt, b"\t")?;
+    say_decimal(rt, n)
 }
 
 // Prints a refusal: the word, its number, its place or `-`.
-pub fn say_refusal(r: Refusal) {
-    say(b"refused");
-    say_number(r.number() as u64);
+pub fn say_refusal(rt: &impl Print, r: Refusal) -> io::Result<()> {
+    say(rt, b"refused")?;
+    say_number(rt, r.number() as u64)?;
     match r.place() {
-        Place::At(i) => {
-            say_number(i as u64);
-        }
-        Place::Nowhere => {
-            say(b"\t-");
-        }
+        Place::At(i) => say_number(rt, i as u64),
+        Place::Nowhere => say(rt, b"\t-"),
     }
 }
 
 // Prints a type by its code: a letter r for each 2, then i or b.
-fn say_type(code: u32) {
+fn say_type(rt: &impl Print, code: u32) -> io::Result<()> {
     let mut left = code;
     while 1 < left {
-        say(b"r");
+        say(rt, b"r")?;
         left -= 2;
     }
     if left == 0 {
-        say(b"i");
-        return;
+        return say(rt, b"i");
     }
-    say(b"b");
+    say(rt, b"b")
 }
 
 // Prints the checker's answer.
-pub fn say_checked(answer: Checked) {
+pub fn say_checked(rt: &impl Print, answer: Checked) -> io::Result<()> {
     match answer {
         Checked::Accepted(code) => {
-            say(b"accepted\t");
-            say_type(code);
+            say(rt, b"accepted\t")?;
+            say_type(rt, code)
         }
-        Checked::Refused(r) => {
-            say_refusal(r);
-        }
+        Checked::Refused(r) => say_refusal(rt, r),
     }
 }

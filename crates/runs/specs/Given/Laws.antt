@@ -5,7 +5,7 @@ use borrow.Author.Tests.{lt-ltb, le-ltb}
 use Rattle.trial.specs.declared.Number.{Number}
 use Rattle.trial.specs.Given.{line, bytes_line}
 use Rattle.trial.specs.Places.{text_end}
-use Rattle.runs.specs.Given.{left, given_at}
+use Rattle.runs.specs.Given.{Left, left, given_at}
 use Rattle.runs.specs.Outcome.{cells_after}
 
 module _ (input : List ℕ) (used at : ℕ) (values before cells : List ℕ) {values₁ : List ℕ} {r : Number} (v : line r values₁ ≡ bytes_line input at values) where
@@ -28,3 +28,7 @@ module _ (input : List ℕ) (used at : ℕ) (values before cells : List ℕ) {va
           → left (end + 1) values₁ before₁ left₁ ≡ given_at input used at values before cells
       unfolding given_at
       ran h l = rw (l, ← v, e, ← b, f, ← k, ← g, lt-ltb end (length input) h) refl
+
+-- what is left, whatever the next place is said to be
+pub left_anyway : {r : ℕ} {values before cells : List ℕ} {l : Left} → left r values before cells ≡ l → left l.next values before cells ≡ l
+left_anyway {r} {values} {before} {cells} e = rw (← e) refl

@@ -2,7 +2,7 @@
 use Rattle.std.specs.Prelude.{Bool, true, false, cond, List, ◌++◌, ◌≡◌, length, take, drop, get_or}
 use Rattle.std.proofs.Math.Option.{Option, none, some}
 use Rattle.std.proofs.Math.Path.{refl}
-use Rattle.std.proofs.Common.{sym, ◌∙◌, arith, lt-ltb, le-ltb, le-leb, eq-eqb, ne_eqb}
+use Rattle.std.proofs.Common.{sym, ap, ◌∙◌, zero-add, arith, lt-ltb, le-ltb, le-leb, eq-eqb, ne_eqb}
 use Prim.Native.Nat.{ℕ, zero, suc, ◌+◌, ◌-◌, ◌≤◌, ◌<◌}
 use Rattle.std.proofs.lemmas.Bool.{lt-leb}
 use Rattle.trial.specs.declared.Header.{Header}
@@ -13,7 +13,7 @@ use Rattle.trial.specs.Numbers.Laws.{BothWithin, header_within, header_past}
 use Rattle.trial.specs.Places.{name_end}
 use Rattle.trial.specs.Places.Laws.{name_least}
 use Rattle.texts.specs.Rounds.{Tried}
-use Rattle.texts.specs.Frames.{Frame, is_whole, frame_of, frame_in, frame_by, frame_at, next_by, Lent, lent, after_frame, Framed, after_frames}
+use Rattle.texts.specs.Frames.{Frame, is_whole, frame_of, frame_in, frame_by, frame_at, next_by, Lent, lent, after_frame, Framed, frames_by, after_frames}
 
 -- ---- one frame
 
@@ -131,3 +131,41 @@ module _ (input : List ℕ) where
             go none e p q k c d = absurd (omega arith)
             go (some f) e p q zero c d = absurd (omega arith)
             go (some f) e p q (suc k) c d = record { turns = k; enough = omega arith; rest = rw (p, q) (sym (turn-some k l e) ∙ d) }
+
+-- ---- the first frames
+
+-- so many trials, of the frames from the input's start on, leave l, and the next frame starts at `at`
+pub record Went (input : List ℕ) (first : Lent) (at : ℕ) (l : Lent) : Type 0 where
+  pub turns : ℕ
+  pub more : (k : ℕ) → after_frames input (turns + k) 0 first ≡ after_frames input k at l
+
+module _ (input : List ℕ) where
+  after-one : (at : ℕ) (l : Lent) → after_frames input (suc zero) at l ≡ after_frame (frame_at input (length l.out) at) l
+  unfolding after_frames
+  after-one at l = go (frame_at input (length l.out) at)
+    where
+      go : (o : Option Frame) → frames_by o l (λ f. after_frame (some f) l) ≡ after_frame o l
+      go none = refl
+      go (some f) = refl
+
+  module _ (first : Lent) where
+    pub went-none : Went input first 0 first
+    went-none = record { turns = zero; more = λ k. ap (λ m. after_frames input m 0 first) (zero-add k) }
+
+    module _ {at : ℕ} {l : Lent} (w : Went input first at l) where
+      -- with the trial of the frame at `at`
+      pub went_here : {n : Lent} → n ≡ after_frame (frame_at input (length l.out) at) l → (turns : ℕ) × (n ≡ after_frames input turns 0 first)
+      went_here e = (w.turns + suc zero, e ∙ sym (after-one at l) ∙ sym (w.more (suc zero)))
+
+      pub went_on : {r : ℕ} {n : Lent} → Framed (frame_at input (length l.out) at) l r n → at < r → Went input first r n
+      went_on {r} {n} f h = go (frame_at input (length l.out) at) refl f.next-is f.left_is
+        where
+          go : (o : Option Frame) → frame_at input (length l.out) at ≡ o → r ≡ next_by o → n ≡ after_frame o l → Went input first r n
+          go none e p q = absurd (omega arith)
+          go (some f) e p q =
+              record {
+                turns = suc w.turns;
+                more = λ k.
+                    let m : suc w.turns + k ≡ w.turns + suc k = omega arith in
+                    ap (λ i. after_frames input i 0 first) m ∙ w.more (suc k) ∙ turn-some input at k l e ∙ rw (p, q) refl;
+              }

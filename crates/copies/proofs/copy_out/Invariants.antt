@@ -1,0 +1,10 @@
+-- Before turn i of the loop the flat slice holds the numbers of the first i records in front.
+use Rattle.std.proofs.Common.{◌≡◌, ◌≤◌, ◌-◌}
+use Rattle.copies.specs.Copies.{copied}
+use Rattle.copies.proofs.copy_out.Given as goal
+
+abbrev pub invariant-loop-i : goal.invariant-loop-i
+invariant-loop-i l = record { within : l.i ≤ l.n; holds : l.flat ≡ copied l.table l.i l.initial.flat }
+
+abbrev pub decreases-loop-i : goal.decreases-loop-i
+decreases-loop-i l = l.n - l.i

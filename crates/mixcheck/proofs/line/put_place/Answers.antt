@@ -1,0 +1,26 @@
+-- `mixcheck::line::put_place` meets its contract: a tab, then `-` or the number. Assumes nothing.
+use native.Mathlib.Omega.{arith}
+use Rattle.text.specs.Code.Output.Laws.{put_one, put_then, put_length}
+use Rattle.mixcheck.specs.Line.Laws.{nowhere-length, at_length, put_nowhere, put_at}
+use Rattle.mixcheck.proofs.line.put_place.Goals as goal
+
+pub overflow_add-next : goal.overflow_add-next
+overflow_add-next c = omega (arith, c.requires)
+
+pub overflow_add-result : goal.overflow_add-result
+overflow_add-result c = omega (arith, c.requires, nowhere-length c.in-Nowhere.is)
+
+pub put_number-requires : goal.put_number-requires
+put_number-requires c = omega (arith, c.requires, at_length c.in-At.is)
+
+pub shape_of-out-in-Nowhere : goal.shape_of-out-in-Nowhere
+shape_of-out-in-Nowhere c = put_length ((put_nowhere c.in-Nowhere.is (put_then (put_one c.put.ensures) (put_one c.put-in-Nowhere.ensures))))
+
+pub returns-in-Nowhere : goal.returns-in-Nowhere
+returns-in-Nowhere c = put_nowhere c.in-Nowhere.is (put_then (put_one c.put.ensures) (put_one c.put-in-Nowhere.ensures))
+
+pub shape_of-out-in-At : goal.shape_of-out-in-At
+shape_of-out-in-At c = put_length ((put_at c.in-At.is (put_then (put_one c.put.ensures) c.put_number.ensures)))
+
+pub returns-in-At : goal.returns-in-At
+returns-in-At c = put_at c.in-At.is (put_then (put_one c.put.ensures) c.put_number.ensures)

@@ -1,0 +1,6 @@
+-- `mixcheck::main` does nothing undefined and ends: the line is within its bytes. Assumes nothing.
+use Rattle.mixcheck.specs.Line.Laws.{line_taken}
+use Rattle.mixcheck.proofs.main.Goals as goal
+
+pub slice_bounds-say-end : goal.slice_bounds-say-end
+slice_bounds-say-end c = line_taken c.put_line-length.ensures
