@@ -5,7 +5,7 @@ use Rattle.std.proofs.Common.{ap, ◌∙◌, arith, drop-drop, le-leb, eq-eqb, n
 use Rattle.std.proofs.Math.Path.{sym}
 use Prim.Native.Nat.{ℕ, zero, suc, ◌+◌, ◌*◌, ◌/◌, ◌%◌, ◌≤◌, ◌<◌}
 use Rattle.std.proofs.lemmas.Bool.{lt-leb}
-use Rattle.rules.specs.Running.Room.{cells_fit}
+use Rattle.rules.proofs.Running.Room.{cells_fit}
 use Rattle.rules.specs.Running.{bits_at, valid_by, all_valid, used_limit, lent_limit, right_cells, right_values}
 use Rattle.cells.specs.Values.{first-drop}
 

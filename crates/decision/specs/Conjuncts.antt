@@ -10,7 +10,8 @@ use Rattle.std.proofs.Math.Dec.{eqb}
 use Rattle.script.specs.Tests.{pick}
 use Rattle.script.specs.Tests.Laws.{true_or_false, both_true, true-both}
 use Rattle.rules.specs.Satisfiable.{holds, satisfiable}
-use Rattle.rules.specs.Satisfiable.Laws.{Respects, satisfiable_if, satisfiable-only_if}
+use Rattle.rules.specs.Satisfiable.Laws.{Respects}
+use Rattle.rules.proofs.Satisfiable.Laws.{satisfiable_if, satisfiable-only_if}
 use Rattle.rules.specs.Symbolic.{Atom, Formula, negation, conjunction, same_atom}
 use Rattle.terms.specs.Places.{row_limit}
 use Rattle.terms.specs.Terms.{row_in, bit_of, AtomRow, TruthRow, constant_row, atom_row, negation_row, conjunction_row, equality_row, exclusion_row, of_conjunction, of_exclusion, first_atom}

@@ -13,10 +13,12 @@ use Rattle.script.specs.Tests.{pick}
 use Rattle.script.specs.Tests.Bits.{bit, bit-zero, some-bit, or_second-most}
 use Rattle.script.specs.Tests.Laws.{both_ways, true_or_false}
 use Rattle.rules.specs.Satisfiable.{holds, atoms_of, among, different_atoms, satisfiable}
-use Rattle.rules.specs.Satisfiable.Disjoint.{Disjoint, disjoint_negation, disjoint_alone}
-use Rattle.rules.specs.Satisfiable.Laws.{Respects, holds_agree, satisfiable_if, satisfiable-only_if, true-satisfiable, among_same, among-different, in_first, in_second}
+use Rattle.rules.specs.Satisfiable.Disjoint.{Disjoint}
+use Rattle.rules.proofs.Satisfiable.Disjoint.{disjoint_negation, disjoint_alone}
+use Rattle.rules.specs.Satisfiable.Laws.{Respects}
+use Rattle.rules.proofs.Satisfiable.Laws.{holds_agree, satisfiable_if, satisfiable-only_if, true-satisfiable, among_same, among-different, in_first, in_second}
 use Rattle.rules.specs.Symbolic.{Atom, Formula, constantly, negation, conjunction, same_atom}
-use Rattle.rules.specs.Symbolic.Laws.{same_atom-sym, same_atom_trans}
+use Rattle.rules.proofs.Symbolic.Laws.{same_atom-sym, same_atom_trans}
 use Rattle.terms.specs.Places.{row_limit}
 use Rattle.terms.specs.Terms.{row_in, count_in, Space, TruthRow, AtomRow, Distinct, first_atom, of_exclusion, of_conjunction}
 use Rattle.rows.specs.Code.{above, atoms_from, seen_after, rank, words, spread_of, numbers_from, blocks_of, together, condition_word, true_word, false_word, non_zero, searched_by, searched, truths_of, start_marks, marks_from, conjunct_of, decided_anew}

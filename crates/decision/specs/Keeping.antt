@@ -15,7 +15,7 @@ use Rattle.std.proofs.Math.Seq.{get_or-set_same, get_or-set_other}
 use Rattle.script.specs.Tests.{pick}
 use Rattle.script.specs.Tests.Bits.{bit}
 use Rattle.rules.specs.Satisfiable.{holds, atoms_of, among, satisfiable}
-use Rattle.rules.specs.Satisfiable.Laws.{satisfiable_if}
+use Rattle.rules.proofs.Satisfiable.Laws.{satisfiable_if}
 use Rattle.rules.specs.Symbolic.{Atom, Formula, negation, conjunction}
 use Rattle.terms.specs.Places.{row_limit, count_at, row_at}
 use Rattle.terms.specs.Terms.{row_in, count_in, AtomRow, Distinct, Grown, first_atom}

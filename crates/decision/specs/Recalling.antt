@@ -12,7 +12,7 @@ use Rattle.std.proofs.lemmas.List.{get_or_at}
 use Rattle.std.proofs.Math.Seq.{get_or-set_same}
 use Rattle.script.specs.Tests.{pick}
 use Rattle.rules.specs.Satisfiable.{atoms_of, among, different_atoms, satisfiable}
-use Rattle.rules.specs.Satisfiable.Laws.{among-different}
+use Rattle.rules.proofs.Satisfiable.Laws.{among-different}
 use Rattle.rules.specs.Symbolic.{Atom, Formula, negation, conjunction}
 use Rattle.terms.specs.Places.{row_limit}
 use Rattle.terms.specs.Terms.{row_in, TruthRow, AtomRow, first_atom, of_exclusion}

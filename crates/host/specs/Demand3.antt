@@ -10,7 +10,8 @@ use Rattle.script.specs.Limits.{node_limit, entry_limit}
 use Rattle.script.specs.declared.Checked.{Checked}
 use Rattle.script.specs.declared.Value.{Value}
 use Rattle.rules.specs.Checking.{path_limit}
-use Rattle.rules.specs.Demand3.{EndsWithValue, accepted_ends_with_value}
+use Rattle.rules.specs.Demand3.{EndsWithValue}
+use Rattle.rules.proofs.Demand3.{accepted_ends_with_value}
 use Rattle.rules.specs.Running.{values_of, right_cells, right_values}
 use Rattle.rules.specs.Typings.{HasType, HaveTypes, Fits, Extends}
 use Rattle.text.specs.Grammar.{Meaning, means, refused, meaning_of}

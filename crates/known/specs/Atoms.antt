@@ -6,9 +6,10 @@ use Rattle.script.specs.Tests.{pick}
 use Rattle.script.specs.Tests.Bits.{bit, bit-low, bit_high}
 use Rattle.script.specs.Tests.Laws.{or_first, or_second, true_or_false}
 use Rattle.rules.specs.Satisfiable.{among, different}
-use Rattle.rules.specs.Satisfiable.Laws.{Respects, among_same}
+use Rattle.rules.specs.Satisfiable.Laws.{Respects}
+use Rattle.rules.proofs.Satisfiable.Laws.{among_same}
 use Rattle.rules.specs.Symbolic.{Sum, number, word_symbol, plus, minus, Atom, truth_symbol, pair, difference, same_atom}
-use Rattle.rules.specs.Symbolic.Laws.{same_atom-refl, same_atom-sym, same_atom_trans, same_atom-right}
+use Rattle.rules.proofs.Symbolic.Laws.{same_atom-refl, same_atom-sym, same_atom_trans, same_atom-right}
 use Rattle.terms.specs.Terms.{row_in, SumRow, number_row, symbol_row, plus_row, AtomRow, truth_symbol_row, pair_row, difference_row}
 use Rattle.rows.specs.Known.{assign}
 

@@ -16,9 +16,9 @@ use Rattle.script.specs.Tests.{pick}
 use Rattle.script.specs.Tests.Bits.{bit}
 use Rattle.script.specs.Tests.Laws.{or_cases, or_first, or_second}
 use Rattle.rules.specs.Satisfiable.{atoms_of, among}
-use Rattle.rules.specs.Satisfiable.Laws.{among_same}
+use Rattle.rules.proofs.Satisfiable.Laws.{among_same}
 use Rattle.rules.specs.Symbolic.{Atom, Formula, same_atom}
-use Rattle.rules.specs.Symbolic.Laws.{same_atom-refl}
+use Rattle.rules.proofs.Symbolic.Laws.{same_atom-refl}
 use Rattle.terms.specs.Terms.{row_in, count_in, constant_row, atom_row, negation_row, conjunction_row, equality_row, exclusion_row, AtomRow, Distinct, first_atom, of_exclusion}
 use Rattle.rows.specs.Code.{seen_after, rank}
 use Rattle.rows.specs.Marks.{Part, part, Parts}

@@ -14,8 +14,8 @@ use Rattle.std.proofs.lemmas.List.{get_or_at}
 use Rattle.script.specs.Tests.Bits.{bit, bit-and, bit_xor_lem, bit_not}
 use Rattle.script.specs.Tests.Laws.{or_cases}
 use Rattle.rules.specs.Satisfiable.{holds, atoms_of, among}
-use Rattle.rules.specs.Satisfiable.Laws.{among_same, among_append}
-use Rattle.rules.specs.Symbolic.Laws.{same_atom_trans}
+use Rattle.rules.proofs.Satisfiable.Laws.{among_same, among_append}
+use Rattle.rules.proofs.Symbolic.Laws.{same_atom_trans}
 use Rattle.rules.specs.Symbolic.{Atom, Formula, constantly, atom, negation, conjunction, equality, same_atom}
 use Rattle.terms.specs.Terms.{row_in, bit_of, TruthRow, constant_row, atom_row, negation_row, conjunction_row, equality_row, exclusion_row, AtomRow, truth_symbol_row, pair_row, difference_row, of_conjunction, of_constant, of_equality, of_exclusion, of_negation, first_atom}
 use Rattle.terms.specs.declared.Row.{Row}

@@ -15,7 +15,7 @@ use Rattle.std.proofs.Math.Seq.{get_or-set_same, get_or-set_other}
 use Rattle.script.specs.Tests.{pick}
 use Rattle.script.specs.Tests.Bits.{or_first-most, or_second-most, or_first_odd, or_second_odd}
 use Rattle.rules.specs.Satisfiable.{atoms_of, among}
-use Rattle.rules.specs.Satisfiable.Laws.{in_first, in_second}
+use Rattle.rules.proofs.Satisfiable.Laws.{in_first, in_second}
 use Rattle.rules.specs.Symbolic.{Atom, Formula, negation, conjunction, equality}
 use Rattle.terms.specs.Places.{row_limit}
 use Rattle.terms.specs.Terms.{row_in, TruthRow, constant_row, atom_row, negation_row, conjunction_row, equality_row, exclusion_row, truth_symbol_row, pair_row, difference_row, of_conjunction, of_exclusion, of_negation}

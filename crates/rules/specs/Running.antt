@@ -1,6 +1,5 @@
 -- The runner's whole answer (docs/RUNS.md): the tests of the table, 35, 34, and then evaluation, with values and cells
 -- in their 5-byte form: kind, then 32 bits, low byte first. Assumes nothing.
-pub mod Inside
 pub mod Laws
 pub mod Ranges
 pub mod Room

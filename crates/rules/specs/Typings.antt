@@ -3,7 +3,6 @@ use Rattle.std.specs.Prelude.{Bool, List, [], ◌∷◌, ℕ, zero, suc, ◌^◌
 use Rattle.script.specs.Limits.{type_limit}
 use Rattle.script.specs.declared.Value.{Value}
 use Rattle.script.specs.declared.Value.TheVariants.{Word, Truth, Location}
-pub mod Laws
 
 -- the list has this element at this place
 pub data At {A : Type 0} : List A → ℕ → A → Type 0 where

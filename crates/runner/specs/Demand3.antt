@@ -7,7 +7,8 @@ use Rattle.script.specs.Table.{entries_of}
 use Rattle.script.specs.declared.Checked.{Checked}
 use Rattle.script.specs.declared.Ran.{Ran}
 use Rattle.rules.specs.Checking.{check_table}
-use Rattle.rules.specs.Demand3.{EndsWithValue, accepted_ends_with_value}
+use Rattle.rules.specs.Demand3.{EndsWithValue}
+use Rattle.rules.proofs.Demand3.{accepted_ends_with_value}
 use Rattle.rules.specs.Running.{Run, values_of, within_limits}
 use Rattle.rules.specs.Typings.{Fits, HaveTypes}
 use Rattle.runner.specs.Answered.{Answered}

@@ -1,3 +1,2 @@
-pub mod LowestWrong
 pub mod Walk
 pub mod Words

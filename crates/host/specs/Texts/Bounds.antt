@@ -18,12 +18,15 @@ use Rattle.script.specs.declared.Refusal.{Refusal}
 use Rattle.script.specs.declared.Refusal.TheVariants.{BadCells, BadValues}
 use Rattle.script.specs.declared.Value.{Value}
 use Rattle.rules.specs.Checking.{path_limit}
-use Rattle.rules.specs.Checking.Bounds.{Bounded, code, refusal, table-bounded}
+use Rattle.rules.specs.Checking.Bounds.{Bounded, code, refusal}
+use Rattle.rules.proofs.Checking.Bounds.{table-bounded}
 use Rattle.rules.specs.Evaluation.{Outcome}
 use Rattle.rules.specs.Evaluation.Laws.{cells_of}
-use Rattle.rules.specs.Evaluation.Places.{FailsBelow, gives, fails, eval-below}
+use Rattle.rules.specs.Evaluation.Places.{FailsBelow, gives, fails}
+use Rattle.rules.proofs.Evaluation.Places.{eval-below}
 use Rattle.rules.specs.Running.{lent_limit, values_of, right_cells, right_values, finished, ran_by, run_test, run_table}
-use Rattle.rules.specs.Running.Room.{outcome, cells_suffice}
+use Rattle.rules.specs.Running.Room.{outcome}
+use Rattle.rules.proofs.Running.Room.{cells_suffice}
 use Rattle.text.specs.Grammar.{Meaning, means, refused, meaning_of}
 use Rattle.text.specs.Grammar.Bounds.{RefusedBelow, is-refused, meaning-below}
 use Rattle.text.specs.OneSpelling.{read_passes}

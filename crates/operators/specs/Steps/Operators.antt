@@ -13,10 +13,11 @@ use Rattle.script.specs.declared.Node.{Node}
 use Rattle.script.specs.declared.Value.{Value}
 use Rattle.script.specs.declared.Value.TheVariants.{Word, Truth, Location}
 use Rattle.rules.specs.Evaluation.{Outcome, gave, failed, found, equal, unary_on, binary_on}
-use Rattle.rules.specs.Evaluation.Every.{every_next}
+use Rattle.rules.proofs.Evaluation.Every.{every_next}
 use Rattle.rules.specs.Evaluation.Laws.{cells_of}
 use Rattle.rules.specs.Running.{bytes_of, value_at, values_of, stored}
-use Rattle.rules.specs.Running.Laws.{InRange, length-values, values-some, values-none}
+use Rattle.rules.specs.Running.Laws.{InRange}
+use Rattle.rules.proofs.Running.Laws.{length-values, values-some, values-none}
 use Rattle.operators.specs.Steps.{Cells, Variables, Does, Says, step_of, leaf_on, one_on, two_on, next_on, Bound, Holds}
 use Rattle.operators.specs.Steps.Values.{holds-stored, stored-holds, stored-set, stored_next, kept_next}
 use Rattle.operators.specs.declared.Next.TheVariants.{Operand}

@@ -7,7 +7,8 @@ use Rattle.std.proofs.Math.Seq.{length_front, drop-append-add}
 use Rattle.std.proofs.lemmas.List.{take-set-le}
 use Rattle.script.specs.declared.Value.{Value}
 use Rattle.rules.specs.Running.{bytes_of, all_bytes, values_of, stored}
-use Rattle.rules.specs.Running.Laws.{AllInRange, values-bytes, length-bytes}
+use Rattle.rules.specs.Running.Laws.{AllInRange}
+use Rattle.rules.proofs.Running.Laws.{values-bytes, length-bytes}
 use Rattle.operators.specs.Steps.{Holds}
 
 -- ---- lists

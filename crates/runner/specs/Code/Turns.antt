@@ -11,10 +11,13 @@ use Rattle.script.specs.Tree.{Expr, size}
 use Rattle.script.specs.declared.Node.{Node}
 use Rattle.script.specs.declared.Value.{Value}
 use Rattle.rules.specs.Evaluation.{Outcome, gave, failed, after, eval}
-use Rattle.rules.specs.Evaluation.Laws.{cells_of, Grows, grows-gave, grows-failed, grows-after, grows-unary, grows-binary, eval-grows}
+use Rattle.rules.specs.Evaluation.Laws.{cells_of, Grows}
+use Rattle.rules.proofs.Evaluation.Laws.{grows-gave, grows-failed, grows-after, grows-unary, grows-binary, eval-grows}
 use Rattle.rules.specs.Running.{values_of, stored}
-use Rattle.rules.specs.Running.Laws.{InRange, length-values}
-use Rattle.rules.specs.Running.Ranges.{OutcomeInRange, gave_in_range, failed_in_range, eval_in_range}
+use Rattle.rules.specs.Running.Laws.{InRange}
+use Rattle.rules.proofs.Running.Laws.{length-values}
+use Rattle.rules.specs.Running.Ranges.{OutcomeInRange, gave_in_range, failed_in_range}
+use Rattle.rules.proofs.Running.Ranges.{eval_in_range}
 use Rattle.operators.specs.Steps.{Holds, Cells, Variables, Does, Says, leaf_on, one_on, two_on, next_on, Bound, rest_by, rest_on, rest_size, Ready, Halfway, Runs}
 use Rattle.operators.specs.Steps.Operators.{does-says, does-failed}
 use Rattle.operators.specs.Steps.Values.{holds-values, holds_front, stored-holds, stored-length, stored_over}

@@ -18,8 +18,9 @@ use Rattle.script.specs.declared.Refusal.{Refusal}
 use Rattle.script.specs.declared.Value.{Value}
 use Rattle.rules.specs.Evaluation.{Outcome, gave, failed, eval}
 use Rattle.rules.specs.Running.{Run, values_of, all_valid, used_limit, lent_limit, right_cells, right_values, finished, run_test, run_table}
-use Rattle.rules.specs.Running.Laws.{Bytes, bytes-values, length-values, values_in_range}
-use Rattle.rules.specs.Running.Room.{cells_fit, values_fit}
+use Rattle.rules.specs.Running.Laws.{Bytes}
+use Rattle.rules.proofs.Running.Laws.{bytes-values, length-values, values_in_range}
+use Rattle.rules.proofs.Running.Room.{cells_fit, values_fit}
 use Rattle.operators.specs.Steps.{Holds, Does, Ready, Runs}
 use Rattle.operators.specs.Steps.Values.{holds-values}
 use Rattle.operators.specs.declared.Step.{Step}

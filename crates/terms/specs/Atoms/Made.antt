@@ -5,7 +5,8 @@ use Rattle.std.proofs.lemmas.Bool.{false≢true, eqb-false}
 use Rattle.std.proofs.Common.{inl, inr, sym, ◌∙◌, arith, eqb-true, eq-eqb}
 use Rattle.script.specs.Tests.Laws.{both_true, true-both, or_cases, or_first, or_second}
 use Rattle.rules.specs.Symbolic.{Atom, truth_symbol, pair, same_atom, atom, constantly, Origin, apart, equal_references}
-use Rattle.rules.specs.Symbolic.Laws.{SameAtoms, same-atoms, atoms-same, same_atom-refl}
+use Rattle.rules.specs.Symbolic.Laws.{SameAtoms}
+use Rattle.rules.proofs.Symbolic.Laws.{same-atoms, atoms-same, same_atom-refl}
 use Rattle.terms.specs.Atoms.{holds, is_atom, atom_at, atom_row_of, atom_left, references_row, references_left}
 use Rattle.terms.specs.Atoms.Laws.{left-found, left-made, row_one, left_one, row_apart, left-apart, row_open, left_open}
 use Rattle.terms.specs.References.{reference_at, symbol_at, apart_at}

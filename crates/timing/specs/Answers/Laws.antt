@@ -12,7 +12,7 @@ use Rattle.script.specs.Tests.{lowest}
 use Rattle.script.specs.declared.Node.{Node}
 use Rattle.script.specs.declared.Place.{Place}
 use Rattle.script.specs.declared.Place.TheVariants.{At, Nowhere}
-use Rattle.uses.specs.LowestWrong.{walk-lowest}
+use Rattle.uses.proofs.LowestWrong.{walk-lowest}
 use Rattle.uses.specs.Walk.{place_found, walk}
 use Rattle.uses.specs.declared.State.{State}
 use Rattle.timing.specs.Answers.{node_named, wrong_use}

@@ -1,7 +1,7 @@
 -- `uses::walk` meets its contract. The loop's invariant: the state is that after the first i nodes. Assumes nothing.
 use mathlib.Core.Path.{◌∙◌}
 use native.Mathlib.Omega.{arith}
-use Rattle.uses.specs.Walk.Laws.{walk_none, walk-fits, walk_turn, walk_end}
+use Rattle.uses.proofs.Laws.{walk_none, walk-fits, walk_turn, walk_end}
 use Rattle.uses.proofs.walk.Goals as goal
 
 pub loop-i-init : goal.loop-i-init

@@ -1,7 +1,7 @@
 -- `uses::with_use` meets its contract, case by case. Assumes nothing.
 use borrow.Author.Rules.{rules}
 use mathlib.Core.Path.{sym, ◌∙◌}
-use Rattle.uses.specs.Walk.Laws.{low-once, low_again, high-once, high-again, no_node}
+use Rattle.uses.proofs.Laws.{low-once, low_again, high-once, high-again, no_node}
 use Rattle.uses.proofs.with_use.Goals as goal
 
 pub without_bit-requires : goal.without_bit-requires

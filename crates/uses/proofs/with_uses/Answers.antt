@@ -1,5 +1,5 @@
 -- `uses::with_uses` meets its contract, by the count of the node's operands. Assumes nothing.
-use Rattle.uses.specs.Walk.Laws.{no_operand, one_operand, two_operands, three_operands}
+use Rattle.uses.proofs.Laws.{no_operand, one_operand, two_operands, three_operands}
 use Rattle.uses.proofs.with_uses.Goals as goal
 
 pub returns-then-count-eq0 : goal.returns-then-count-eq0

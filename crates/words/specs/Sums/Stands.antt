@@ -7,9 +7,11 @@ use Rattle.std.proofs.Math.Dec.{eqb-suc-suc, eqb-zero-suc, eqb-suc-zero}
 use Rattle.std.proofs.lemmas.List.{length-replicate}
 use Rattle.std.proofs.lemmas.Bool.{eqb-false, not-false}
 use Rattle.script.specs.Tests.Laws.{both_ways, or_cases, or_first, or_second}
-use Rattle.rules.specs.Demand3.Congruence.{Same, same_refl, same_eq, same-sym, same_trans, same_mod, same-plus, same-opposite}
+use Rattle.rules.specs.Demand3.Congruence.{Same}
+use Rattle.rules.proofs.Demand3.Congruence.{same_refl, same_eq, same-sym, same_trans, same_mod, same-plus, same-opposite}
 use Rattle.rules.specs.Symbolic.{Sum, plus, plus_each, opposite, opposite_each, negated, minus, is_zero, is_constant, difference}
-use Rattle.rules.specs.Symbolic.Laws.{Congruent, all-zero, zero-all, opposite-at, opposite-same, SameAtoms}
+use Rattle.rules.specs.Symbolic.Laws.{Congruent, SameAtoms}
+use Rattle.rules.proofs.Symbolic.Laws.{all-zero, zero-all, opposite-at, opposite-same}
 use Rattle.terms.specs.Places.{row_limit, symbol_limit}
 use Rattle.terms.specs.Search.{nowhere-each, each-nowhere}
 use Rattle.terms.specs.Terms.{row_in, SumRow, of_sum}

@@ -10,7 +10,8 @@ use Rattle.std.proofs.lemmas.List.{length-replicate, get_or_at}
 use Rattle.std.proofs.Math.Seq.{get_or-set_other}
 use Rattle.std.proofs.lemmas.Bool.{eqb-false}
 use Rattle.script.specs.Tests.{pick}
-use Rattle.rules.specs.Demand3.Congruence.{Same, same_refl, same_eq, same_trans, same_mod, same-plus, same_times}
+use Rattle.rules.specs.Demand3.Congruence.{Same}
+use Rattle.rules.proofs.Demand3.Congruence.{same_refl, same_eq, same_trans, same_mod, same-plus, same_times}
 use Rattle.terms.specs.Places.{row_limit}
 use Rattle.terms.specs.Terms.{row_in, of_number, of_sum}
 use Rattle.terms.specs.declared.Row.{Row}

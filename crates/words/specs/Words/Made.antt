@@ -4,7 +4,8 @@ use Rattle.std.proofs.lemmas.Bool.{false≢true}
 use Rattle.std.proofs.Common.{inl, inr, sym, ap₂, ◌∙◌, arith}
 use Rattle.script.specs.Tests.Laws.{both_true, true-both}
 use Rattle.rules.specs.Symbolic.{Sum, minus, Atom, difference, atom, equal_sums}
-use Rattle.rules.specs.Symbolic.Laws.{SameAtoms, atoms-same, same_atom-refl}
+use Rattle.rules.specs.Symbolic.Laws.{SameAtoms}
+use Rattle.rules.proofs.Symbolic.Laws.{atoms-same, same_atom-refl}
 use Rattle.terms.specs.Atoms.Laws.{left-found, left-made}
 use Rattle.terms.specs.Atoms.Made.{not_same}
 use Rattle.terms.specs.Places.{row_limit}

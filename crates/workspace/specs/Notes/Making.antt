@@ -15,7 +15,8 @@ use Rattle.script.specs.Tests.Laws.{true_or_false}
 use Rattle.script.specs.Tree.{Expr}
 use Rattle.script.specs.declared.Checked.TheVariants.{Accepted}
 use Rattle.rules.specs.Checking.{check}
-use Rattle.rules.specs.Checking.Mentions.{mentions, check-same}
+use Rattle.rules.specs.Checking.Mentions.{mentions}
+use Rattle.rules.proofs.Checking.Mentions.{check-same}
 use Rattle.terms.specs.Places.{symbol_limit}
 use Rattle.workspace.specs.Notes.{base_in, operand_in, note_depth, type_in, names_in, name_in, named_type, Named, named, Nameable, names_from, names_to, Naming, Names, noted_as, Agrees, NoteOf, Kept, Noted}
 use Rattle.workspace.specs.Notes.Keeping.{note_same}

@@ -4,7 +4,7 @@ use Rattle.std.specs.Prelude.{List, [], ◌∷◌, ◌++◌, ◌≡◌, refl, �
 use Rattle.std.proofs.Math.Path.{sym}
 use Rattle.std.proofs.Common.{ap, ◌∙◌, add-one, arith, length-set, get_or-set_same, get_or-set_other}
 use Rattle.rules.specs.Paths.{start}
-use Rattle.rules.specs.Satisfiable.Laws.{true-satisfiable}
+use Rattle.rules.proofs.Satisfiable.Laws.{true-satisfiable}
 use Rattle.rules.specs.Symbolic.{initial, Symbolic, symbol, symbols}
 use Rattle.terms.specs.Places.{symbol_limit, count_at, variables_end, row_at}
 use Rattle.terms.specs.Terms.{Space, pushed, Distinct, Grown, of_constant}

@@ -5,7 +5,7 @@ use Rattle.script.specs.Tests.{pick}
 use Rattle.script.specs.declared.Refusal.TheVariants.{WrongType, TooManyAtoms}
 use Rattle.rules.specs.Paths.{Path, Paths, stops, forks}
 use Rattle.rules.specs.Satisfiable.{satisfiable, different_atoms}
-use Rattle.rules.specs.Satisfiable.Laws.{one_branch}
+use Rattle.rules.proofs.Satisfiable.Laws.{one_branch}
 use Rattle.rules.specs.Symbolic.{Formula, negation, conjunction, Symbolic, a_truth}
 use Rattle.rules.specs.SymbolicRules.{branches, decide, atom_limit}
 use Rattle.terms.specs.Terms.{count_in, Space, TruthRow, of_conjunction, of_exclusion}

@@ -14,7 +14,7 @@ use Rattle.script.specs.declared.Checked.{Checked}
 use Rattle.script.specs.declared.Checked.TheVariants.{Accepted, Refused}
 use Rattle.script.specs.declared.Node.{Node}
 use Rattle.rules.specs.Checking.{check, exec}
-use Rattle.rules.specs.Checking.Mentions.{then_same, bind-same}
+use Rattle.rules.proofs.Checking.Mentions.{then_same, bind-same}
 use Rattle.rules.specs.Paths.{Path, Paths, ends, stops, forks, bind, start, leaves}
 use Rattle.rules.specs.Symbolic.{Symbolic, type_of, symbols}
 use Rattle.rules.specs.SymbolicRules.{unary_exec, binary_exec, decide, typed_result, verdict}

@@ -13,7 +13,7 @@ use Rattle.script.specs.Rows.Kinds.{kind_for}
 use Rattle.script.specs.Tree.{size}
 use Rattle.script.specs.declared.Refusal.{Refusal}
 use Rattle.rules.specs.Checking.{exec}
-use Rattle.rules.specs.Checking.Mentions.{bind-same}
+use Rattle.rules.proofs.Checking.Mentions.{bind-same}
 use Rattle.rules.specs.Paths.{Path, Paths, stops, forks, bind, Leaf, stopped, leaves}
 use Rattle.rules.specs.Symbolic.{Formula, Symbolic, a_truth}
 use Rattle.rules.specs.SymbolicRules.{decide}

@@ -13,7 +13,7 @@ use Rattle.script.specs.declared.Checked.TheVariants.{Accepted, Refused}
 use Rattle.script.specs.declared.Refusal.{Refusal}
 use Rattle.script.specs.declared.Refusal.TheVariants.{TooManyPaths}
 use Rattle.rules.specs.Checking.{exec}
-use Rattle.rules.specs.Checking.Laws.{first-path}
+use Rattle.rules.proofs.Checking.Laws.{first-path}
 use Rattle.rules.specs.Paths.{Paths, bind, Leaf, start, leaves}
 use Rattle.rules.specs.Symbolic.{Symbolic, symbols}
 use Rattle.rules.specs.SymbolicRules.{first_type, judge, verdict}

@@ -13,19 +13,23 @@ use Rattle.script.specs.declared.Checked.TheVariants.{Accepted, Refused}
 use Rattle.script.specs.declared.Refusal.TheVariants.{WrongType, TooManyReferences, InconsistentLog, TooManyAtoms}
 use Rattle.script.specs.declared.Value.{Value}
 use Rattle.script.specs.declared.Value.TheVariants.{Truth, Location}
-use Rattle.rules.specs.Demand3.Meaning.{Entry, entry, atom_at, atoms_respect}
-use Rattle.rules.specs.Demand3.Memory.{Memory, consistent-fits, fitting, value-live, snoc_length, memory-fresh, memory-ref, memory-set}
-use Rattle.rules.specs.Demand3.Promises.{Ends, Promise, kept, State, Follows, at_end_lem, at-stop, first, second, follows-earlier}
-use Rattle.rules.specs.Demand3.Stands.{StandsFor, word_for, truth_for, reference_for, symbol-stands, plus-stands, equal_words, negation-stands, conjunction-stands, equality-stands, equal-references}
+use Rattle.rules.specs.Demand3.Meaning.{Entry, entry, atom_at}
+use Rattle.rules.proofs.Demand3.Meaning.{atoms_respect}
+use Rattle.rules.specs.Demand3.Memory.{Memory}
+use Rattle.rules.proofs.Demand3.Memory.{consistent-fits, fitting, value-live, snoc_length, memory-fresh, memory-ref, memory-set}
+use Rattle.rules.specs.Demand3.Promises.{Ends, Promise, kept, State, Follows, at_end_lem, at-stop, first, second}
+use Rattle.rules.proofs.Demand3.Promises.{follows-earlier}
+use Rattle.rules.specs.Demand3.Stands.{StandsFor, word_for, truth_for, reference_for}
+use Rattle.rules.proofs.Demand3.Stands.{symbol-stands, plus-stands, equal_words, negation-stands, conjunction-stands, equality-stands, equal-references}
 use Rattle.rules.specs.Evaluation.{Outcome, gave, failed, found, unary_on, binary_on, branch_on}
 use Rattle.rules.specs.Paths.{Path, Paths, write_of, ends, stops, assume, write, taken, forget, consistent, lookup, fresh}
 use Rattle.rules.specs.Satisfiable.{holds, satisfiable, different_atoms}
-use Rattle.rules.specs.Satisfiable.Laws.{satisfiable_if}
+use Rattle.rules.proofs.Satisfiable.Laws.{satisfiable_if}
 use Rattle.rules.specs.Symbolic.{Formula, negation, conjunction, Origin, made, other, Symbolic, a_truth, a_reference, type_of, equal_references}
 use Rattle.rules.specs.SymbolicRules.{got, unary_exec, binary_exec, branches, atom_limit, decide, typed_result}
 use Rattle.rules.specs.TypedRules.{is_type}
 use Rattle.rules.specs.Typings.{At, HasType, Fits, Extends}
-use Rattle.rules.specs.Typings.Laws.{at-found, at_last, below_at, extends_self, extends_trans, extends_append, extends-length, each_at, each-length}
+use Rattle.rules.proofs.Typings.Laws.{at-found, at_last, below_at, extends_self, extends_trans, extends_append, extends-length, each_at, each-length}
 
 -- the path ends here, with nothing new but the value
 pub ends_with : {typing : List ℕ} {ρ : List Entry} {v : Symbolic} {p : Path} {x : Value} {cs : List Value}

@@ -16,7 +16,8 @@ use Rattle.script.specs.Tests.Laws.{some-lowest, none-lowest}
 use Rattle.script.specs.declared.Node.{Node}
 use Rattle.script.specs.declared.Place.TheVariants.{At, Nowhere}
 use Rattle.uses.specs.Walk.{half, first_unused, lowest_wrong, place_found, walk}
-use Rattle.uses.specs.Walk.Laws.{unused_at, unused-low, unused-high, Says, says-walk, answer-walk}
+use Rattle.uses.specs.Walk.Laws.{unused_at, Says}
+use Rattle.uses.proofs.Laws.{unused-low, unused-high, says-walk, answer-walk}
 use Rattle.uses.specs.Words.{First, first_bit}
 use Rattle.uses.specs.declared.Uses.{Uses}
 

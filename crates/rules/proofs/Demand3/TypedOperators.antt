@@ -16,7 +16,7 @@ use Rattle.rules.specs.Demand3.Promises.{Promise, kept, free}
 use Rattle.rules.specs.Evaluation.{Outcome, gave, failed, found, equal, unary_on, binary_on}
 use Rattle.rules.specs.TypedRules.{is_type, wrong, unary_type, binary_type}
 use Rattle.rules.specs.Typings.{At, HasType, is_word, is-truth, is_location, Fits}
-use Rattle.rules.specs.Typings.Laws.{at-found, at_last, extends_self, extends_append, each_at, each_last, each_set, each-length, type-extends, types_extend}
+use Rattle.rules.proofs.Typings.Laws.{at-found, at_last, extends_self, extends_append, each_at, each_last, each_set, each-length, type-extends, types_extend}
 
 -- the cells as they are and a value of the type
 pub ends-here : {typing : List ℕ} {t : ℕ} {v : Value} {cs : List Value} → Fits typing cs → HasType typing v t → Promise typing (Accepted t) (gave v cs)

@@ -7,11 +7,13 @@ use Rattle.script.specs.Table.{Table}
 use Rattle.script.specs.Tests.Laws.{both_true}
 use Rattle.script.specs.Tree.{tree_of}
 use Rattle.rules.specs.Evaluation.Every.{no_value, one_value}
-use Rattle.rules.specs.Evaluation.Inside.{Inside, word_inside, truth_inside, location_inside, AllInside, eval-inside}
+use Rattle.rules.specs.Evaluation.Inside.{Inside, word_inside, truth_inside, location_inside, AllInside}
+use Rattle.rules.proofs.Evaluation.Inside.{eval-inside}
 use Rattle.rules.specs.Evaluation.Keeps.{OutcomeHas}
 use Rattle.rules.specs.Running.{bits_at, value_by, values_of, valid_by, all_valid, right_cells, right_values, within_limits}
-use Rattle.rules.specs.Running.Laws.{length-values}
-use Rattle.rules.specs.Running.Room.{values_fit, outcome}
+use Rattle.rules.proofs.Running.Laws.{length-values}
+use Rattle.rules.specs.Running.Room.{outcome}
+use Rattle.rules.proofs.Running.Room.{values_fit}
 
 valid_value : (used k bits : ℕ) → valid_by used k bits ≡ true → Inside used (value_by k bits)
 valid_value used zero bits h = word_inside

@@ -15,11 +15,13 @@ use Rattle.script.specs.declared.Value.{Value}
 use Rattle.script.specs.declared.Value.TheVariants.{Truth}
 use Rattle.rules.specs.Checking.{known, check, exec}
 use Rattle.rules.specs.Demand3.Meaning.{Entry, entry, atom_at}
-use Rattle.rules.specs.Demand3.Memory.{consistent-fits, memory_start}
-use Rattle.rules.specs.Demand3.Promises.{Promise, kept, free, promise_then, State, Follows, at_end_lem, at-stop, first, second, follows_then}
-use Rattle.rules.specs.Demand3.Stands.{StandsFor, stands-extends, each-stands-extends, stands-type, stand_types, symbols_stand, valuation, number-stands, constantly-stands}
-use Rattle.rules.specs.Demand3.SymbolicOperators.{ends_with, unary-follows, binary-follows, decide-follows, typed-follows}
-use Rattle.rules.specs.Demand3.TypedOperators.{ends-here, unary_kept, binary-kept, compared}
+use Rattle.rules.proofs.Demand3.Memory.{consistent-fits, memory_start}
+use Rattle.rules.specs.Demand3.Promises.{Promise, kept, free, State, Follows, at_end_lem, at-stop, first, second}
+use Rattle.rules.proofs.Demand3.Promises.{promise_then, follows_then}
+use Rattle.rules.specs.Demand3.Stands.{StandsFor, valuation}
+use Rattle.rules.proofs.Demand3.Stands.{stands-extends, each-stands-extends, stands-type, stand_types, symbols_stand, number-stands, constantly-stands}
+use Rattle.rules.proofs.Demand3.SymbolicOperators.{ends_with, unary-follows, binary-follows, decide-follows, typed-follows}
+use Rattle.rules.proofs.Demand3.TypedOperators.{ends-here, unary_kept, binary-kept, compared}
 use Rattle.rules.specs.Evaluation.{Outcome, gave, failed, after, found, branch_on, unary_on, binary_on, eval}
 use Rattle.rules.specs.Paths.{Path, Paths, Leaf, ends, ended, stopped, consistent, bind, leaves}
 use Rattle.rules.specs.Satisfiable.{holds}
@@ -27,7 +29,7 @@ use Rattle.rules.specs.Symbolic.{constantly, initial, Symbolic, type_of}
 use Rattle.rules.specs.SymbolicRules.{unary_exec, binary_exec, decide, variable, first_type, judge, verdict}
 use Rattle.rules.specs.TypedRules.{and_then, unary_type, binary_type, if_type}
 use Rattle.rules.specs.Typings.{HasType, is_word, is-truth, is_location, Each, Fits, HaveTypes}
-use Rattle.rules.specs.Typings.Laws.{at-found, found_at, each_at, each_from, each_last, each-length, type-extends, types_extend}
+use Rattle.rules.proofs.Typings.Laws.{at-found, found_at, each_at, each_from, each_last, each-length, type-extends, types_extend}
 
 -- ---- the paths of a `sym`
 

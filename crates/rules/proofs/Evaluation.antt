@@ -1,0 +1,5 @@
+pub mod Every
+pub mod Inside
+pub mod Keeps
+pub mod Laws
+pub mod Places

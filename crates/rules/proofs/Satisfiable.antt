@@ -1,0 +1,2 @@
+pub mod Disjoint
+pub mod Laws
