@@ -11,7 +11,6 @@ use Rattle.script.specs.declared.Refusal.{Refusal}
 use Rattle.script.specs.declared.Refusal.TheVariants.{OutputTooShort}
 use Rattle.script.specs.declared.Writing.{Writing}
 use Rattle.text.specs.Bytes.{lf, tab, digit0, letter_b, letter_i, letter_r, entry_word}
-pub mod Laws
 
 -- ---- fields
 

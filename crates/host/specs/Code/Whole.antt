@@ -18,7 +18,7 @@ use Rattle.script.specs.declared.Script.{Script}
 use Rattle.rules.specs.Checking.{path_limit, CheckedBy}
 use Rattle.text.specs.Grammar.{means, refused, meaning_of}
 use Rattle.text.specs.LowestPlace.{reading-refused}
-use Rattle.text.specs.OneSpelling.{read_passes, read_as}
+use Rattle.text.proofs.OneSpelling.{read_passes, read_as}
 use Rattle.text.specs.Reading.{Outcome, Left, leaves, reading, reading_in, filled, table_read}
 use Rattle.runner.specs.Answered.{Answered}
 use Rattle.host.specs.Texts.{check_text, run_text, RanTo}

@@ -29,7 +29,7 @@ use Rattle.rules.specs.Running.Room.{outcome}
 use Rattle.rules.proofs.Running.Room.{cells_suffice}
 use Rattle.text.specs.Grammar.{Meaning, means, refused, meaning_of}
 use Rattle.text.specs.Grammar.Bounds.{RefusedBelow, is-refused, meaning-below}
-use Rattle.text.specs.OneSpelling.{read_passes}
+use Rattle.text.proofs.OneSpelling.{read_passes}
 use Rattle.text.specs.Reading.{table_read}
 use Rattle.host.specs.Texts.{check_meant, check_text, run_meant, run_text}
 

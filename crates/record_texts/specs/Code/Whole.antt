@@ -18,7 +18,7 @@ use Rattle.script.specs.declared.Reading.{Reading}
 use Rattle.script.specs.declared.Refusal.TheVariants.{TableTooSmall}
 use Rattle.script.specs.declared.Writing.{Writing}
 use Rattle.text.specs.Grammar.{Meaning, means, refused, meaning_of}
-use Rattle.text.specs.OneSpelling.{read_passes}
+use Rattle.text.proofs.OneSpelling.{read_passes}
 use Rattle.text.specs.Reading.{outcome_of as read_to, nodes_read, filled, table_read, tried, reading, leaves, left_by, reading_in}
 use Rattle.text.specs.Writing.{text_of, outcome_of, writing}
 use Rattle.copies.specs.Copies.{flat_size, CopiedOut, places, table_of}

@@ -10,7 +10,6 @@ use Rattle.text.specs.Writing.{digits, text_of}
 pub mod Fields
 pub mod Laws
 pub mod Lines
-pub mod Passed
 
 -- the bytes are stored from place `at` on, as far as they fit, and the place after them is given
 pub record Put (bytes : List ℕ) (at : ℕ) (out : List ℕ) (next : ℕ) (out' : List ℕ) : Type 0 where

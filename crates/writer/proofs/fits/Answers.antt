@@ -7,7 +7,7 @@ use Rattle.text.specs.Code.Output.{text_in}
 use Rattle.text.specs.Code.Output.Laws.{put_empty}
 use Rattle.text.specs.SameTable.{text-most}
 use Rattle.text.specs.Writing.{long_enough}
-use Rattle.text.specs.Writing.Laws.{long-enough}
+use Rattle.text.proofs.Writing.Laws.{long-enough}
 use Rattle.writer.proofs.fits.Goals as goal
 
 pub returns-then-out-ge-BYTES : goal.returns-then-out-ge-BYTES

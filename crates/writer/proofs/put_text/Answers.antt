@@ -1,7 +1,7 @@
 -- `writer::put_text` meets its contract: a table that passed its tests lends what its lines need. Assumes nothing.
 use native.Mathlib.Omega.{arith}
 use Rattle.script.specs.Flat.{table_in}
-use Rattle.text.specs.Code.Output.Passed.{entries-lent, nodes-lent, kinds_known, parts-most, put_parts}
+use Rattle.text.proofs.Output.Passed.{entries-lent, nodes-lent, kinds_known, parts-most, put_parts}
 use Rattle.writer.proofs.put_text.Goals as goal
 
 pub put_entries-after_entries-requires : goal.put_entries-after_entries-requires

@@ -3,7 +3,7 @@ use mathlib.Core.Path.{sym, ◌∙◌}
 use Rattle.script.specs.Flat.{table_in}
 use Rattle.script.specs.Table.{table_test}
 use Rattle.script.specs.Code.TableTests.Laws.{passed_none}
-use Rattle.text.specs.Code.Output.Passed.{turned_down}
+use Rattle.text.proofs.Output.Passed.{turned_down}
 use Rattle.writer.proofs.write.Goals as goal
 
 pub write_passed-requires : goal.write_passed-requires

@@ -1,7 +1,7 @@
 -- `writer::write_passed` meets its contract: the text where it fits, else the bytes as they were. Assumes nothing.
 use mathlib.Core.Path.{sym, ◌∙◌}
 use Rattle.script.specs.Flat.{table_in}
-use Rattle.text.specs.Code.Output.Passed.{wrote, short}
+use Rattle.text.proofs.Output.Passed.{wrote, short}
 use Rattle.writer.proofs.write_passed.Goals as goal
 
 pub returns-then-fits : goal.returns-then-fits

@@ -20,7 +20,7 @@ use Rattle.script.specs.declared.table.Tested.{Tested}
 use Rattle.text.specs.Code.Output.{Put, text_in}
 use Rattle.text.specs.Code.Output.Laws.{put_then, put_text}
 use Rattle.text.specs.SameTable.{text-most}
-use Rattle.text.specs.Writing.Laws.{enough-fits}
+use Rattle.text.proofs.Writing.Laws.{enough-fits}
 use Rattle.text.specs.Writing.{outcome, text_of, entries_text, nodes_text, long_enough, writing}
 
 module _ (xs : List ℕ) (n : ℕ) (es : List ℕ) (m : ℕ) (e : table_test (table_in xs n es m) ≡ none) where
