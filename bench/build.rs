@@ -1,4 +1,4 @@
-//! Links the verified reader and writer, `libtiming.a`, if it is there: `rt staticlib timing`. It is
+//! Links the verified reader and writer, `libtiming.a`, if it is there: `./build timing`. It is
 //! looked for where `conformance` finds `libhost.a`. Without it they are not timed by themselves.
 
 use std::env;

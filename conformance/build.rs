@@ -11,7 +11,7 @@ fn main() {
     println!("cargo:rerun-if-changed={}", archive.display());
     if !archive.is_file() {
         eprintln!("{} is not there.", archive.display());
-        eprintln!("make it with: rt staticlib host");
+        eprintln!("make it with: ./build host");
         std::process::exit(1);
     }
     println!("cargo:rustc-link-search=native={}", folder.display());

@@ -7,7 +7,7 @@
  * entry's type, where a location has its cell's type with one `r` more. docs/SCRIPTS.md says how a
  * script is written.
  *
- * To link: build the library in the project's root with `rt staticlib host`, then add
+ * To link: build the library in the project's root with `./build host`, then add
  * target/staticlib/libhost.a to the linker's inputs. It is for x86-64 and needs nothing but the C
  * library.
  *

@@ -38,7 +38,7 @@ fn main() {
     if !texts::LINKED {
         println!();
         println!(
-            "Reading, writing and test 5 alone were not timed: `rt staticlib timing` comes first."
+            "Reading, writing and test 5 alone were not timed: `./build timing` comes first."
         );
     }
 }

@@ -18,7 +18,7 @@ fn program() -> PathBuf {
     let path = env::var_os("TEQHARIS_MIXCHECK").map_or(here, PathBuf::from);
     assert!(
         path.is_file(),
-        "{} is not there; make it with: rt check mixcheck",
+        "{} is not there; make it with: ./build mixcheck",
         path.display()
     );
     path

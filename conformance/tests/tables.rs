@@ -124,7 +124,7 @@ fn printed(input: &str) -> String {
         .stdout(Stdio::piped())
         .spawn();
     let mut child = program.unwrap_or_else(|error| {
-        panic!("{}: {error}; make it with: rt check tables", path.display())
+        panic!("{}: {error}; make it with: ./build tables", path.display())
     });
     let mut stdin = child.stdin.take().expect("standard input is a pipe");
     let input = input.to_string();

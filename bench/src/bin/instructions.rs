@@ -26,7 +26,7 @@ out. The calls go over all inputs of the set, again and again; the count is thei
 
 fn main() -> io::Result<()> {
     if !texts::LINKED {
-        eprintln!("Nothing can be counted: `rt staticlib timing` comes first.");
+        eprintln!("Nothing can be counted: `./build timing` comes first.");
         exit(1);
     }
     match env::args().skip(1).collect::<Vec<_>>().as_slice() {

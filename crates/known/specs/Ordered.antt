@@ -13,7 +13,7 @@ use Rattle.std.proofs.Math.Seq.{get_or_at}
 use Rattle.script.specs.Tests.{pick}
 use Rattle.terms.specs.Places.{row_limit}
 use Rattle.terms.specs.Terms.{row_in, first_atom, of_truth}
-use Rattle.rows.specs.Code.{seen_after, rank, words, rows_from, seen_at, seen_to, number_row, numbers_to, numbered_to, no_numbers, numbers_from, evaluate_row, evaluated_to, change_row, changed_to}
+use Rattle.rows.specs.Code.{seen_after, rank, rows_from, seen_at, seen_to, number_row, numbers_to, numbered_to, no_numbers, numbers_from, evaluate_row, evaluated_to, change_row, changed_to}
 
 -- ---- the first rows alone count
 

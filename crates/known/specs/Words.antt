@@ -5,7 +5,7 @@ use Rattle.std.proofs.Math.Bool.{true, false, not, ◌&&◌, beq}
 use Rattle.std.proofs.lemmas.Bool.{false≢true}
 use Rattle.std.proofs.Common.{inl, inr, ◌∙◌, le-ltb, le-leb, arith, lit<}
 use Rattle.std.proofs.Math.Path.{sym, ap, ap₂}
-use Prim.Native.Nat.{ℕ, zero, suc, ◌+◌, ◌-◌, ◌*◌, ◌^◌, ◌≤◌, ◌<◌}
+use Prim.Native.Nat.{ℕ, zero, suc, ◌+◌, ◌-◌, ◌*◌, ◌≤◌, ◌<◌}
 use Rattle.std.proofs.Math.Decide.{ℕ_discrete, le_ind}
 use Rattle.std.specs.Int.Bits.{bit_and, bit_xor, and_lt}
 use Rattle.std.proofs.lemmas.Nat.{xor_lt}
@@ -22,7 +22,7 @@ use Rattle.terms.specs.declared.Row.{Row}
 use Rattle.rows.specs.Code.{ones, spread_of, pattern_of, rank, row_word, word_of, words}
 use Rattle.rows.specs.Code.Laws.{seen_grows, words-length}
 use Rattle.rows.specs.Marks.{Operand, AtLeast}
-use Rattle.rows.specs.Known.{assign, Assigned, Right}
+use Rattle.rows.specs.Known.{Assigned, Right}
 use Rattle.known.specs.Atoms.{assign_respects}
 use Rattle.known.specs.Patterns.{pattern_bit, pattern_small, spread-bit, spread-small}
 

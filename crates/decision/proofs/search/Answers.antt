@@ -1,7 +1,6 @@
 -- `decision::search` meets its contract. The loop's invariant: `yes` and `no` are what the blocks before this one have, and so are the truths.
 -- Assumes nothing.
 use mathlib.Core.Path.{refl, sym}
-use Prim.Native.Nat.{◌-◌}
 use native.Mathlib.Omega.{arith}
 use Rattle.rows.specs.Code.{changes_of}
 use Rattle.known.specs.Searching.{rows-listed, order_long, looking, looking_on, looking-both, looking_end}

@@ -1,6 +1,5 @@
 -- `frames::descend` meets its contract. The loop's invariant: whatever is reached from here on is reached from the start. The measure is the node's
 -- number. Assumes nothing.
-use mathlib.Core.Bool.{true}
 use mathlib.Core.Path.{refl, sym, ◌∙◌}
 use native.Mathlib.Omega.{arith}
 use Rattle.workspace.specs.Frames.{down_to, down_from}

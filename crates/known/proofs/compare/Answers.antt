@@ -1,6 +1,6 @@
 -- `known::compare` meets its contract. The loop's invariant: `yes` and `no` are what the blocks before this one have. Assumes nothing.
 use mathlib.Core.Path.{sym}
-use Prim.Native.Nat.{◌+◌, ◌-◌}
+use Prim.Native.Nat.{◌+◌}
 use native.Mathlib.Omega.{arith}
 use lib.ListN.{get_or}
 use Rattle.rows.specs.Code.{changes_of}

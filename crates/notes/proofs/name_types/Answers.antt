@@ -1,8 +1,6 @@
 -- `notes::name_types` meets its contract. The loop's invariant: the variables below k that are bound on the path and mentioned are named. In the
 -- answers a is the arguments, n that a note can be made, l the loop, t that k is below the depth, e the node's tree, w how an arm went. Assumes nothing.
-use mathlib.Core.Logic.{⊎_elim}
 use mathlib.Core.Path.{sym, ◌∙◌}
-use Prim.Native.Nat.{◌-◌}
 use native.Mathlib.Omega.{arith}
 use Rattle.script.specs.Code.Forms.{tree_in}
 use Rattle.workspace.specs.Notes.Making.{upto_start, upto_on, upto_named, upto_more, upto_full, upto_end}
@@ -56,11 +54,11 @@ loop-k-preserved c =
     let t = c.loop-k-test.true in
     let e = tree_in a.table.now a.a in
     elim c.if-mentions.branch [
-      then-mentions+else-count-eq-NAMES w ↦
-      upto_more e a.depth a.at a.space.now n l.k l.count l.space l.invariant t (omega (arith, l.invariant.naming.few, w.if-count-eq-NAMES.false))
-      (sym c.mentions.ensures ∙ w.if-mentions.true) (w.space-is ∙ w.name_type.ensures) w.count-is
-    | else-mentions w ↦
-      upto_on e a.depth a.at a.space.now n l.k l.count l.space l.invariant t (sym c.mentions.ensures ∙ w.if-mentions.false) w.space-is w.count-is
+      | then-mentions+else-count-eq-NAMES w ↦
+          upto_more e a.depth a.at a.space.now n l.k l.count l.space l.invariant t (omega (arith, l.invariant.naming.few, w.if-count-eq-NAMES.false))
+          (sym c.mentions.ensures ∙ w.if-mentions.true) (w.space-is ∙ w.name_type.ensures) w.count-is
+      | else-mentions w ↦
+          upto_on e a.depth a.at a.space.now n l.k l.count l.space l.invariant t (sym c.mentions.ensures ∙ w.if-mentions.false) w.space-is w.count-is
     ]
 
 pub shape_of-space : goal.shape_of-space

@@ -5,7 +5,7 @@ use native.Mathlib.Omega.{arith}
 use lib.ListN.{length, length-append}
 use Rattle.text.specs.Code.Output.Fields.{digits_last, digits-tens}
 use Rattle.text.specs.Code.Output.{Put}
-use Rattle.text.specs.Code.Output.Laws.{put_one, put_then, put_length}
+use Rattle.text.specs.Code.Output.Laws.{put_one, put_then}
 use Rattle.text.specs.Writing.{digits}
 use Rattle.output.proofs.+put_number.Goals as goal
 

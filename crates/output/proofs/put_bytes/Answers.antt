@@ -1,5 +1,4 @@
 -- `output::put_bytes` meets its contract: the bytes from `i` on remain to be stored, from place `at + i` on. Assumes nothing.
-use Prim.Native.Nat.{◌-◌}
 use mathlib.Core.Path.{◌≡◌}
 use native.Mathlib.Nat.{add-zero}
 use native.Mathlib.Omega.{arith}

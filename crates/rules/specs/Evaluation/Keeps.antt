@@ -1,7 +1,6 @@
 -- What evaluation keeps of values: a property of a value among so many used cells, which words of 32 bits and truths have, which more cells keep, and
 -- which the location of a new cell has. If environment and cells have it, so have the value and the cells at the end. Assumes nothing.
 use Rattle.std.specs.Prelude.{Bool, List, ℕ, suc, ◌^◌, ◌≤◌, ◌<◌, length}
-use Rattle.script.specs.Tree.{truth}
 use Rattle.script.specs.declared.Value.{Value}
 use Rattle.script.specs.declared.Value.TheVariants.{Word, Truth, Location}
 use Rattle.rules.specs.Evaluation.{Outcome, gave, failed}

@@ -1,7 +1,6 @@
 -- `tests::test_operands` meets its contract. The loop's invariant: each node passed is well formed. Assumes nothing.
 use mathlib.Core.Bool.{not}
 use mathlib.Core.Path.{sym, ap, ◌∙◌}
-use Prim.Native.Nat.{◌-◌}
 use Rattle.script.specs.Code.TableTests.Laws.{formed-is}
 use Rattle.script.specs.Tests.Loops.{look, look_on}
 use Rattle.tests.specs.Lowest.{malformed, operands-refused, operands-passed}

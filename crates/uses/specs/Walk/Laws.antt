@@ -1,7 +1,6 @@
 -- What the state of the walk says of the uses so far, use by use and node by node. Assumes nothing.
 use Rattle.std.specs.Prelude.{Bool, ◌≡◌, ℕ, ◌+◌, ◌-◌, ◌≤◌, ◌<◌, ltb, eqb}
 use Rattle.script.specs.Limits.{node_limit}
-use Rattle.script.specs.Table.{unused}
 use Rattle.script.specs.Tests.{pick}
 use Rattle.script.specs.Tests.Bits.{bit}
 use Rattle.uses.specs.Walk.{half}

@@ -36,8 +36,8 @@ overflow_add-result c =
     let b = c.put_operand-after_b.ensures in
     let d = c.put_operand-after_c.ensures in
     let r : Put (node_text c.args.n) c.args.at c.args.out.now (c.put_operand-after_c.result + 1) c.put.new.out =
-        rw (node-parts c.args.n c.requires.kind_lt_kind_count c.operand_count-count.ensures)
-        (put_then (put_then (put_then (put_then word a) b) d) (put_one c.put.ensures)) in
+    rw (node-parts c.args.n c.requires.kind_lt_kind_count c.operand_count-count.ensures)
+    (put_then (put_then (put_then (put_then word a) b) d) (put_one c.put.ensures)) in
     let e = r.next-is in
     omega (arith, c.requires.n_bound)
 

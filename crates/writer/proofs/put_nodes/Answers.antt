@@ -1,5 +1,4 @@
 -- `writer::put_nodes` meets its contract: the lines of the nodes from `i` on remain to be stored. Assumes nothing.
-use Prim.Native.Nat.{◌-◌}
 use mathlib.Core.Path.{◌≡◌}
 use native.Mathlib.Omega.{arith}
 use Rattle.script.specs.Flat.{nodes_in}

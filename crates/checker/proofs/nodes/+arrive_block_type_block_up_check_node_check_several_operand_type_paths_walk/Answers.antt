@@ -2,7 +2,6 @@
 -- other; a node's number falls on the way round. In the answers s is the start's measure and `requires`, q the `requires`, node what was read, h that it has an operand,
 -- d what that one came to, or the way down to the inner node, w what holds at a turn of the loop, b what was bound, or what a block came to. Assumes nothing.
 use mathlib.Core.Path.{refl, sym, ◌∙◌}
-use Prim.Native.Nat.{◌-◌}
 use native.Mathlib.Omega.{arith}
 use Rattle.script.specs.Code.Forms.{has_one, has_more, some-operand}
 use Rattle.workspace.specs.Frames.Laws.{waits_none}
@@ -20,8 +19,7 @@ arrive-node_at-requires t c = omega (arith, (enters_formed c.requires.enterable.
 pub arrive-block_up-requires : goal.arrive-block_up-requires
 arrive-block_up-requires t c =
     let s = c.requires in
-    let k = rw c.node_at.ensures at c.if-node_at-eq-TYPED.true in
-    (
+    let k = rw c.node_at.ensures at c.if-node_at-eq-TYPED.true in (
       omega (arith, c.decreases),
       (s.enterable, k),
     )
@@ -172,8 +170,7 @@ pub check_node-check_several-requires : goal.check_node-check_several-requires
 check_node-check_several-requires t c =
     let q = c.requires in
     let node = c.node_at-node.ensures in
-    let h = some-operand q.formed (rw node at c.if-node-lt-LEAVES.false) in
-    (
+    let h = some-operand q.formed (rw node at c.if-node-lt-LEAVES.false) in (
       omega (arith, c.decreases),
       (q, has_more _ h (rw node at c.has_one.ensures) c.if-has_one.false),
     )
@@ -315,8 +312,7 @@ pub operand_type-check_several-requires : goal.operand_type-check_several-requir
 operand_type-check_several-requires t c =
     let q = c.requires in
     let node = c.node_at-node.ensures in
-    let h = some-operand q.formed (rw node at c.if-node-lt-LEAVES.false) in
-    (
+    let h = some-operand q.formed (rw node at c.if-node-lt-LEAVES.false) in (
       omega (arith, c.decreases),
       (q, has_more _ h (rw node at c.has_one.ensures) c.if-has_one.false),
     )
@@ -379,8 +375,7 @@ walk-descend-inner-requires t c = walking_descendable c.loop-why.invariant
 pub walk-arrive-requires : goal.walk-arrive-requires
 walk-arrive-requires t c =
     let w = c.loop-why.invariant in
-    let d = c.descend-inner.ensures in
-    (
+    let d = c.descend-inner.ensures in (
       omega (arith, walking-earlier w d, c.decreases),
       (walking-enterable w d, descends_other d),
     )

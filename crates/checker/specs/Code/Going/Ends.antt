@@ -1,5 +1,5 @@
 -- The end of a path: its log, its type, and the path that follows; and the loop over the paths. Assumes nothing.
-use Rattle.std.specs.Prelude.{Bool, true, false, not, ◌||◌, ◌≡◌, ℕ, suc, ◌+◌, ◌≤◌, eqb}
+use Rattle.std.specs.Prelude.{Bool, true, false, not, ◌||◌, ◌≡◌, ℕ, suc, ◌≤◌, eqb}
 use Rattle.std.proofs.lemmas.Bool.{false≢true}
 use mathlib.Core.List.{List, [], ◌∷◌, ◌++◌}
 use Rattle.std.proofs.Math.Path.{refl, ap}
@@ -8,7 +8,7 @@ use borrow.Author.Tests.{not-true, not-false, eqb-true, eq-eqb}
 use Rattle.script.specs.Tests.{pick}
 use Rattle.script.specs.declared.Checked.TheVariants.{Accepted}
 use Rattle.script.specs.declared.Refusal.TheVariants.{InconsistentLog, PathTypesDiffer}
-use Rattle.rules.specs.Paths.{ends, Leaf, ended, leaves, consistent}
+use Rattle.rules.specs.Paths.{Leaf, ended, leaves, consistent}
 use Rattle.rules.specs.Symbolic.{Symbolic, type_of}
 use Rattle.rules.specs.SymbolicRules.{first_type, judge}
 use Rattle.workspace.specs.Frames.{frame_in}

@@ -9,7 +9,7 @@ use Rattle.script.specs.Code.Forms.{form_of, form-at, node_in, tree_in}
 use Rattle.script.specs.Limits.{node_limit}
 use Rattle.script.specs.Rows.{Form, let_form, node_operands}
 use Rattle.script.specs.Rows.Kinds.{kind_for}
-use Rattle.rules.specs.Paths.{Path, Paths, ends, forks, bind, Leaf, leaves}
+use Rattle.rules.specs.Paths.{Path, Paths, ends, bind, Leaf, leaves}
 use Rattle.rules.specs.Symbolic.{Symbolic}
 use Rattle.terms.specs.Places.{count_at, variables_end, symbol_limit}
 use Rattle.terms.specs.Terms.{Grown}
@@ -20,7 +20,7 @@ use Rattle.workspace.specs.Rules.{one_exec, two_exec, rest_exec, rest_size, One,
 use Rattle.workspace.specs.State.{depth_in, Means, Variables, no_variable, one_more, PathIn, Room, Unnoted, Valued}
 use Rattle.workspace.specs.State.Laws.{still_known, room-same, means-kept, variables-kept, path_rewound, room_less}
 use Rattle.workspace.specs.declared.Step.{Step}
-use Rattle.checker.specs.Code.Going.{Later, first, second, go_on, Awaits, no_frame, for_only, for_first_lem, for_second, for_body_lem, Onward, Stands, Returning, unbound, moved_by, Lasts, Lastable, Came, came-value, came-stopped}
+use Rattle.checker.specs.Code.Going.{Later, first, go_on, Awaits, no_frame, for_only, for_first_lem, for_second, for_body_lem, Onward, Stands, Returning, unbound, moved_by, Lasts, Lastable, Came, came-value, came-stopped}
 use Rattle.checker.specs.Code.Going.Keeping.{onward_trans, leave_onward, awaits-kept, stands-base, stands_on, leave_stands}
 use Rattle.checker.specs.Code.Going.Steps.{Gives, gives, gives_none, yields-gives}
 use Rattle.checker.specs.declared.steps.Move.{Move}

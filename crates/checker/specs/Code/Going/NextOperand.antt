@@ -34,7 +34,7 @@ use Rattle.workspace.specs.Rules.Types.{bound-other, let_bound}
 use Rattle.workspace.specs.State.{depth_in, Means, truth_row, Variables, one_more, PathIn}
 use Rattle.workspace.specs.State.Laws.{means-kept, means-at, variables-kept, room_less, room_on}
 use Rattle.workspace.specs.declared.Branch.TheVariants.{First, Second, Both, Neither}
-use Rattle.checker.specs.Code.Going.{first, second, go_on, for_second, for_body_lem, Onward, Forking, one_left, Stands, Entering, Returning, bound_to, Branched, to_first, to_second, to_both, to_none, Came, came-operand, came-stopped}
+use Rattle.checker.specs.Code.Going.{second, go_on, for_second, for_body_lem, Onward, Forking, one_left, Stands, Entering, Returning, bound_to, Branched, to_first, to_second, to_both, to_none, Came, came-operand, came-stopped}
 use Rattle.checker.specs.Code.Going.Keeping.{onward_trans, waits_onward, awaits-kept, stands-base, stands_on, stands-ruled, waits_awaits, waits_slot, waits_forked, waits_stands}
 use Rattle.checker.specs.Code.Going.Steps.{then_on}
 use Rattle.checker.specs.declared.steps.Move.{Move}

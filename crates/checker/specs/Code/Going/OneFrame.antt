@@ -20,7 +20,7 @@ use Rattle.checker.specs.Code.Going.AllFrames.{value-not-operand, stopped-not-op
 use Rattle.checker.specs.Code.Going.NextOperand.{next_waitable, next-plain, next_let, next_deep, next-branch, next_decidable, next-forked}
 use Rattle.checker.specs.Code.Going.FrameRules.{up, up_room, up_one, up_lastable, up-last, gives-came, up_next}
 use Rattle.checker.specs.declared.steps.Move.{Move}
-use Rattle.checker.specs.declared.steps.Move.TheVariants.{Value, Operand, Stopped}
+use Rattle.checker.specs.declared.steps.Move.TheVariants.{Value, Operand}
 
 moved_not-operand : (a : Step) {m : ℕ} → moved_by a ≡ Operand m → ⊥
 moved_not-operand (step.Gave t q) e = value-not-operand e
