@@ -1,4 +1,4 @@
-use Rattle.std.proofs.Common.{◌≡◌, arith, length}
+use Rattle.std.proofs.Common.{length}
 use Rattle.trial.specs.Anyway.{on_ok_anyway, on_err_anyway}
 use Rattle.texts.specs.Frames.Laws.{starts, ends, malformed, on, went-none, went_here, went_on}
 use Rattle.texts.proofs.try_all.Goals as goal

@@ -1,5 +1,5 @@
 -- The trials of the frames from `at` on leave what the trials of all leave, and so many were tried up to there.
-use Rattle.std.proofs.Common.{◌≡◌, ◌-◌, length}
+use Rattle.std.proofs.Common.{◌-◌, length}
 use Rattle.texts.specs.Frames.{lent, after_frames}
 use Rattle.texts.specs.Frames.Laws.{Going, Went}
 use Rattle.texts.proofs.try_all.Given as goal
