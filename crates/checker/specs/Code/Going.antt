@@ -70,22 +70,22 @@ pub record Slot (fs : List ℕ) (f n g awaits : ℕ) : Type 0 where
   pub up : up_of fs f ≡ up_to g awaits
   pub earlier : g < f
 
--- what waits from frame f on, where there are so many variables, with room for so many nodes that it takes and frames that it makes; `ground` are the
+-- what waits from frame f on, where there are so many variables, with room for so many nodes that it takes and frames that it makes; `beneath` are the
 -- variables at the start
-pub data Awaits (table : List ℕ) (bound base : ℕ) (ground : List Symbolic) (ws fs : List ℕ) : ℕ → ℕ → List Symbolic → List Later → ℕ → ℕ → Type 0 where
-  no_frame : Awaits table bound base ground ws fs 0 base ground [] 0 0
+pub data Awaits (table : List ℕ) (bound base : ℕ) (beneath : List Symbolic) (ws fs : List ℕ) : ℕ → ℕ → List Symbolic → List Later → ℕ → ℕ → Type 0 where
+  no_frame : Awaits table bound base beneath ws fs 0 base beneath [] 0 0
   for_only : {f g n depth owed frames : ℕ} {env : List Symbolic} {ks : List Later} → Slot fs f n g for_first → n < bound → node_operands (node_in table n).kind ≡ 1
-      → Awaits table bound base ground ws fs g depth env ks owed frames → Awaits table bound base ground ws fs f depth env (only n ∷ ks) (suc owed) frames
+      → Awaits table bound base beneath ws fs g depth env ks owed frames → Awaits table bound base beneath ws fs f depth env (only n ∷ ks) (suc owed) frames
   for_first_lem : {f g n depth owed frames rest : ℕ} {env : List Symbolic} {ks : List Later} → Slot fs f n g for_first → n < bound
       → 2 ≤ node_operands (node_in table n).kind → rest_size table n ≡ suc rest → depth + suc rest ≤ symbol_limit
-      → Awaits table bound base ground ws fs g depth env ks owed frames
-      → Awaits table bound base ground ws fs f depth env (first n env ∷ ks) (suc rest + owed) (rest + frames)
+      → Awaits table bound base beneath ws fs g depth env ks owed frames
+      → Awaits table bound base beneath ws fs f depth env (first n env ∷ ks) (suc rest + owed) (rest + frames)
   for_second : {f g n depth owed frames : ℕ} {env : List Symbolic} {ks : List Later} {v : Symbolic} → Slot fs f n g for_next → n < bound
-      → Means ws (first_of fs f) (second_of fs f) v → Awaits table bound base ground ws fs g depth env ks owed frames
-      → Awaits table bound base ground ws fs f depth env (second n v ∷ ks) (suc owed) frames
+      → Means ws (first_of fs f) (second_of fs f) v → Awaits table bound base beneath ws fs g depth env ks owed frames
+      → Awaits table bound base beneath ws fs f depth env (second n v ∷ ks) (suc owed) frames
   for_body_lem : {f g n depth owed frames : ℕ} {env : List Symbolic} {ks : List Later} {v : Symbolic} → Slot fs f n g for_body → n < bound
-      → (node_in table n).kind ≡ kind_for let_form → Means ws (first_of fs f) (second_of fs f) v → Awaits table bound base ground ws fs g depth env ks owed frames
-      → Awaits table bound base ground ws fs f (suc depth) (env ++ (v ∷ [])) (second n v ∷ ks) (suc owed) frames
+      → (node_in table n).kind ≡ kind_for let_form → Means ws (first_of fs f) (second_of fs f) v → Awaits table bound base beneath ws fs g depth env ks owed frames
+      → Awaits table bound base beneath ws fs f (suc depth) (env ++ (v ∷ [])) (second n v ∷ ks) (suc owed) frames
 
 -- ---- forks
 
@@ -103,7 +103,7 @@ pub record Onward (base : ℕ) (xs gs ws fs : List ℕ) : Type 0 where
   pub forks : (k : ℕ) → frames_end ≤ k → k < fork_at (forked_in gs) → get_or fs k 0 ≡ get_or gs k 0
 
 -- a path at an `if` whose branches can both be taken, before a branch is: what its false branch comes to
-pub record Forking (limit : ℕ) (table : List ℕ) (bound base : ℕ) (ground : List Symbolic) (xs gs : List ℕ) (ls : List Leaf) : Type 0 where
+pub record Forking (limit : ℕ) (table : List ℕ) (bound base : ℕ) (beneath : List Symbolic) (xs gs : List ℕ) (ls : List Leaf) : Type 0 where
   pub environment : List Symbolic
   pub path : Path
   pub guard : Formula
@@ -113,8 +113,8 @@ pub record Forking (limit : ℕ) (table : List ℕ) (bound base : ℕ) (ground :
   pub lent : space_size ≤ length xs
   pub framed : frames_size ≤ length gs
   pub state : State xs (depth_in xs) environment path
-  pub ground-is : Variables xs base ground
-  pub awaits : Awaits table bound base ground xs gs (frame_in gs) (depth_in xs) environment later owed frames
+  pub beneath-is : Variables xs base beneath
+  pub awaits : Awaits table bound base beneath xs gs (frame_in gs) (depth_in xs) environment later owed frames
   pub newest : frame_in gs ≡ top_in gs
   pub means : Means xs 1 (second_of gs (frame_in gs)) (a_truth guard)
   pub allowed : satisfiable (without_guard guard path).condition ≡ true
@@ -129,39 +129,39 @@ pub record Forking (limit : ℕ) (table : List ℕ) (bound base : ℕ) (ground :
       (bind (exec limit (tree_in table (node_in table (waiter_of gs (frame_in gs))).c) environment (without_guard guard path)) (go_on limit table later))
 
 -- the forks that are left, the last in front, and the leaves that they come to
-pub data Left (limit : ℕ) (table : List ℕ) (bound base : ℕ) (ground : List Symbolic) : List ℕ → List ℕ → ℕ → List Leaf → Type 0 where
-  none_left : {ws fs : List ℕ} → Left limit table bound base ground ws fs 0 []
-  one_left : {xs gs ws fs : List ℕ} {ls ms : List Leaf} (j : ℕ) → forked_in gs ≡ j → Forking limit table bound base ground xs gs ls
-      → Left limit table bound base ground xs gs j ms → Onward base xs gs ws fs → Forked xs gs j fs
-      → Left limit table bound base ground ws fs (suc j) (ls ++ ms)
+pub data Left (limit : ℕ) (table : List ℕ) (bound base : ℕ) (beneath : List Symbolic) : List ℕ → List ℕ → ℕ → List Leaf → Type 0 where
+  none_left : {ws fs : List ℕ} → Left limit table bound base beneath ws fs 0 []
+  one_left : {xs gs ws fs : List ℕ} {ls ms : List Leaf} (j : ℕ) → forked_in gs ≡ j → Forking limit table bound base beneath xs gs ls
+      → Left limit table bound base beneath xs gs j ms → Onward base xs gs ws fs → Forked xs gs j fs
+      → Left limit table bound base beneath ws fs (suc j) (ls ++ ms)
 
 -- ---- where a path stands
 
 -- its environment and its own state, what waits, and the forks left
-pub record Stands (limit : ℕ) (table : List ℕ) (bound base : ℕ) (ground : List Symbolic) (ws fs : List ℕ)
+pub record Stands (limit : ℕ) (table : List ℕ) (bound base : ℕ) (beneath : List Symbolic) (ws fs : List ℕ)
     (env : List Symbolic) (p : Path) (ks : List Later) (owed frames : ℕ) (ls : List Leaf) : Type 0 where
   pub formed : FormedNodes table bound
   pub lent : space_size ≤ length ws
   pub framed : frames_size ≤ length fs
   pub narrow : depth_in ws ≤ symbol_limit
   pub state : State ws (depth_in ws) env p
-  pub ground-is : Variables ws base ground
+  pub beneath-is : Variables ws base beneath
   pub based : base_in ws ≡ base
   pub notes : Kept limit table ws
-  pub awaits : Awaits table bound base ground ws fs (frame_in fs) (depth_in ws) env ks owed frames
+  pub awaits : Awaits table bound base beneath ws fs (frame_in fs) (depth_in ws) env ks owed frames
   pub inside : frame_in fs ≤ top_in fs
-  pub left : Left limit table bound base ground ws fs (forked_in fs) ls
+  pub left : Left limit table bound base beneath ws fs (forked_in fs) ls
   pub few : forked_in fs ≤ top_in fs
 
 -- node m is next, and these leaves are still to come
-pub record Entering (limit : ℕ) (table : List ℕ) (bound base : ℕ) (ground : List Symbolic) (ws fs : List ℕ) (m : ℕ) (ls : List Leaf) : Type 0 where
+pub record Entering (limit : ℕ) (table : List ℕ) (bound base : ℕ) (beneath : List Symbolic) (ws fs : List ℕ) (m : ℕ) (ls : List Leaf) : Type 0 where
   pub environment : List Symbolic
   pub path : Path
   pub later : List Later
   pub owed : ℕ
   pub frames : ℕ
   pub others : List Leaf
-  pub stands : Stands limit table bound base ground ws fs environment path later owed frames others
+  pub stands : Stands limit table bound base beneath ws fs environment path later owed frames others
   pub low : m < bound
   pub room : Room ws (size (tree_in table m) + owed)
   pub tops : top_in fs + forked_in fs + size (tree_in table m) + frames ≤ node_limit
@@ -169,7 +169,7 @@ pub record Entering (limit : ℕ) (table : List ℕ) (bound base : ℕ) (ground 
   pub is : ls ≡ leaves (bind (exec limit (tree_in table m) environment path) (go_on limit table later)) ++ others
 
 -- a value goes up, and these leaves are still to come
-pub record Returning (limit : ℕ) (table : List ℕ) (bound base : ℕ) (ground : List Symbolic) (ws fs : List ℕ) (t q : ℕ) (ls : List Leaf) : Type 0 where
+pub record Returning (limit : ℕ) (table : List ℕ) (bound base : ℕ) (beneath : List Symbolic) (ws fs : List ℕ) (t q : ℕ) (ls : List Leaf) : Type 0 where
   pub environment : List Symbolic
   pub path : Path
   pub later : List Later
@@ -177,7 +177,7 @@ pub record Returning (limit : ℕ) (table : List ℕ) (bound base : ℕ) (ground
   pub frames : ℕ
   pub others : List Leaf
   pub value : Symbolic
-  pub stands : Stands limit table bound base ground ws fs environment path later owed frames others
+  pub stands : Stands limit table bound base beneath ws fs environment path later owed frames others
   pub means : Means ws t q value
   pub room : Room ws owed
   pub tops : top_in fs + forked_in fs + suc frames ≤ node_limit
@@ -221,20 +221,20 @@ pub record Restorable (ws fs : List ℕ) : Type 0 where
   pub inside : frame_in fs < node_limit
   pub table : List ℕ
   pub bound : ℕ
-  pub ground : List Symbolic
+  pub beneath : List Symbolic
   pub environment : List Symbolic
   pub later : List Later
   pub owed : ℕ
   pub frames : ℕ
-  pub awaits : Awaits table bound (base_in ws) ground ws fs (frame_in fs) (depth_in ws) environment later owed frames
+  pub awaits : Awaits table bound (base_in ws) beneath ws fs (frame_in fs) (depth_in ws) environment later owed frames
 
 -- the variables are those that the frames have
 pub record Restores (ws fs left : List ℕ) : Type 0 where
   pub same : length left ≡ length ws
   pub first : (k : ℕ) → k < 2 * base_in ws → get_or left k 0 ≡ get_or ws k 0
   pub beyond : (k : ℕ) → variables_end ≤ k → get_or left k 0 ≡ get_or ws k 0
-  pub variables : (table : List ℕ) (bound : ℕ) (ground env : List Symbolic) (ks : List Later) (owed frames : ℕ) → Variables ws (base_in ws) ground
-      → Awaits table bound (base_in ws) ground ws fs (frame_in fs) (depth_in ws) env ks owed frames → Variables left (depth_in ws) env
+  pub variables : (table : List ℕ) (bound : ℕ) (beneath env : List Symbolic) (ks : List Later) (owed frames : ℕ) → Variables ws (base_in ws) beneath
+      → Awaits table bound (base_in ws) beneath ws fs (frame_in fs) (depth_in ws) env ks owed frames → Variables left (depth_in ws) env
 
 -- ---- what the functions ask and promise
 
@@ -242,44 +242,44 @@ pub record Restores (ws fs left : List ℕ) : Type 0 where
 pub record Enterable (limit : ℕ) (table ws fs : List ℕ) (m : ℕ) : Type 0 where
   pub bound : ℕ
   pub base : ℕ
-  pub ground : List Symbolic
+  pub beneath : List Symbolic
   pub to_come : List Leaf
-  pub entering : Entering limit table bound base ground ws fs m to_come
+  pub entering : Entering limit table bound base beneath ws fs m to_come
 
 -- a value can go up
 pub record Returnable (table ws fs : List ℕ) (t q : ℕ) : Type 0 where
   pub limit : ℕ
   pub bound : ℕ
   pub base : ℕ
-  pub ground : List Symbolic
+  pub beneath : List Symbolic
   pub to_come : List Leaf
-  pub returning : Returning limit table bound base ground ws fs t q to_come
+  pub returning : Returning limit table bound base beneath ws fs t q to_come
 
 -- what became of the leaves to come
-pub data Came (limit : ℕ) (table : List ℕ) (bound base : ℕ) (ground : List Symbolic) (left gs : List ℕ) (ls : List Leaf) : Move → Type 0 where
-  came-value : {t q : ℕ} → Returning limit table bound base ground left gs t q ls → Came limit table bound base ground left gs ls (Value t q)
-  came-operand : {m : ℕ} → Entering limit table bound base ground left gs m ls → Came limit table bound base ground left gs ls (Operand m)
-  came-stopped : {x : Refusal} (rest : List Leaf) → ls ≡ stopped x ∷ rest → Came limit table bound base ground left gs ls (Stopped x)
+pub data Came (limit : ℕ) (table : List ℕ) (bound base : ℕ) (beneath : List Symbolic) (left gs : List ℕ) (ls : List Leaf) : Move → Type 0 where
+  came-value : {t q : ℕ} → Returning limit table bound base beneath left gs t q ls → Came limit table bound base beneath left gs ls (Value t q)
+  came-operand : {m : ℕ} → Entering limit table bound base beneath left gs m ls → Came limit table bound base beneath left gs ls (Operand m)
+  came-stopped : {x : Refusal} (rest : List Leaf) → ls ≡ stopped x ∷ rest → Came limit table bound base beneath left gs ls (Stopped x)
 
 -- a value that goes up by one frame
 pub record Backs (table : List ℕ) (t q : ℕ) (ws fs : List ℕ) (r : Move) (left gs : List ℕ) : Type 0 where
-  pub came : (limit bound base : ℕ) (ground : List Symbolic) (ls : List Leaf) → Returning limit table bound base ground ws fs t q ls
-      → Came limit table bound base ground left gs ls r
+  pub came : (limit bound base : ℕ) (beneath : List Symbolic) (ls : List Leaf) → Returning limit table bound base beneath ws fs t q ls
+      → Came limit table bound base beneath left gs ls r
   pub falls : {u s : ℕ} → r ≡ Value u s → frame_in gs < frame_in fs
   pub rises : {m : ℕ} → r ≡ Operand m → top_in fs < top_in gs
   pub tops : top_in fs ≤ top_in gs
 
 -- one that goes up until an operand is next or no frame is left
 pub record Climbs (table : List ℕ) (t q : ℕ) (ws fs : List ℕ) (r : Move) (left gs : List ℕ) : Type 0 where
-  pub came : (limit bound base : ℕ) (ground : List Symbolic) (ls : List Leaf) → Returning limit table bound base ground ws fs t q ls
-      → Came limit table bound base ground left gs ls r
+  pub came : (limit bound base : ℕ) (beneath : List Symbolic) (ls : List Leaf) → Returning limit table bound base beneath ws fs t q ls
+      → Came limit table bound base beneath left gs ls r
   pub ended : {u s : ℕ} → r ≡ Value u s → frame_in gs ≡ 0
   pub rises : {m : ℕ} → r ≡ Operand m → top_in fs < top_in gs
 
 -- a node that waits for no operand, and where its value went
 pub record Arrives (limit : ℕ) (table : List ℕ) (n : ℕ) (ws fs : List ℕ) (r : Move) (left gs : List ℕ) : Type 0 where
-  pub came : (bound base : ℕ) (ground : List Symbolic) (ls : List Leaf) → Entering limit table bound base ground ws fs n ls
-      → Came limit table bound base ground left gs ls r
+  pub came : (bound base : ℕ) (beneath : List Symbolic) (ls : List Leaf) → Entering limit table bound base beneath ws fs n ls
+      → Came limit table bound base beneath left gs ls r
   pub ended : {u s : ℕ} → r ≡ Value u s → frame_in gs ≡ 0
   pub rises : {m : ℕ} → r ≡ Operand m → top_in fs < top_in gs
 
@@ -293,11 +293,11 @@ pub record LeafArrives (table : List ℕ) (n : ℕ) (ws fs : List ℕ) (r : Move
   pub each : (limit : ℕ) → Arrives limit table n ws fs r left gs
 
 -- what a path says of the leaves from its own on, where T is the type of the first
-pub data WalkOf (limit : ℕ) (table : List ℕ) (bound base : ℕ) (ground : List Symbolic) (n T : ℕ) (left gs : List ℕ) (ls : List Leaf) : Walked → Type 0 where
-  refused : {x : Refusal} → ((k : ℕ) → judge n (suc k) T ls ≡ Refused x) → WalkOf limit table bound base ground n T left gs ls (Wrong x)
-  lasted : {t : ℕ} → ((k : ℕ) → judge n (suc k) T ls ≡ Accepted t) → WalkOf limit table bound base ground n T left gs ls (Last t)
-  went_on : {t m : ℕ} (after : List Leaf) → T ≡ t → Entering limit table bound base ground left gs m after
-      → ((k : ℕ) → judge n (suc k) T ls ≡ judge n k T after) → WalkOf limit table bound base ground n T left gs ls (More t m)
+pub data WalkOf (limit : ℕ) (table : List ℕ) (bound base : ℕ) (beneath : List Symbolic) (n T : ℕ) (left gs : List ℕ) (ls : List Leaf) : Walked → Type 0 where
+  refused : {x : Refusal} → ((k : ℕ) → judge n (suc k) T ls ≡ Refused x) → WalkOf limit table bound base beneath n T left gs ls (Wrong x)
+  lasted : {t : ℕ} → ((k : ℕ) → judge n (suc k) T ls ≡ Accepted t) → WalkOf limit table bound base beneath n T left gs ls (Last t)
+  went_on : {t m : ℕ} (after : List Leaf) → T ≡ t → Entering limit table bound base beneath left gs m after
+      → ((k : ℕ) → judge n (suc k) T ls ≡ judge n k T after) → WalkOf limit table bound base beneath n T left gs ls (More t m)
 
 -- a path at its end, with a value of this type
 pub record AtEnd (table ws fs : List ℕ) (t : ℕ) : Type 0 where
@@ -306,13 +306,13 @@ pub record AtEnd (table ws fs : List ℕ) (t : ℕ) : Type 0 where
   pub returnable : Returnable table ws fs t place
 
 pub record PathEnds (table : List ℕ) (n t : ℕ) (is_first : Bool) (wanted : ℕ) (ws fs : List ℕ) (r : Walked) (left gs : List ℕ) : Type 0 where
-  pub ends : (limit bound base q : ℕ) (ground : List Symbolic) (ls : List Leaf) → Returning limit table bound base ground ws fs t q ls
-      → WalkOf limit table bound base ground n (pick is_first (first_type ls) wanted) left gs ls r
+  pub ends : (limit bound base q : ℕ) (beneath : List Symbolic) (ls : List Leaf) → Returning limit table bound base beneath ws fs t q ls
+      → WalkOf limit table bound base beneath n (pick is_first (first_type ls) wanted) left gs ls r
 
 -- a path from node m on
 pub record Walks (limit : ℕ) (table : List ℕ) (n m : ℕ) (is_first : Bool) (wanted : ℕ) (ws fs : List ℕ) (r : Walked) (left gs : List ℕ) : Type 0 where
-  pub walked : (bound base : ℕ) (ground : List Symbolic) (ls : List Leaf) → Entering limit table bound base ground ws fs m ls
-      → WalkOf limit table bound base ground n (pick is_first (first_type ls) wanted) left gs ls r
+  pub walked : (bound base : ℕ) (beneath : List Symbolic) (ls : List Leaf) → Entering limit table bound base beneath ws fs m ls
+      → WalkOf limit table bound base beneath n (pick is_first (first_type ls) wanted) left gs ls r
 
 pub record Walkable (limit : ℕ) (table ws fs : List ℕ) (n m : ℕ) : Type 0 where
   pub can : Enterable limit table ws fs m
@@ -324,7 +324,7 @@ pub record Resumable (table ws fs : List ℕ) : Type 0 where
   pub limit : ℕ
   pub bound : ℕ
   pub base : ℕ
-  pub ground : List Symbolic
+  pub beneath : List Symbolic
   pub environment : List Symbolic
   pub path : Path
   pub later : List Later
@@ -332,9 +332,9 @@ pub record Resumable (table ws fs : List ℕ) : Type 0 where
   pub frames : ℕ
   pub to_come : List Leaf
   pub few : top_in fs + forked_in fs < node_limit
-  pub stands : Stands limit table bound base ground ws fs environment path later owed frames to_come
+  pub stands : Stands limit table bound base beneath ws fs environment path later owed frames to_come
 
 -- the last fork's false branch is next
 pub record Resumes (table ws fs : List ℕ) (r : ℕ) (left gs : List ℕ) : Type 0 where
-  pub resumed : (limit bound base : ℕ) (ground env : List Symbolic) (p : Path) (ks : List Later) (owed frames : ℕ) (ls : List Leaf)
-      → Stands limit table bound base ground ws fs env p ks owed frames ls → Entering limit table bound base ground left gs r ls
+  pub resumed : (limit bound base : ℕ) (beneath env : List Symbolic) (p : Path) (ks : List Later) (owed frames : ℕ) (ls : List Leaf)
+      → Stands limit table bound base beneath ws fs env p ks owed frames ls → Entering limit table bound base beneath left gs r ls

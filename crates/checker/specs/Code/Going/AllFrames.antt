@@ -32,18 +32,18 @@ stopped-not-operand e = let z : ◌≡◌ {A = ℕ} 0 1 = cc in omega arith
 pub stopped-not-value : {x : Refusal} {t q : ℕ} → Stopped x ≡ Value t q → ⊥
 stopped-not-value e = let z : ◌≡◌ {A = ℕ} 0 1 = cc in omega arith
 
-module _ {limit : ℕ} {table : List ℕ} {bound base : ℕ} {ground : List Symbolic} {left gs : List ℕ} {ls : List Leaf} where
-  pub came-returning : {r : Move} {u s : ℕ} → Came limit table bound base ground left gs ls r → r ≡ Value u s → Returning limit table bound base ground left gs u s ls
+module _ {limit : ℕ} {table : List ℕ} {bound base : ℕ} {beneath : List Symbolic} {left gs : List ℕ} {ls : List Leaf} where
+  pub came-returning : {r : Move} {u s : ℕ} → Came limit table bound base beneath left gs ls r → r ≡ Value u s → Returning limit table bound base beneath left gs u s ls
   came-returning (came-value x) e = rw (sym (same-type e), sym (same_place e)) x
   came-returning (came-operand x) e = absurd (value-not-operand (sym e))
   came-returning (came-stopped rest i) e = absurd (stopped-not-value e)
 
-  pub came-entering : {r : Move} {m : ℕ} → Came limit table bound base ground left gs ls r → r ≡ Operand m → Entering limit table bound base ground left gs m ls
+  pub came-entering : {r : Move} {m : ℕ} → Came limit table bound base beneath left gs ls r → r ≡ Operand m → Entering limit table bound base beneath left gs m ls
   came-entering (came-value x) e = absurd (value-not-operand e)
   came-entering (came-operand x) e = rw (sym (same_operand e)) x
   came-entering (came-stopped rest i) e = absurd (stopped-not-operand e)
 
-  pub came-none : {r : Move} {x : Refusal} → Came limit table bound base ground left gs ls r → r ≡ Stopped x → (rest : List Leaf) × (ls ≡ stopped x ∷ rest)
+  pub came-none : {r : Move} {x : Refusal} → Came limit table bound base beneath left gs ls r → r ≡ Stopped x → (rest : List Leaf) × (ls ≡ stopped x ∷ rest)
   came-none (came-value x) e = absurd (stopped-not-value (sym e))
   came-none (came-operand x) e = absurd (stopped-not-operand (sym e))
   came-none (came-stopped rest i) e = (rest, rw (sym (same_stop e)) i)
@@ -56,25 +56,25 @@ pub record Climbing (table : List ℕ) (t q : ℕ) (ws fs left gs : List ℕ) (u
   pub framed : length gs ≡ length fs
   pub tops : top_in fs ≤ top_in gs
   pub can : Returnable table left gs u s
-  pub goes : (limit bound base : ℕ) (ground : List Symbolic) (ls : List Leaf) → Returning limit table bound base ground ws fs t q ls
-      → Returning limit table bound base ground left gs u s ls
+  pub goes : (limit bound base : ℕ) (beneath : List Symbolic) (ls : List Leaf) → Returning limit table bound base beneath ws fs t q ls
+      → Returning limit table bound base beneath left gs u s ls
 
 pub climbing_start : {table ws fs : List ℕ} {t q : ℕ} → Returnable table ws fs t q → Climbing table t q ws fs ws fs t q
-climbing_start x = record { same = refl; framed = refl; tops = omega arith; can = x; goes = λ limit bound base ground ls r. r }
+climbing_start x = record { same = refl; framed = refl; tops = omega arith; can = x; goes = λ limit bound base beneath ls r. r }
 
 module _ {table ws fs left gs : List ℕ} {t q u s : ℕ} (c : Climbing table t q ws fs left gs u s) where
   pub climbing_end : frame_in gs ≡ 0 → Climbs table t q ws fs (Value u s) left gs
   climbing_end z =
       record {
-        came = λ limit bound base ground ls r. came-value (c.goes limit bound base ground ls r);
+        came = λ limit bound base beneath ls r. came-value (c.goes limit bound base beneath ls r);
         ended = λ e. z;
         rises = λ e. absurd (value-not-operand e);
       }
 
   module _ {r : Move} {left₂ hs : List ℕ} (b : Backs table u s left gs r left₂ hs) where
-    came-now : (limit bound base : ℕ) (ground : List Symbolic) (ls : List Leaf) → Returning limit table bound base ground ws fs t q ls
-        → Came limit table bound base ground left₂ hs ls r
-    came-now limit bound base ground ls x = b.came limit bound base ground ls (c.goes limit bound base ground ls x)
+    came-now : (limit bound base : ℕ) (beneath : List Symbolic) (ls : List Leaf) → Returning limit table bound base beneath ws fs t q ls
+        → Came limit table bound base beneath left₂ hs ls r
+    came-now limit bound base beneath ls x = b.came limit bound base beneath ls (c.goes limit bound base beneath ls x)
 
     pub climbing_on : {v w : ℕ} → r ≡ Value v w → length left₂ ≡ length left → length hs ≡ length gs → Climbing table t q ws fs left₂ hs v w
     climbing_on e k l =
@@ -87,17 +87,17 @@ module _ {table ws fs left gs : List ℕ} {t q u s : ℕ} (c : Climbing table t 
             limit = x.limit;
             bound = x.bound;
             base = x.base;
-            ground = x.ground;
+            beneath = x.beneath;
             to_come = x.to_come;
-            returning = came-returning (b.came x.limit x.bound x.base x.ground x.to_come x.returning) e;
+            returning = came-returning (b.came x.limit x.bound x.base x.beneath x.to_come x.returning) e;
           };
-          goes = λ limit bound base ground ls y. came-returning (came-now limit bound base ground ls y) e;
+          goes = λ limit bound base beneath ls y. came-returning (came-now limit bound base beneath ls y) e;
         }
 
     pub climbing_operand : {m : ℕ} → r ≡ Operand m → Climbs table t q ws fs (Operand m) left₂ hs
     climbing_operand e =
         record {
-          came = λ limit bound base ground ls y. came-operand (came-entering (came-now limit bound base ground ls y) e);
+          came = λ limit bound base beneath ls y. came-operand (came-entering (came-now limit bound base beneath ls y) e);
           ended = λ i. absurd (value-not-operand (sym i));
           rises = λ i. omega (arith, c.tops, b.rises e);
         }
@@ -105,7 +105,7 @@ module _ {table ws fs left gs : List ℕ} {t q u s : ℕ} (c : Climbing table t 
     pub climbing_stopped : {x : Refusal} → r ≡ Stopped x → Climbs table t q ws fs (Stopped x) left₂ hs
     climbing_stopped e =
         record {
-          came = λ limit bound base ground ls y. let n = came-none (came-now limit bound base ground ls y) e in came-stopped n.0 n.1;
+          came = λ limit bound base beneath ls y. let n = came-none (came-now limit bound base beneath ls y) e in came-stopped n.0 n.1;
           ended = λ i. absurd (stopped-not-value i);
           rises = λ i. absurd (stopped-not-operand i);
         }

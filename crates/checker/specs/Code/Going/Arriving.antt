@@ -44,18 +44,18 @@ same_place e = cc
 same_stop : {x y : Refusal} → Stopped x ≡ Stopped y → x ≡ y
 same_stop e = cc
 
-module _ {limit : ℕ} {table : List ℕ} {bound base : ℕ} {ground : List Symbolic} {left fs : List ℕ} {ls : List Leaf} where
-  pub gives-returning : {a : Step} {t q : ℕ} → Gives limit table bound base ground left fs ls a → a ≡ Gave t q
-      → Returning limit table bound base ground left fs t q ls
+module _ {limit : ℕ} {table : List ℕ} {bound base : ℕ} {beneath : List Symbolic} {left fs : List ℕ} {ls : List Leaf} where
+  pub gives-returning : {a : Step} {t q : ℕ} → Gives limit table bound base beneath left fs ls a → a ≡ Gave t q
+      → Returning limit table bound base beneath left fs t q ls
   gives-returning (gives r) e = rw (sym (same-type e), sym (same_place e)) r
   gives-returning (gives_none rest i) e = absurd (let z : ◌≡◌ {A = ℕ} 0 1 = cc in omega arith)
 
-  pub gives-stopped : {a : Step} {x : Refusal} → Gives limit table bound base ground left fs ls a → a ≡ Stopped x → (rest : List Leaf) × (ls ≡ stopped x ∷ rest)
+  pub gives-stopped : {a : Step} {x : Refusal} → Gives limit table bound base beneath left fs ls a → a ≡ Stopped x → (rest : List Leaf) × (ls ≡ stopped x ∷ rest)
   gives-stopped (gives r) e = absurd (let z : ◌≡◌ {A = ℕ} 0 1 = cc in omega arith)
   gives-stopped (gives_none rest i) e = (rest, rw (sym (same_stop e)) i)
 
-module _ {limit : ℕ} {table : List ℕ} {bound base : ℕ} {ground : List Symbolic} {ws fs : List ℕ} {n : ℕ} {ls : List Leaf}
-    (q : Entering limit table bound base ground ws fs n ls) where
+module _ {limit : ℕ} {table : List ℕ} {bound base : ℕ} {beneath : List Symbolic} {ws fs : List ℕ} {n : ℕ} {ls : List Leaf}
+    (q : Entering limit table bound base beneath ws fs n ls) where
   enters_room : Room ws (1 + q.owed)
   enters_room = let z = size-some (tree_in table n) in room_less (omega (arith, z)) q.room
 
@@ -71,7 +71,7 @@ module _ {limit : ℕ} {table : List ℕ} {bound base : ℕ} {ground : List Symb
   -- ---- a leaf
 
   pub leaf-gives : (node_in table n).kind < leaf_kinds → {a : Step} {left : List ℕ} → LeafRule (form_of (node_in table n).kind) n (node_in table n) (depth_in ws) ws a left
-      → Gives limit table bound base ground left fs ls a
+      → Gives limit table bound base beneath left fs ls a
   leaf-gives k l =
       yields-gives q.stands l.ruled enters_room enters_tops
       (q.is
@@ -130,7 +130,7 @@ module _ {limit : ℕ} {table : List ℕ} {bound base : ℕ} {ground : List Symb
       block_room x =
           room-same b.same (place count_at (omega arith) (omega arith)) (place next_at (omega arith) (omega arith)) (place writes_at (omega arith) (omega arith)) x
 
-      block_stands : Stands limit table bound base ground left fs q.environment q.path q.later q.owed q.frames q.others
+      block_stands : Stands limit table bound base beneath left fs q.environment q.path q.later q.owed q.frames q.others
       block_stands =
           let s = q.stands in
           let d = place depth_at (omega arith) (omega arith) in
@@ -161,30 +161,30 @@ module _ {limit : ℕ} {table : List ℕ} {bound base : ℕ} {ground : List Symb
       unfolding typed_result bind leaves
       block_refused e = block_is e
 
-      pub block_gives : {t : ℕ} → c ≡ Accepted t → {a : Step} {left₂ : List ℕ} → After n t left a left₂ → Gives limit table bound base ground left₂ fs ls a
+      pub block_gives : {t : ℕ} → c ≡ Accepted t → {a : Step} {left₂ : List ℕ} → After n t left a left₂ → Gives limit table bound base beneath left₂ fs ls a
       block_gives e o = yields-gives block_stands o.ruled (block_room enters_room) enters_tops (block_is e) (o.yields q.path block_path)
 
 -- ---- its value's way up
 
 module _ {limit : ℕ} {table : List ℕ} {n : ℕ} {ws fs : List ℕ} where
   pub arrives_climbing : {t q : ℕ} {left left₂ gs : List ℕ} {r : Move}
-      → ((bound base : ℕ) (ground : List Symbolic) (ls : List Leaf) → Entering limit table bound base ground ws fs n ls
-      → Returning limit table bound base ground left fs t q ls)
+      → ((bound base : ℕ) (beneath : List Symbolic) (ls : List Leaf) → Entering limit table bound base beneath ws fs n ls
+      → Returning limit table bound base beneath left fs t q ls)
       → Climbs table t q left fs r left₂ gs → Arrives limit table n ws fs r left₂ gs
   arrives_climbing h c =
       record {
-        came = λ bound base ground ls q. c.came limit bound base ground ls (h bound base ground ls q);
+        came = λ bound base beneath ls q. c.came limit bound base beneath ls (h bound base beneath ls q);
         ended = c.ended;
         rises = c.rises;
       }
 
   pub arrives_stopping : {x : Refusal} {left : List ℕ}
-      → ((bound base : ℕ) (ground : List Symbolic) (ls : List Leaf) → Entering limit table bound base ground ws fs n ls
+      → ((bound base : ℕ) (beneath : List Symbolic) (ls : List Leaf) → Entering limit table bound base beneath ws fs n ls
       → (rest : List Leaf) × (ls ≡ stopped x ∷ rest))
       → Arrives limit table n ws fs (moves.Stopped x) left fs
   arrives_stopping h =
       record {
-        came = λ bound base ground ls q. let z = h bound base ground ls q in came-stopped z.0 z.1;
+        came = λ bound base beneath ls q. let z = h bound base beneath ls q in came-stopped z.0 z.1;
         ended = λ e. absurd (stopped-not-value e);
         rises = λ e. absurd (stopped-not-operand e);
       }
@@ -192,7 +192,7 @@ module _ {limit : ℕ} {table : List ℕ} {n : ℕ} {ws fs : List ℕ} where
 -- ---- as the code takes a leaf
 
 module _ {table ws fs : List ℕ} {n : ℕ} (x : Leafable table ws fs n) where
-  abbrev e : Entering x.limit table x.enterable.bound x.enterable.base x.enterable.ground ws fs n x.enterable.to_come
+  abbrev e : Entering x.limit table x.enterable.bound x.enterable.base x.enterable.beneath ws fs n x.enterable.to_come
   e = x.enterable.entering
 
   pub leaf-node : HasNode table n
@@ -214,17 +214,17 @@ module _ {table ws fs : List ℕ} {n : ℕ} (x : Leafable table ws fs n) where
           limit = x.limit;
           bound = x.enterable.bound;
           base = x.enterable.base;
-          ground = x.enterable.ground;
+          beneath = x.enterable.beneath;
           to_come = x.enterable.to_come;
           returning = gives-returning (leaf-gives e x.leaf l) i;
         }
 
     pub leaf_climbing : {t q : ℕ} → a ≡ Gave t q → {left₂ gs : List ℕ} {r : Move} → Climbs table t q left fs r left₂ gs → LeafArrives table n ws fs r left₂ gs
     leaf_climbing i c =
-        record { each = λ limit. arrives_climbing (λ bound base ground ls q. gives-returning (leaf-gives q x.leaf l) i) c }
+        record { each = λ limit. arrives_climbing (λ bound base beneath ls q. gives-returning (leaf-gives q x.leaf l) i) c }
 
     pub leaf-stopping : {y : Refusal} → a ≡ Stopped y → LeafArrives table n ws fs (moves.Stopped y) left fs
-    leaf-stopping i = record { each = λ limit. arrives_stopping λ bound base ground ls q. gives-stopped (leaf-gives q x.leaf l) i }
+    leaf-stopping i = record { each = λ limit. arrives_stopping λ bound base beneath ls q. gives-stopped (leaf-gives q x.leaf l) i }
 
 -- ---- as the code takes a typed block
 
@@ -250,7 +250,7 @@ module _ {limit : ℕ} {table ws fs : List ℕ} {n : ℕ} (x : Enterable limit t
   module _ {c : Checked} {left : List ℕ}
       (b : Blocked limit table (check limit (tree_in table (node_in table n).a) (types_on ws (depth_in ws))) (depth_in ws) ws c left) where
     pub up-refused : {y : Refusal} → c ≡ Refused y → Arrives limit table n ws fs (moves.Stopped y) left fs
-    up-refused i = arrives_stopping λ bound base ground ls q. (q.others, block_refused q k some b i)
+    up-refused i = arrives_stopping λ bound base beneath ls q. (q.others, block_refused q k some b i)
 
     pub up_room : Room left 1
     up_room = result-room x.entering k some b
@@ -262,13 +262,13 @@ module _ {limit : ℕ} {table ws fs : List ℕ} {n : ℕ} (x : Enterable limit t
             limit = limit;
             bound = x.bound;
             base = x.base;
-            ground = x.ground;
+            beneath = x.beneath;
             to_come = x.to_come;
             returning = gives-returning (block_gives x.entering k some b i o) j;
           }
 
       pub up_climbing : {u q : ℕ} → a ≡ Gave u q → {left₃ gs : List ℕ} {r : Move} → Climbs table u q left₂ fs r left₃ gs → Arrives limit table n ws fs r left₃ gs
-      up_climbing j z = arrives_climbing (λ bound base ground ls q. gives-returning (block_gives q k some b i o) j) z
+      up_climbing j z = arrives_climbing (λ bound base beneath ls q. gives-returning (block_gives q k some b i o) j) z
 
       pub up-stopping : {y : Refusal} → a ≡ Stopped y → Arrives limit table n ws fs (moves.Stopped y) left₂ fs
-      up-stopping j = arrives_stopping λ bound base ground ls q. gives-stopped (block_gives q k some b i o) j
+      up-stopping j = arrives_stopping λ bound base beneath ls q. gives-stopped (block_gives q k some b i o) j

@@ -31,21 +31,21 @@ other-type t wanted true e = absurd (false≢true (sym e))
 other-type t wanted false e = e
 
 -- nothing waits where no frame is left
-none_waits : {table : List ℕ} {bound base : ℕ} {ground : List Symbolic} {ws fs : List ℕ} {f depth owed frames : ℕ} {env : List Symbolic} {ks : List Later}
-    → Awaits table bound base ground ws fs f depth env ks owed frames → f ≡ 0 → ks ≡ []
+none_waits : {table : List ℕ} {bound base : ℕ} {beneath : List Symbolic} {ws fs : List ℕ} {f depth owed frames : ℕ} {env : List Symbolic} {ks : List Later}
+    → Awaits table bound base beneath ws fs f depth env ks owed frames → f ≡ 0 → ks ≡ []
 none_waits no_frame e = refl
 none_waits (for_only s l o a) e = absurd (let h = s.earlier in omega arith)
 none_waits (for_first_lem s l o r v a) e = absurd (let h = s.earlier in omega arith)
 none_waits (for_second s l m a) e = absurd (let h = s.earlier in omega arith)
 none_waits (for_body_lem s l o m a) e = absurd (let h = s.earlier in omega arith)
 
-none-left_of : {limit : ℕ} {table : List ℕ} {bound base : ℕ} {ground : List Symbolic} {ws fs : List ℕ} {j : ℕ} {ls : List Leaf}
-    → Left limit table bound base ground ws fs j ls → j ≡ 0 → ls ≡ []
+none-left_of : {limit : ℕ} {table : List ℕ} {bound base : ℕ} {beneath : List Symbolic} {ws fs : List ℕ} {j : ℕ} {ls : List Leaf}
+    → Left limit table bound base beneath ws fs j ls → j ≡ 0 → ls ≡ []
 none-left_of none_left e = refl
 none-left_of (one_left j e c l o s) h = absurd (omega arith)
 
-module _ {limit : ℕ} {table : List ℕ} {bound base : ℕ} {ground : List Symbolic} {ws fs : List ℕ} {t q : ℕ} {ls : List Leaf}
-    (r : Returning limit table bound base ground ws fs t q ls) (none : frame_in fs ≡ 0) where
+module _ {limit : ℕ} {table : List ℕ} {bound base : ℕ} {beneath : List Symbolic} {ws fs : List ℕ} {t q : ℕ} {ls : List Leaf}
+    (r : Returning limit table bound base beneath ws fs t q ls) (none : frame_in fs ≡ 0) where
   ends_is : ls ≡ ended r.value r.path ∷ r.others
   unfolding go_on leaves
   ends_is = r.is ∙ ap (λ (ks : List Later). leaves (go_on limit table ks r.value r.path) ++ r.others) (none_waits r.stands.awaits none)
@@ -61,13 +61,13 @@ module _ {limit : ℕ} {table : List ℕ} {bound base : ℕ} {ground : List Symb
     first-is = ap (λ (u : ℕ). pick is_first u wanted) (ap first_type ends_is ∙ type-is)
 
     pub end_inconsistent : {left gs : List ℕ} → consistent_in ws ≡ false
-        → WalkOf limit table bound base ground n (pick is_first (first_type ls) wanted) left gs ls (Wrong (InconsistentLog n))
+        → WalkOf limit table bound base beneath n (pick is_first (first_type ls) wanted) left gs ls (Wrong (InconsistentLog n))
     unfolding judge
     end_inconsistent e = refused {x = InconsistentLog n} λ k. ap (judge n (suc k) (pick is_first (first_type ls) wanted)) ends_is ∙ rw (consistent-here e) refl
 
     module _ (e : consistent_in ws ≡ true) where
       pub end_other : {left gs : List ℕ} → (is_first || eqb t wanted) ≡ false
-          → WalkOf limit table bound base ground n (pick is_first (first_type ls) wanted) left gs ls (Wrong (PathTypesDiffer n))
+          → WalkOf limit table bound base beneath n (pick is_first (first_type ls) wanted) left gs ls (Wrong (PathTypesDiffer n))
       unfolding judge
       end_other d =
           refused {x = PathTypesDiffer n} λ k.
@@ -81,17 +81,17 @@ module _ {limit : ℕ} {table : List ℕ} {bound base : ℕ} {ground : List Symb
         unfolding judge
         goes k = ap (judge n (suc k) (pick is_first (first_type ls) wanted)) ends_is ∙ rw (consistent-here e, type-is, right, eq-eqb t t refl) refl
 
-        pub end_last : {left gs : List ℕ} → forked_in fs ≡ 0 → WalkOf limit table bound base ground n (pick is_first (first_type ls) wanted) left gs ls (Last t)
+        pub end_last : {left gs : List ℕ} → forked_in fs ≡ 0 → WalkOf limit table bound base beneath n (pick is_first (first_type ls) wanted) left gs ls (Last t)
         unfolding judge
         end_last z =
             lasted λ k.
             goes k ∙ ap (judge n k (pick is_first (first_type ls) wanted)) (none-left_of r.stands.left z) ∙ ap Accepted right
 
         pub end_more : {left gs : List ℕ} {m : ℕ} → Resumes table ws fs m left gs
-            → WalkOf limit table bound base ground n (pick is_first (first_type ls) wanted) left gs ls (More t m)
+            → WalkOf limit table bound base beneath n (pick is_first (first_type ls) wanted) left gs ls (More t m)
         end_more u =
             went_on r.others right
-            (u.resumed limit bound base ground r.environment r.path r.later r.owed r.frames r.others r.stands) goes
+            (u.resumed limit bound base beneath r.environment r.path r.later r.owed r.frames r.others r.stands) goes
 
   pub end_resumable : 1 ≤ forked_in fs → Resumable table ws fs
   end_resumable z =
@@ -100,7 +100,7 @@ module _ {limit : ℕ} {table : List ℕ} {bound base : ℕ} {ground : List Symb
         limit = limit;
         bound = bound;
         base = base;
-        ground = ground;
+        beneath = beneath;
         environment = r.environment;
         path = r.path;
         later = r.later;
@@ -116,18 +116,18 @@ module _ {limit : ℕ} {table : List ℕ} {bound base : ℕ} {ground : List Symb
 module _ {table ws fs : List ℕ} {t n : ℕ} {is_first : Bool} {wanted : ℕ} (x : AtEnd table ws fs t) {a : Bool} (c : a ≡ consistent_in ws) where
   pub path_inconsistent : not a ≡ true → PathEnds table n t is_first wanted ws fs (Wrong (InconsistentLog n)) ws fs
   path_inconsistent e =
-      record { ends = λ limit bound base q ground ls r. end_inconsistent r x.none n is_first wanted (sym c ∙ not-true a e) }
+      record { ends = λ limit bound base q beneath ls r. end_inconsistent r x.none n is_first wanted (sym c ∙ not-true a e) }
 
   module _ (e : not a ≡ false) {b : Bool} (w : b ≡ (is_first || eqb t wanted)) where
     pub path-other : not b ≡ true → PathEnds table n t is_first wanted ws fs (Wrong (PathTypesDiffer n)) ws fs
-    path-other d = record { ends = λ limit bound base q ground ls r. end_other r x.none n is_first wanted (sym c ∙ not-false a e) (sym w ∙ not-true b d) }
+    path-other d = record { ends = λ limit bound base q beneath ls r. end_other r x.none n is_first wanted (sym c ∙ not-false a e) (sym w ∙ not-true b d) }
 
     module _ (d : not b ≡ false) where
       pub path-last : forked_in fs ≡ 0 → PathEnds table n t is_first wanted ws fs (Last t) ws fs
-      path-last z = record { ends = λ limit bound base q ground ls r. end_last r x.none n is_first wanted (sym c ∙ not-false a e) (sym w ∙ not-false b d) z }
+      path-last z = record { ends = λ limit bound base q beneath ls r. end_last r x.none n is_first wanted (sym c ∙ not-false a e) (sym w ∙ not-false b d) z }
 
       pub path-more : {m : ℕ} {left gs : List ℕ} → Resumes table ws fs m left gs → PathEnds table n t is_first wanted ws fs (More t m) left gs
-      path-more u = record { ends = λ limit bound base q ground ls r. end_more r x.none n is_first wanted (sym c ∙ not-false a e) (sym w ∙ not-false b d) u }
+      path-more u = record { ends = λ limit bound base q beneath ls r. end_more r x.none n is_first wanted (sym c ∙ not-false a e) (sym w ∙ not-false b d) u }
 
 pub path_resumable : {table ws fs : List ℕ} {t : ℕ} → AtEnd table ws fs t → (forked_in fs ≡ 0 → ⊥) → Resumable table ws fs
 path_resumable x z = end_resumable x.returnable.returning x.none (omega arith)

@@ -96,39 +96,39 @@ unfolding two_exec
 let_two k n h v w p = ap (λ (g : Form). two_exec g n v w p) (form-at let_form k h)
 
 -- what the step of a rule comes to
-pub gives-came : {limit : ℕ} {table : List ℕ} {bound base : ℕ} {ground : List Symbolic} {left gs : List ℕ} {ls : List Leaf} {a : Step}
-    → Gives limit table bound base ground left gs ls a → Came limit table bound base ground left gs ls (moved_by a)
+pub gives-came : {limit : ℕ} {table : List ℕ} {bound base : ℕ} {beneath : List Symbolic} {left gs : List ℕ} {ls : List Leaf} {a : Step}
+    → Gives limit table bound base beneath left gs ls a → Came limit table bound base beneath left gs ls (moved_by a)
 gives-came (gives x) = came-value x
 gives-came (gives_none rest e) = came-stopped rest e
 
 -- ---- what the frame has
 
 -- the rest of what waits once node n has its value, by what its frame has; the next frame is g
-pub data Upper (limit : ℕ) (table : List ℕ) (bound base : ℕ) (ground : List Symbolic) (ws fs : List ℕ) (env : List Symbolic) (p : Path) (v : Symbolic)
+pub data Upper (limit : ℕ) (table : List ℕ) (bound base : ℕ) (beneath : List Symbolic) (ws fs : List ℕ) (env : List Symbolic) (p : Path) (v : Symbolic)
     (owed frames : ℕ) (others ls : List Leaf) (x y n g : ℕ) : ℕ → Type 0 where
   upper-only : {ks : List Later} {less : ℕ} → node_operands (node_in table n).kind ≡ 1 → owed ≡ suc less
-      → Stands limit table bound base ground ws (set fs goal_at g) env p ks less frames others
+      → Stands limit table bound base beneath ws (set fs goal_at g) env p ks less frames others
       → ls ≡ leaves (bind (one_exec (form_of (node_in table n).kind) n v p) (go_on limit table ks)) ++ others
-      → Upper limit table bound base ground ws fs env p v owed frames others ls x y n g for_first
+      → Upper limit table bound base beneath ws fs env p v owed frames others ls x y n g for_first
   upper_first : {ks : List Later} {rest less fewer : ℕ} → 2 ≤ node_operands (node_in table n).kind → rest_size table n ≡ suc rest → depth_in ws + suc rest ≤ symbol_limit
-      → owed ≡ suc rest + less → frames ≡ rest + fewer → Stands limit table bound base ground ws (set fs goal_at g) env p ks less fewer others
+      → owed ≡ suc rest + less → frames ≡ rest + fewer → Stands limit table bound base beneath ws (set fs goal_at g) env p ks less fewer others
       → ls
       ≡ leaves
       (bind (rest_exec (node_in table n) limit n (tree_in table (node_in table n).b) (tree_in table (node_in table n).c) v env p)
       (go_on limit table ks))
       ++ others
-      → Upper limit table bound base ground ws fs env p v owed frames others ls x y n g for_first
+      → Upper limit table bound base beneath ws fs env p v owed frames others ls x y n g for_first
   upper-second : {ks : List Later} {less : ℕ} {w : Symbolic} → Means ws x y w → owed ≡ suc less
-      → Stands limit table bound base ground ws (set fs goal_at g) env p ks less frames others
+      → Stands limit table bound base beneath ws (set fs goal_at g) env p ks less frames others
       → ls ≡ leaves (bind (two_exec (form_of (node_in table n).kind) n w v p) (go_on limit table ks)) ++ others
-      → Upper limit table bound base ground ws fs env p v owed frames others ls x y n g for_next
+      → Upper limit table bound base beneath ws fs env p v owed frames others ls x y n g for_next
   upper-body : {ks : List Later} {less depth : ℕ} {w : Symbolic} {around : List Symbolic} → (node_in table n).kind ≡ kind_for let_form → Means ws x y w → owed ≡ suc less
-      → depth_in ws ≡ suc depth → env ≡ around ++ (w ∷ []) → Awaits table bound base ground ws fs g depth around ks less frames
+      → depth_in ws ≡ suc depth → env ≡ around ++ (w ∷ []) → Awaits table bound base beneath ws fs g depth around ks less frames
       → ls ≡ leaves (bind (two_exec (form_of (node_in table n).kind) n w v p) (go_on limit table ks)) ++ others
-      → Upper limit table bound base ground ws fs env p v owed frames others ls x y n g for_body
+      → Upper limit table bound base beneath ws fs env p v owed frames others ls x y n g for_body
 
-module _ {limit : ℕ} {table : List ℕ} {bound base : ℕ} {ground : List Symbolic} {ws fs : List ℕ} {t q : ℕ} {ls : List Leaf}
-    (r : Returning limit table bound base ground ws fs t q ls) (some : 1 ≤ frame_in fs) where
+module _ {limit : ℕ} {table : List ℕ} {bound base : ℕ} {beneath : List Symbolic} {ws fs : List ℕ} {t q : ℕ} {ls : List Leaf}
+    (r : Returning limit table bound base beneath ws fs t q ls) (some : 1 ≤ frame_in fs) where
   abbrev f : ℕ
   f = frame_in fs
 
@@ -142,10 +142,10 @@ module _ {limit : ℕ} {table : List ℕ} {bound base : ℕ} {ground : List Symb
   pub record Up : Type 0 where
     pub low : waiter_of fs (frame_in fs) < bound
     pub falls : goes_to fs (frame_in fs) < frame_in fs
-    pub view : Upper limit table bound base ground ws fs r.environment r.path r.value r.owed r.frames r.others ls (first_of fs (frame_in fs))
+    pub view : Upper limit table bound base beneath ws fs r.environment r.path r.value r.owed r.frames r.others ls (first_of fs (frame_in fs))
         (second_of fs (frame_in fs)) (waiter_of fs (frame_in fs)) (goes_to fs (frame_in fs)) (awaits_of fs (frame_in fs))
 
-  up_by : {h depth owed frames : ℕ} {env : List Symbolic} {ks : List Later} → Awaits table bound base ground ws fs h depth env ks owed frames → h ≡ frame_in fs
+  up_by : {h depth owed frames : ℕ} {env : List Symbolic} {ks : List Later} → Awaits table bound base beneath ws fs h depth env ks owed frames → h ≡ frame_in fs
       → depth ≡ depth_in ws → env ≡ r.environment → ks ≡ r.later → owed ≡ r.owed → frames ≡ r.frames → Up
   unfolding go_on
   up_by no_frame e d i k o w = absurd (omega arith)
@@ -212,7 +212,7 @@ module _ {limit : ℕ} {table : List ℕ} {bound base : ℕ} {ground : List Symb
   pub up : Up
   up = up_by r.stands.awaits refl refl refl refl refl refl
 
-  owed-some : {awaits : ℕ} → Upper limit table bound base ground ws fs r.environment r.path r.value r.owed r.frames r.others ls (first_of fs f) (second_of fs f) n g awaits
+  owed-some : {awaits : ℕ} → Upper limit table bound base beneath ws fs r.environment r.path r.value r.owed r.frames r.others ls (first_of fs f) (second_of fs f) n g awaits
       → 1 ≤ r.owed
   owed-some (upper-only c o s i) = omega arith
   owed-some (upper_first c j d o w s i) = omega arith
@@ -240,11 +240,11 @@ module _ {limit : ℕ} {table : List ℕ} {bound base : ℕ} {ground : List Symb
   -- ---- the only operand
 
   pub up_one : awaits_of fs f ≡ for_first → node_operands (node_in table n).kind ≡ 1 → {a : Step} {left : List ℕ} → One (form_of (node_in table n).kind) n t q ws a left
-      → Gives limit table bound base ground left (set fs goal_at g) ls a
+      → Gives limit table bound base beneath left (set fs goal_at g) ls a
   up_one z o {a} {left} x = by up.view z
     where
-      by : {awaits : ℕ} → Upper limit table bound base ground ws fs r.environment r.path r.value r.owed r.frames r.others ls (first_of fs f) (second_of fs f) n g awaits
-          → awaits ≡ for_first → Gives limit table bound base ground left (set fs goal_at g) ls a
+      by : {awaits : ℕ} → Upper limit table bound base beneath ws fs r.environment r.path r.value r.owed r.frames r.others ls (first_of fs f) (second_of fs f) n g awaits
+          → awaits ≡ for_first → Gives limit table bound base beneath left (set fs goal_at g) ls a
       by (upper-only c e s i) z =
           yields-gives s x.ruled (room_less (omega arith) r.room) left-tops i (x.yields r.value r.path r.means r.stands.state.path)
       by (upper_first c j d e w s i) z = absurd (omega arith)
@@ -259,7 +259,7 @@ module _ {limit : ℕ} {table : List ℕ} {bound base : ℕ} {ground : List Symb
       operable : {w : Symbolic} → Means ws (first_of fs f) (second_of fs f) w → Operable ws (first_of fs f) (second_of fs f) t q
       operable {w} m = record { room = up_room; first = record { value = w; means = m }; second = up-valued; distinct = r.stands.state.path.distinct }
 
-      by : {awaits : ℕ} → Upper limit table bound base ground ws fs r.environment r.path r.value r.owed r.frames r.others ls (first_of fs f) (second_of fs f) n g awaits
+      by : {awaits : ℕ} → Upper limit table bound base beneath ws fs r.environment r.path r.value r.owed r.frames r.others ls (first_of fs f) (second_of fs f) n g awaits
           → awaits ≡ awaits_of fs f → Lastable (awaits_of fs f) ws (first_of fs f) (second_of fs f) t q
       by (upper-only c e s i) h = absurd (z (sym h))
       by (upper_first c j d e w s i) h = absurd (z (sym h))
@@ -277,17 +277,17 @@ module _ {limit : ℕ} {table : List ℕ} {bound base : ℕ} {ground : List Symb
       }
 
   pub up-last : (awaits_of fs f ≡ for_first → ⊥) → {m : Move} {left : List ℕ}
-      → Lasts (node_in table n).kind (awaits_of fs f) n (first_of fs f) (second_of fs f) t q ws m left → Came limit table bound base ground left (set fs goal_at g) ls m
+      → Lasts (node_in table n).kind (awaits_of fs f) n (first_of fs f) (second_of fs f) t q ws m left → Came limit table bound base beneath left (set fs goal_at g) ls m
   unfolding bind
   up-last z {m} {left} x = by up.view refl
     where
-      by : {awaits : ℕ} → Upper limit table bound base ground ws fs r.environment r.path r.value r.owed r.frames r.others ls (first_of fs f) (second_of fs f) n g awaits
-          → awaits ≡ awaits_of fs f → Came limit table bound base ground left (set fs goal_at g) ls m
+      by : {awaits : ℕ} → Upper limit table bound base beneath ws fs r.environment r.path r.value r.owed r.frames r.others ls (first_of fs f) (second_of fs f) n g awaits
+          → awaits ≡ awaits_of fs f → Came limit table bound base beneath left (set fs goal_at g) ls m
       by (upper-only c e s i) h = absurd (z (sym h))
       by (upper_first c j d e w s i) h = absurd (z (sym h))
       by (upper-second {w = w} k e s i) h =
           let o = x.other λ y. omega arith in
-          subst (λ (a : Move). Came limit table bound base ground left (set fs goal_at g) ls a) (sym o.1)
+          subst (λ (a : Move). Came limit table bound base beneath left (set fs goal_at g) ls a) (sym o.1)
           (gives-came
           (yields-gives s o.2.ruled (room_less (omega arith) r.room) left-tops i
           (o.2.yields w r.value r.path k r.means r.stands.state.path)))
@@ -337,7 +337,7 @@ module _ {limit : ℕ} {table : List ℕ} {bound base : ℕ} {ground : List Symb
     pub narrow : depth_in ws + suc rest ≤ symbol_limit
     pub owed-is : r.owed ≡ suc rest + less
     pub frames-is : r.frames ≡ rest + fewer
-    pub stands : Stands limit table bound base ground ws (set fs goal_at (goes_to fs (frame_in fs))) r.environment r.path later less fewer r.others
+    pub stands : Stands limit table bound base beneath ws (set fs goal_at (goes_to fs (frame_in fs))) r.environment r.path later less fewer r.others
     pub is : ls
         ≡ leaves
         (bind
@@ -349,7 +349,7 @@ module _ {limit : ℕ} {table : List ℕ} {bound base : ℕ} {ground : List Symb
   pub up_next : awaits_of fs f ≡ for_first → (node_operands (node_in table n).kind ≡ 1 → ⊥) → Next
   up_next z o = by up.view z
     where
-      by : {awaits : ℕ} → Upper limit table bound base ground ws fs r.environment r.path r.value r.owed r.frames r.others ls (first_of fs f) (second_of fs f) n g awaits
+      by : {awaits : ℕ} → Upper limit table bound base beneath ws fs r.environment r.path r.value r.owed r.frames r.others ls (first_of fs f) (second_of fs f) n g awaits
           → awaits ≡ for_first → Next
       by (upper-only c e s i) z = absurd (o c)
       by (upper_first {ks = ks} {rest = rest} {less = less} {fewer = fewer} c j d e w s i) z =

@@ -112,9 +112,9 @@ slot_kept {f = f} b s =
       earlier = s.earlier;
     }
 
-pub awaits-kept : {table : List ℕ} {bound base : ℕ} {ground : List Symbolic} {ws fs left gs : List ℕ} {f depth owed frames : ℕ} {env : List Symbolic} {ks : List Later}
+pub awaits-kept : {table : List ℕ} {bound base : ℕ} {beneath : List Symbolic} {ws fs left gs : List ℕ} {f depth owed frames : ℕ} {env : List Symbolic} {ks : List Later}
     (top : ℕ) → f ≤ top → Grown ws left → ((k : ℕ) → frame_width ≤ k → k < frame_width + frame_width * top → get_or gs k 0 ≡ get_or fs k 0)
-    → Awaits table bound base ground ws fs f depth env ks owed frames → Awaits table bound base ground left gs f depth env ks owed frames
+    → Awaits table bound base beneath ws fs f depth env ks owed frames → Awaits table bound base beneath left gs f depth env ks owed frames
 awaits-kept top h g b no_frame = no_frame
 awaits-kept top h g b (for_only s l o a) =
     let e = s.earlier in
@@ -132,8 +132,8 @@ awaits-kept top h g b (for_body_lem {f = f} s l o m a) =
     (means-at g (b (frame_width * f + 2) (omega arith) (omega arith)) (b (frame_width * f + 3) (omega arith) (omega arith)) m) (awaits-kept top (omega arith) g b a)
 
 -- there are no fewer variables than at the start
-pub awaits-base : {table : List ℕ} {bound base : ℕ} {ground : List Symbolic} {ws fs : List ℕ} {f depth owed frames : ℕ} {env : List Symbolic} {ks : List Later}
-    → Awaits table bound base ground ws fs f depth env ks owed frames → base ≤ depth
+pub awaits-base : {table : List ℕ} {bound base : ℕ} {beneath : List Symbolic} {ws fs : List ℕ} {f depth owed frames : ℕ} {env : List Symbolic} {ks : List Later}
+    → Awaits table bound base beneath ws fs f depth env ks owed frames → base ≤ depth
 awaits-base no_frame = omega arith
 awaits-base (for_only s l o a) = awaits-base a
 awaits-base (for_first_lem s l o r v a) = awaits-base a
@@ -156,15 +156,15 @@ forked-kept j b f =
       depth = rw y f.depth;
     }
 
-pub left-kept : {limit : ℕ} {table : List ℕ} {bound base : ℕ} {ground : List Symbolic} {ws fs left gs : List ℕ} {j : ℕ} {ls : List Leaf}
-    → Onward base ws fs left gs → j ≤ forked_in fs → Left limit table bound base ground ws fs j ls → Left limit table bound base ground left gs j ls
+pub left-kept : {limit : ℕ} {table : List ℕ} {bound base : ℕ} {beneath : List Symbolic} {ws fs left gs : List ℕ} {j : ℕ} {ls : List Leaf}
+    → Onward base ws fs left gs → j ≤ forked_in fs → Left limit table bound base beneath ws fs j ls → Left limit table bound base beneath left gs j ls
 left-kept w h none_left = none_left
 left-kept w h (one_left j e c l o s) = one_left j e c l (onward_trans o w) (forked-kept j (λ k i m. w.forks k i (omega arith)) s)
 
 -- ---- where a path stands
 
-module _ {limit : ℕ} {table : List ℕ} {bound base : ℕ} {ground : List Symbolic} {ws fs : List ℕ} {env : List Symbolic} {p : Path} {ks : List Later} {owed frames : ℕ}
-    {ls : List Leaf} (s : Stands limit table bound base ground ws fs env p ks owed frames ls) where
+module _ {limit : ℕ} {table : List ℕ} {bound base : ℕ} {beneath : List Symbolic} {ws fs : List ℕ} {env : List Symbolic} {p : Path} {ks : List Later} {owed frames : ℕ}
+    {ls : List Leaf} (s : Stands limit table bound base beneath ws fs env p ks owed frames ls) where
   pub stands-base : base ≤ depth_in ws
   stands-base = awaits-base s.awaits
 
@@ -174,8 +174,8 @@ module _ {limit : ℕ} {table : List ℕ} {bound base : ℕ} {ground : List Symb
   -- wherever the path went, without a fork
   pub stands_by : {left gs : List ℕ} {env₂ : List Symbolic} {q : Path} {ks₂ : List Later} {owed₂ frames₂ : ℕ} → Onward base ws fs left gs
       → forked_in gs ≡ forked_in fs → frame_in gs ≤ top_in gs → depth_in left ≤ symbol_limit → Holding limit table ws left → State left (depth_in left) env₂ q
-      → Awaits table bound base ground left gs (frame_in gs) (depth_in left) env₂ ks₂ owed₂ frames₂
-      → Stands limit table bound base ground left gs env₂ q ks₂ owed₂ frames₂ ls
+      → Awaits table bound base beneath left gs (frame_in gs) (depth_in left) env₂ ks₂ owed₂ frames₂
+      → Stands limit table bound base beneath left gs env₂ q ks₂ owed₂ frames₂ ls
   stands_by o j i n h st a =
       record {
         formed = s.formed;
@@ -183,7 +183,7 @@ module _ {limit : ℕ} {table : List ℕ} {bound base : ℕ} {ground : List Symb
         framed = omega (arith, s.framed, o.framed);
         narrow = n;
         state = st;
-        ground-is = variables-kept base (omega arith) o.first o.grown s.ground-is;
+        beneath-is = variables-kept base (omega arith) o.first o.grown s.beneath-is;
         based = h.base ∙ s.based;
         notes = h.kept;
         awaits = a;
@@ -195,13 +195,13 @@ module _ {limit : ℕ} {table : List ℕ} {bound base : ℕ} {ground : List Symb
   -- the notes are as before
   pub stands_on : {left gs : List ℕ} {env₂ : List Symbolic} {q : Path} {ks₂ : List Later} {owed₂ frames₂ : ℕ} → Onward base ws fs left gs
       → forked_in gs ≡ forked_in fs → frame_in gs ≤ top_in gs → depth_in left ≤ symbol_limit → Unnoted ws left → State left (depth_in left) env₂ q
-      → Awaits table bound base ground left gs (frame_in gs) (depth_in left) env₂ ks₂ owed₂ frames₂
-      → Stands limit table bound base ground left gs env₂ q ks₂ owed₂ frames₂ ls
+      → Awaits table bound base beneath left gs (frame_in gs) (depth_in left) env₂ ks₂ owed₂ frames₂
+      → Stands limit table bound base beneath left gs env₂ q ks₂ owed₂ frames₂ ls
   stands_on o j i n u st a =
       stands_by o j i n (still_holding (record { lent = s.lent; based = let e = s.based in omega arith; kept = s.notes }) o.first u) st a
 
   -- a rule has been applied
-  pub stands-ruled : {left : List ℕ} {q : Path} → Ruled ws left → PathIn left q → Stands limit table bound base ground left fs env q ks owed frames ls
+  pub stands-ruled : {left : List ℕ} {q : Path} → Ruled ws left → PathIn left q → Stands limit table bound base beneath left fs env q ks owed frames ls
   stands-ruled r h =
       let d = r.depth in
       let n = s.narrow in
@@ -213,7 +213,7 @@ module _ {limit : ℕ} {table : List ℕ} {bound base : ℕ} {ground : List Symb
   -- a node waits in a new frame
   module _ {gs : List ℕ} {n awaits x y : ℕ} (few : suc (top_in fs) < node_limit) (w : Waits n awaits x y fs gs) where
     -- what waited before
-    pub waits_awaits : Awaits table bound base ground ws gs (frame_in fs) (depth_in ws) env ks owed frames
+    pub waits_awaits : Awaits table bound base beneath ws gs (frame_in fs) (depth_in ws) env ks owed frames
     waits_awaits = awaits-kept (top_in fs) s.inside (grown-refl ws) (λ k l h. w.others k (omega arith) λ i j. omega arith) s.awaits
 
     pub waits_slot : Slot gs (suc (top_in fs)) n (frame_in fs) awaits
@@ -223,16 +223,16 @@ module _ {limit : ℕ} {table : List ℕ} {bound base : ℕ} {ground : List Symb
     waits_forked = w.others 2 (omega arith) λ h i. omega arith
 
     -- with what waits now
-    pub waits_stands : {later : List Later} {more wider : ℕ} → Awaits table bound base ground ws gs (suc (top_in fs)) (depth_in ws) env later more wider
-        → Stands limit table bound base ground ws gs env p later more wider ls
+    pub waits_stands : {later : List Later} {more wider : ℕ} → Awaits table bound base beneath ws gs (suc (top_in fs)) (depth_in ws) env later more wider
+        → Stands limit table bound base beneath ws gs env p later more wider ls
     waits_stands a =
         let f = w.frame in
         let t = w.top in
         stands_on (waits_onward ws few w) waits_forked (omega arith) s.narrow (unnoted_refl ws) s.state (rw f a)
 
   -- another frame is the one that the next value goes to
-  pub leave_stands : {ks₂ : List Later} {owed₂ frames₂ : ℕ} (g : ℕ) → g < frame_in fs → Awaits table bound base ground ws fs g (depth_in ws) env ks₂ owed₂ frames₂
-      → Stands limit table bound base ground ws (set fs goal_at g) env p ks₂ owed₂ frames₂ ls
+  pub leave_stands : {ks₂ : List Later} {owed₂ frames₂ : ℕ} (g : ℕ) → g < frame_in fs → Awaits table bound base beneath ws fs g (depth_in ws) env ks₂ owed₂ frames₂
+      → Stands limit table bound base beneath ws (set fs goal_at g) env p ks₂ owed₂ frames₂ ls
   leave_stands g l a =
       let f = get_or-set_same fs goal_at g 0 (omega (arith, s.framed)) in
       let t = get_or-set_other fs goal_at top_at g 0 λ e. omega arith in

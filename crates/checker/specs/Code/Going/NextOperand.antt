@@ -41,8 +41,8 @@ use Rattle.checker.specs.declared.steps.Move.{Move}
 use Rattle.checker.specs.declared.steps.Move.TheVariants.{Operand}
 use Rattle.checker.specs.Code.Going.FrameRules.{Shifted, shifted-grown, shifted-path, shifted-onward, shifted-room, shifted_unnoted, Next, up, up_room, up-valued, left-top, left-forked}
 
-module _ {limit : ℕ} {table : List ℕ} {bound base : ℕ} {ground : List Symbolic} {ws fs : List ℕ} {t q : ℕ} {ls : List Leaf}
-    (r : Returning limit table bound base ground ws fs t q ls) (some : 1 ≤ frame_in fs) where
+module _ {limit : ℕ} {table : List ℕ} {bound base : ℕ} {beneath : List Symbolic} {ws fs : List ℕ} {t q : ℕ} {ls : List Leaf}
+    (r : Returning limit table bound base beneath ws fs t q ls) (some : 1 ≤ frame_in fs) where
   abbrev f : ℕ
   f = frame_in fs
 
@@ -82,13 +82,13 @@ module _ {limit : ℕ} {table : List ℕ} {bound base : ℕ} {ground : List Symb
 
     -- it waits for the next one
     pub next-stands : {gs : List ℕ} → Waits n for_next t q fs₁ gs
-        → Stands limit table bound base ground ws gs r.environment r.path (second n r.value ∷ x.later) (suc x.less) x.fewer r.others
+        → Stands limit table bound base beneath ws gs r.environment r.path (second n r.value ∷ x.later) (suc x.less) x.fewer r.others
     next-stands w =
         waits_stands x.stands next-few w (for_second (waits_slot x.stands next-few w) (up r some).low (value-at w) (waits_awaits x.stands next-few w))
 
     -- of an operator
     pub next-plain : ((node_in table n).kind ≡ kind_for if_form → ⊥) → ((node_in table n).kind ≡ kind_for let_form → ⊥) → {gs : List ℕ} → Waits n for_next t q fs₁ gs
-        → Entering limit table bound base ground ws gs b ls
+        → Entering limit table bound base beneath ws gs b ls
     unfolding go_on
     next-plain d e w =
         let h = after.second_fits in
@@ -171,7 +171,7 @@ module _ {limit : ℕ} {table : List ℕ} {bound base : ℕ} {ground : List Symb
         r.stands.state.variables)
         (means-at bound-grown bound-type bound-place r.means))
 
-    pub next_let : (node_in table n).kind ≡ kind_for let_form → {gs : List ℕ} → Waits n for_body t q fs₁ gs → Entering limit table bound base ground ws₁ gs b ls
+    pub next_let : (node_in table n).kind ≡ kind_for let_form → {gs : List ℕ} → Waits n for_body t q fs₁ gs → Entering limit table bound base beneath ws₁ gs b ls
     unfolding go_on
     next_let e {gs} w =
         let h = after.second_fits in
@@ -229,7 +229,7 @@ module _ {limit : ℕ} {table : List ℕ} {bound base : ℕ} {ground : List Symb
       module _ {gs : List ℕ} (w : Waits n for_next t q fs₁ gs) where
         one_branch : (m : ℕ) → m < n → suc (suc (size (tree_in table m))) ≤ rest_size table n → {left : List ℕ} {p₁ : Path} → Ruled ws left → PathIn left p₁
             → decide n r.value r.path (exec limit (tree_in table b) r.environment) (exec limit (tree_in table c) r.environment)
-            ≡ exec limit (tree_in table m) r.environment p₁ → Entering limit table bound base ground left gs m ls
+            ≡ exec limit (tree_in table m) r.environment p₁ → Entering limit table bound base beneath left gs m ls
         one_branch m l k {left} {p₁} u i e =
             record {
               environment = r.environment;
@@ -253,10 +253,10 @@ module _ {limit : ℕ} {table : List ℕ} {bound base : ℕ} {ground : List Symb
         branch-second : suc (suc (size (tree_in table c))) ≤ rest_size table n
         branch-second = let z = size-some (tree_in table b) in omega (arith, z, sides.fits)
 
-        takes_first : {left : List ℕ} → Ruled ws left → Chosen ws left n r.value r.path First → Entering limit table bound base ground left gs b ls
+        takes_first : {left : List ℕ} → Ruled ws left → Chosen ws left n r.value r.path First → Entering limit table bound base beneath left gs b ls
         takes_first u (chosen-first {q = p₁} i e) = one_branch b after.earlier branch-first u i (e _ _)
 
-        takes_second : {left : List ℕ} → Ruled ws left → Chosen ws left n r.value r.path Second → Entering limit table bound base ground left gs c ls
+        takes_second : {left : List ℕ} → Ruled ws left → Chosen ws left n r.value r.path Second → Entering limit table bound base beneath left gs c ls
         takes_second u (chosen-second {q = p₁} i e) = one_branch c sides.earlier branch-second u i (e _ _)
 
         takes_none : {left : List ℕ} {y : Refusal} → Chosen ws left n r.value r.path (Neither y) → ls ≡ stopped y ∷ r.others
@@ -280,7 +280,7 @@ module _ {limit : ℕ} {table : List ℕ} {bound base : ℕ} {ground : List Symb
         forked-here : forked_in hs ≡ forked_in fs
         forked-here = waits_forked x.stands next-few w ∙ (left-forked r some)
 
-        forking : Forking limit table bound base ground ws hs
+        forking : Forking limit table bound base beneath ws hs
             (leaves
             (bind (exec limit (tree_in table c) r.environment (without_guard k r.path)) (go_on limit table (second n r.value ∷ x.later))))
         forking =
@@ -297,7 +297,7 @@ module _ {limit : ℕ} {table : List ℕ} {bound base : ℕ} {ground : List Symb
               lent = s.lent;
               framed = s.framed;
               state = s.state;
-              ground-is = s.ground-is;
+              beneath-is = s.beneath-is;
               awaits = s.awaits;
               newest = w.frame ∙ sym w.top;
               means = rw (w.frame, w.second) guard-means;
@@ -341,7 +341,7 @@ module _ {limit : ℕ} {table : List ℕ} {bound base : ℕ} {ground : List Symb
               forks = λ i l m. y.others i (λ e. omega arith) m;
             }
 
-        both-stands : Stands limit table bound base ground ws gs r.environment r.path (second n r.value ∷ x.later) (suc x.less) x.fewer
+        both-stands : Stands limit table bound base beneath ws gs r.environment r.path (second n r.value ∷ x.later) (suc x.less) x.fewer
             (onto ++ r.others)
         both-stands =
             let s = next-stands w in
@@ -352,7 +352,7 @@ module _ {limit : ℕ} {table : List ℕ} {bound base : ℕ} {ground : List Symb
               framed = omega (arith, s.framed, y.same);
               narrow = s.narrow;
               state = s.state;
-              ground-is = s.ground-is;
+              beneath-is = s.beneath-is;
               based = s.based;
               notes = s.notes;
               awaits =
@@ -364,7 +364,7 @@ module _ {limit : ℕ} {table : List ℕ} {bound base : ℕ} {ground : List Symb
             }
 
         takes_both : ((e f : Path → Paths) → decide n r.value r.path e f ≡ forks (e (with_guard k r.path)) (f (without_guard k r.path)))
-            → Entering limit table bound base ground (assumed (forgotten ws) of_conjunction q) gs b ls
+            → Entering limit table bound base beneath (assumed (forgotten ws) of_conjunction q) gs b ls
         unfolding bind leaves
         takes_both e =
             let z = size-some (tree_in table c) in
@@ -392,15 +392,15 @@ module _ {limit : ℕ} {table : List ℕ} {bound base : ℕ} {ground : List Symb
             }
 
       takes_either : {between hs gs : List ℕ} → Waits n for_next t q fs₁ hs → Chosen ws between n r.value r.path Both → Forks between hs gs
-          → Entering limit table bound base ground (assumed (forgotten between) of_conjunction q) gs b ls
+          → Entering limit table bound base beneath (assumed (forgotten between) of_conjunction q) gs b ls
       takes_either {hs = hs} {gs = gs} w (chosen-both s v a d e) y =
           rw s (takes_both w (subst (λ (ws : List ℕ). Forks ws hs gs) s y) v a d e)
 
-      pub next-branch : {m : Move} {left gs : List ℕ} → Branched b c n t q ws fs₁ left gs m → Came limit table bound base ground left gs ls m
+      pub next-branch : {m : Move} {left gs : List ℕ} → Branched b c n t q ws fs₁ left gs m → Came limit table bound base beneath left gs ls m
       next-branch (to_first w k) = came-operand (takes_first w k.ruled (k.chosen r.value r.path r.means r.stands.state.path))
       next-branch (to_second w k) = came-operand (takes_second w k.ruled (k.chosen r.value r.path r.means r.stands.state.path))
       next-branch {left = left} {gs = gs} (to_both w k y e) =
-          subst (λ (xs : List ℕ). Came limit table bound base ground xs gs ls (Operand b)) (sym e)
+          subst (λ (xs : List ℕ). Came limit table bound base beneath xs gs ls (Operand b)) (sym e)
           (came-operand (takes_either w (k.chosen r.value r.path r.means r.stands.state.path) y))
       next-branch (to_none w k) = came-stopped r.others (takes_none w (k.chosen r.value r.path r.means r.stands.state.path))
 

@@ -70,7 +70,7 @@ module _ {table ws fs : List ℕ} {t q : ℕ} (x : Returnable table ws fs t q) (
         → Backs table t q ws fs m left fs₁
     back_last {m} {left} l =
         record {
-          came = λ limit bound base ground ls r. up-last r some z l;
+          came = λ limit bound base beneath ls r. up-last r some z l;
           falls = λ e. falls;
           rises = λ e. absurd (by (eqb (awaits_of fs f) 2) refl e);
           tops = omega (arith, top-is);
@@ -89,7 +89,7 @@ module _ {table ws fs : List ℕ} {t q : ℕ} (x : Returnable table ws fs t q) (
       → Backs table t q ws fs (moved_by a) left fs₁
   back_one z o {a} l =
       record {
-        came = λ limit bound base ground ls r. gives-came (up_one r some z o l);
+        came = λ limit bound base beneath ls r. gives-came (up_one r some z o l);
         falls = λ e. falls;
         rises = λ e. absurd (moved_not-operand a e);
         tops = omega (arith, top-is);
@@ -109,7 +109,7 @@ module _ {table ws fs : List ℕ} {t q : ℕ} (x : Returnable table ws fs t q) (
         → Backs table t q ws fs (Operand (node_in table n).b) ws gs
     back_plain d e w =
         record {
-          came = λ limit bound base ground ls r. came-operand (next-plain r some (up_next r some z o) d e w);
+          came = λ limit bound base beneath ls r. came-operand (next-plain r some (up_next r some z o) d e w);
           falls = λ i. absurd (value-not-operand (sym i));
           rises = λ i. risen w;
           tops = let l = risen w in omega arith;
@@ -122,7 +122,7 @@ module _ {table ws fs : List ℕ} {t q : ℕ} (x : Returnable table ws fs t q) (
     pub back_let : (node_in table n).kind ≡ kind_for let_form → {gs : List ℕ} → Waits n for_body t q fs₁ gs → Backs table t q ws fs (Operand (node_in table n).b) (bound_to ws t q) gs
     back_let e w =
         record {
-          came = λ limit bound base ground ls r. came-operand (next_let r some (up_next r some z o) e w);
+          came = λ limit bound base beneath ls r. came-operand (next_let r some (up_next r some z o) e w);
           falls = λ i. absurd (value-not-operand (sym i));
           rises = λ i. risen w;
           tops = let l = risen w in omega arith;
@@ -154,7 +154,7 @@ module _ {table ws fs : List ℕ} {t q : ℕ} (x : Returnable table ws fs t q) (
       pub back_branch : {m : Move} {left gs : List ℕ} → Branched (node_in table n).b (node_in table n).c n t q ws fs₁ left gs m → Backs table t q ws fs m left gs
       back_branch k =
           record {
-            came = λ limit bound base ground ls r. next-branch r some (up_next r some z o) h k;
+            came = λ limit bound base beneath ls r. next-branch r some (up_next r some z o) h k;
             falls = λ e. absurd (branched_none k e);
             rises = λ e. branched_top k;
             tops = let l = branched_top k in omega arith;

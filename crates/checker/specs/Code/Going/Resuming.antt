@@ -26,20 +26,20 @@ use Rattle.checker.specs.Code.Going.Keeping.{awaits-kept, left-kept, stands-base
 -- ---- the last fork
 
 -- what is left, where there is a fork
-pub record Last (limit : ℕ) (table : List ℕ) (bound base : ℕ) (ground : List Symbolic) (ws fs : List ℕ) (ls : List Leaf) (j : ℕ) : Type 0 where
+pub record Last (limit : ℕ) (table : List ℕ) (bound base : ℕ) (beneath : List Symbolic) (ws fs : List ℕ) (ls : List Leaf) (j : ℕ) : Type 0 where
   pub xs : List ℕ
   pub gs : List ℕ
   pub own : List Leaf
   pub others : List Leaf
   pub count : forked_in gs ≡ j
-  pub forking : Forking limit table bound base ground xs gs own
-  pub left : Left limit table bound base ground xs gs j others
+  pub forking : Forking limit table bound base beneath xs gs own
+  pub left : Left limit table bound base beneath xs gs j others
   pub onward : Onward base xs gs ws fs
   pub slot : Forked xs gs j fs
   pub is : ls ≡ own ++ others
 
-pub last_of : {limit : ℕ} {table : List ℕ} {bound base : ℕ} {ground : List Symbolic} {ws fs : List ℕ} {ls : List Leaf} {k : ℕ} (j : ℕ) → k ≡ suc j
-    → Left limit table bound base ground ws fs k ls → Last limit table bound base ground ws fs ls j
+pub last_of : {limit : ℕ} {table : List ℕ} {bound base : ℕ} {beneath : List Symbolic} {ws fs : List ℕ} {ls : List Leaf} {k : ℕ} (j : ℕ) → k ≡ suc j
+    → Left limit table bound base beneath ws fs k ls → Last limit table bound base beneath ws fs ls j
 last_of j e none_left = absurd (omega arith)
 last_of j e (one_left {xs = xs} {gs = gs} {ls = ls} {ms = ms} i c f l o s) =
     let z : i ≡ j = omega arith in
@@ -58,10 +58,10 @@ last_of j e (one_left {xs = xs} {gs = gs} {ls = ls} {ms = ms} i c f l o s) =
 
 -- ---- the path's numbers
 
-module _ {limit : ℕ} {table : List ℕ} {bound base : ℕ} {ground : List Symbolic} {ws fs : List ℕ} {env : List Symbolic} {p : Path} {ks : List Later} {owed frames : ℕ}
-    {ls : List Leaf} (s : Stands limit table bound base ground ws fs env p ks owed frames ls) (j : ℕ) (some : forked_in fs ≡ suc j) {ws₁ hs : List ℕ}
+module _ {limit : ℕ} {table : List ℕ} {bound base : ℕ} {beneath : List Symbolic} {ws fs : List ℕ} {env : List Symbolic} {p : Path} {ks : List Later} {owed frames : ℕ}
+    {ls : List Leaf} (s : Stands limit table bound base beneath ws fs env p ks owed frames ls) (j : ℕ) (some : forked_in fs ≡ suc j) {ws₁ hs : List ℕ}
     (w : Rewound j ws fs ws₁ hs) where
-  last : Last limit table bound base ground ws fs ls j
+  last : Last limit table bound base beneath ws fs ls j
   last = last_of j some s.left
 
   abbrev xs : List ℕ
@@ -70,7 +70,7 @@ module _ {limit : ℕ} {table : List ℕ} {bound base : ℕ} {ground : List Symb
   abbrev gs : List ℕ
   gs = last.gs
 
-  abbrev f : Forking limit table bound base ground last.xs last.gs last.own
+  abbrev f : Forking limit table bound base beneath last.xs last.gs last.own
   f = last.forking
 
   few-base : base ≤ symbol_limit
@@ -111,13 +111,13 @@ module _ {limit : ℕ} {table : List ℕ} {bound base : ℕ} {ground : List Symb
       path_rewound row_is log_is count-is (w.next ∙ last.slot.next) (w.condition ∙ last.slot.condition) writes-is (w.start ∙ last.slot.start)
       (nothing_known w.known) f.state.path
 
-  rewound_ground : Variables ws₁ base ground
-  rewound_ground = variables-kept base (omega arith) first-is rewound_grown f.ground-is
+  rewound_ground : Variables ws₁ base beneath
+  rewound_ground = variables-kept base (omega arith) first-is rewound_grown f.beneath-is
 
   rewound_base : base_in ws₁ ≡ base
   rewound_base = w.beyond base_at (omega arith) (λ e. omega arith) ∙ s.based
 
-  rewound_awaits : Awaits table bound base ground ws₁ hs (frame_in hs) (depth_in ws₁) f.environment f.later f.owed f.frames
+  rewound_awaits : Awaits table bound base beneath ws₁ hs (frame_in hs) (depth_in ws₁) f.environment f.later f.owed f.frames
   rewound_awaits =
       let n = f.newest in
       rw (frame_is, depth_is) (awaits-kept (top_in gs) (omega arith) rewound_grown frames_are f.awaits)
@@ -137,7 +137,7 @@ module _ {limit : ℕ} {table : List ℕ} {bound base : ℕ} {ground : List Symb
         inside = omega (arith, frame_is, f.newest, few-frames);
         table = table;
         bound = bound;
-        ground = ground;
+        beneath = beneath;
         environment = f.environment;
         later = f.later;
         owed = f.owed;
@@ -193,7 +193,7 @@ module _ {limit : ℕ} {table : List ℕ} {bound base : ℕ} {ground : List Symb
         (λ k l. v.first k (omega (arith, l, rewound_base)) ∙ w.before k (omega arith) (λ z. omega arith))
         (record { each = λ k l h. place k (omega arith) ∙ w.beyond k (omega arith) (λ e. omega arith) })).kept
 
-    restored_stands : Stands limit table bound base ground ws₂ hs f.environment f.path f.later f.owed f.frames last.others
+    restored_stands : Stands limit table bound base beneath ws₂ hs f.environment f.path f.later f.owed f.frames last.others
     restored_stands =
         record {
           formed = s.formed;
@@ -203,10 +203,10 @@ module _ {limit : ℕ} {table : List ℕ} {bound base : ℕ} {ground : List Symb
           state = record {
             variables =
                 rw restored_depth
-                (v.variables table bound ground f.environment f.later f.owed f.frames (rw rewound_base rewound_ground) (rw rewound_base rewound_awaits));
+                (v.variables table bound beneath f.environment f.later f.owed f.frames (rw rewound_base rewound_ground) (rw rewound_base rewound_awaits));
             path = restored_path;
           };
-          ground-is = variables-kept base (omega arith) (λ k l. v.first k (omega (arith, l, rewound_base))) restored_grown rewound_ground;
+          beneath-is = variables-kept base (omega arith) (λ k l. v.first k (omega (arith, l, rewound_base))) restored_grown rewound_ground;
           based = place base_at (omega arith) ∙ rewound_base;
           notes = restored_notes;
           awaits = rw restored_depth (awaits-kept (top_in hs) (omega (arith, frame_is, top-is, f.newest)) restored_grown (λ k l h. refl) rewound_awaits);
@@ -234,7 +234,7 @@ module _ {limit : ℕ} {table : List ℕ} {bound base : ℕ} {ground : List Symb
     guard-means : Means ws₂ 1 (second_of hs (frame_in hs)) (a_truth f.guard)
     guard-means = rw guard-is (means-kept all_grown f.means)
 
-    resume_enters : Entering limit table bound base ground (assumed ws₂ of_exclusion (second_of hs (frame_in hs))) hs (node_in table (waiter_of hs (frame_in hs))).c ls
+    resume_enters : Entering limit table bound base beneath (assumed ws₂ of_exclusion (second_of hs (frame_in hs))) hs (node_in table (waiter_of hs (frame_in hs))).c ls
     resume_enters =
         let u = assumed-ruled guard-room (learns-refl ws₂) 7 (second_of hs (frame_in hs)) in
         record {
@@ -298,5 +298,5 @@ module _ {table ws fs : List ℕ} (x : Resumable table ws fs) where
       resumed e =
           rw e
           (record {
-            resumed = λ limit bound base ground env p ks owed frames ls s. resume_enters s (forked_in fs - 1) some_is w v;
+            resumed = λ limit bound base beneath env p ks owed frames ls s. resume_enters s (forked_in fs - 1) some_is w v;
           })

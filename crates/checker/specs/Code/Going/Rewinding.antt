@@ -37,13 +37,13 @@ extends-variables vs there = vs
 extends-variables vs (extends_one_more m x) = extends-variables (one_more vs m) x
 
 -- with as many variables as at the start, they are those
-awaits-ground : {table : List ℕ} {bound base : ℕ} {ground : List Symbolic} {ws fs : List ℕ} {f depth owed frames : ℕ} {env : List Symbolic} {ks : List Later}
-    → depth ≡ base → Awaits table bound base ground ws fs f depth env ks owed frames → env ≡ ground
-awaits-ground e no_frame = refl
-awaits-ground e (for_only s l o a) = awaits-ground e a
-awaits-ground e (for_first_lem s l o r v a) = awaits-ground e a
-awaits-ground e (for_second s l m a) = awaits-ground e a
-awaits-ground e (for_body_lem s l o m a) = let h = awaits-base a in absurd (omega arith)
+awaits-beneath : {table : List ℕ} {bound base : ℕ} {beneath : List Symbolic} {ws fs : List ℕ} {f depth owed frames : ℕ} {env : List Symbolic} {ks : List Later}
+    → depth ≡ base → Awaits table bound base beneath ws fs f depth env ks owed frames → env ≡ beneath
+awaits-beneath e no_frame = refl
+awaits-beneath e (for_only s l o a) = awaits-beneath e a
+awaits-beneath e (for_first_lem s l o r v a) = awaits-beneath e a
+awaits-beneath e (for_second s l m a) = awaits-beneath e a
+awaits-beneath e (for_body_lem s l o m a) = let h = awaits-base a in absurd (omega arith)
 
 -- how one variable is put back
 record Placed (f : ℕ) (fs : List ℕ) (d : ℕ) (ws left : List ℕ) : Type 0 where
@@ -66,13 +66,13 @@ placed_by f fs d ws l =
     }
 
 -- one turn of the loop: what waits from the frame on that frame f's value goes to, with r variables, and how they become d
-record Upward (table : List ℕ) (bound base : ℕ) (ground : List Symbolic) (ws fs : List ℕ) (f d : ℕ) (env : List Symbolic) (xs : List ℕ) (r : ℕ) (left : List ℕ)
+record Upward (table : List ℕ) (bound base : ℕ) (beneath : List Symbolic) (ws fs : List ℕ) (f d : ℕ) (env : List Symbolic) (xs : List ℕ) (r : ℕ) (left : List ℕ)
     : Type 0 where
   environment : List Symbolic
   later : List Later
   owed : ℕ
   frames : ℕ
-  awaits : Awaits table bound base ground ws fs (goes_to fs f) r environment later owed frames
+  awaits : Awaits table bound base beneath ws fs (goes_to fs f) r environment later owed frames
   extends : Extends left r environment d env
   earlier : goes_to fs f < f
   fewer : r ≤ d
@@ -80,10 +80,10 @@ record Upward (table : List ℕ) (bound base : ℕ) (ground : List Symbolic) (ws
   before : (k : ℕ) → k < 2 * r → get_or left k 0 ≡ get_or xs k 0
   beyond : (k : ℕ) → 2 * d ≤ k → get_or left k 0 ≡ get_or xs k 0
 
-module _ {table : List ℕ} {bound base : ℕ} {ground : List Symbolic} {ws fs xs left : List ℕ} {r : ℕ} where
+module _ {table : List ℕ} {bound base : ℕ} {beneath : List Symbolic} {ws fs xs left : List ℕ} {r : ℕ} where
   -- a frame that waits for no body of a `let`
   upward-same : {f n g awaits d owed frames : ℕ} {env : List Symbolic} {ks : List Later} → RestoredOne fs f d xs r left → Slot fs f n g awaits → awaits < 2
-      → Awaits table bound base ground ws fs g d env ks owed frames → Upward table bound base ground ws fs f d env xs r left
+      → Awaits table bound base beneath ws fs g d env ks owed frames → Upward table bound base beneath ws fs f d env xs r left
   upward-same {f = f} {g = g} {awaits = awaits} {d = d} {owed = owed} {frames = frames} {env = env} {ks = ks} o s l a =
       let u = s.up in
       let h = s.earlier in
@@ -106,7 +106,7 @@ module _ {table : List ℕ} {bound base : ℕ} {ground : List Symbolic} {ws fs x
   -- one that does
   upward-body : {f n g d owed frames : ℕ} {env : List Symbolic} {ks : List Later} {v : Symbolic} → RestoredOne fs f (suc d) xs r left → Slot fs f n g for_body
       → 2 * suc d ≤ length xs → suc d ≤ symbol_limit → ((k : ℕ) → variables_end ≤ k → get_or xs k 0 ≡ get_or ws k 0) → Means ws (first_of fs f) (second_of fs f) v
-      → Awaits table bound base ground ws fs g d env ks owed frames → Upward table bound base ground ws fs f (suc d) (env ++ (v ∷ [])) xs r left
+      → Awaits table bound base beneath ws fs g d env ks owed frames → Upward table bound base beneath ws fs f (suc d) (env ++ (v ∷ [])) xs r left
   upward-body {f = f} {g = g} {d = d} {owed = owed} {frames = frames} {env = env} {ks = ks} o s l n b m a =
       let u = s.up in
       let h = s.earlier in
@@ -130,8 +130,8 @@ module _ {table : List ℕ} {bound base : ℕ} {ground : List Symbolic} {ws fs x
       }
 
   upward : {f d owed frames : ℕ} {env : List Symbolic} {ks : List Later} → base < d → 2 * d ≤ length xs → d ≤ symbol_limit
-      → ((k : ℕ) → variables_end ≤ k → get_or xs k 0 ≡ get_or ws k 0) → RestoredOne fs f d xs r left → Awaits table bound base ground ws fs f d env ks owed frames
-      → Upward table bound base ground ws fs f d env xs r left
+      → ((k : ℕ) → variables_end ≤ k → get_or xs k 0 ≡ get_or ws k 0) → RestoredOne fs f d xs r left → Awaits table bound base beneath ws fs f d env ks owed frames
+      → Upward table bound base beneath ws fs f d env xs r left
   upward h l n b o no_frame = absurd (omega arith)
   upward h l n b o (for_only s i p a) = upward-same o s (omega arith) a
   upward h l n b o (for_first_lem s i p q v a) = upward-same o s (omega arith) a
@@ -139,12 +139,12 @@ module _ {table : List ℕ} {bound base : ℕ} {ground : List Symbolic} {ws fs x
   upward h l n b o (for_body_lem s i p m a) = upward-body o s l n b m a
 
 -- what waits from frame f on, with d variables, and how they become those of the path
-pub record Reached (table : List ℕ) (bound : ℕ) (ground : List Symbolic) (ws fs : List ℕ) (env : List Symbolic) (f d : ℕ) (xs : List ℕ) : Type 0 where
+pub record Reached (table : List ℕ) (bound : ℕ) (beneath : List Symbolic) (ws fs : List ℕ) (env : List Symbolic) (f d : ℕ) (xs : List ℕ) : Type 0 where
   environment : List Symbolic
   later : List Later
   owed : ℕ
   frames : ℕ
-  awaits : Awaits table bound (base_in ws) ground ws fs f d environment later owed frames
+  awaits : Awaits table bound (base_in ws) beneath ws fs f d environment later owed frames
   extends : Extends xs d environment (depth_in ws) env
 
 -- the variables from place d on are restored, and frame f is next
@@ -154,8 +154,8 @@ pub record Restoring (ws fs : List ℕ) (f d : ℕ) (xs : List ℕ) : Type 0 whe
   pub beyond : (k : ℕ) → variables_end ≤ k → get_or xs k 0 ≡ get_or ws k 0
   pub inside : f ≤ frame_in fs
   pub fewer : d ≤ depth_in ws
-  pub reached : (table : List ℕ) (bound : ℕ) (ground env : List Symbolic) (ks : List Later) (owed frames : ℕ)
-      → Awaits table bound (base_in ws) ground ws fs (frame_in fs) (depth_in ws) env ks owed frames → Reached table bound ground ws fs env f d xs
+  pub reached : (table : List ℕ) (bound : ℕ) (beneath env : List Symbolic) (ks : List Later) (owed frames : ℕ)
+      → Awaits table bound (base_in ws) beneath ws fs (frame_in fs) (depth_in ws) env ks owed frames → Reached table bound beneath ws fs env f d xs
 
 module _ {ws fs : List ℕ} (can : Restorable ws fs) where
   pub restoring_start : Restoring ws fs (frame_in fs) (depth_in ws) ws
@@ -166,7 +166,7 @@ module _ {ws fs : List ℕ} (can : Restorable ws fs) where
         beyond = λ k l. refl;
         inside = omega arith;
         fewer = omega arith;
-        reached = λ table bound ground env ks owed frames a.
+        reached = λ table bound beneath env ks owed frames a.
             record { environment = env; later = ks; owed = owed; frames = frames; awaits = a; extends = there };
       }
 
@@ -175,19 +175,19 @@ module _ {ws fs : List ℕ} (can : Restorable ws fs) where
     restoring_base = s.beyond base_at (omega arith)
 
     -- what is known of the loop's own frames
-    restoring_reached : Reached can.table can.bound can.ground ws fs can.environment f d xs
-    restoring_reached = s.reached can.table can.bound can.ground can.environment can.later can.owed can.frames can.awaits
+    restoring_reached : Reached can.table can.bound can.beneath ws fs can.environment f d xs
+    restoring_reached = s.reached can.table can.bound can.beneath can.environment can.later can.owed can.frames can.awaits
 
     module _ (more : base_in xs < d) {r : ℕ} {left : List ℕ} (o : RestoredOne fs f d xs r left) where
-      restoring_up : {table : List ℕ} {bound : ℕ} {ground env : List Symbolic} {ks : List Later} {owed frames : ℕ}
-          → Awaits table bound (base_in ws) ground ws fs f d env ks owed frames → Upward table bound (base_in ws) ground ws fs f d env xs r left
+      restoring_up : {table : List ℕ} {bound : ℕ} {beneath env : List Symbolic} {ks : List Later} {owed frames : ℕ}
+          → Awaits table bound (base_in ws) beneath ws fs f d env ks owed frames → Upward table bound (base_in ws) beneath ws fs f d env xs r left
       restoring_up a =
           let e = restoring_base in
           let i = s.fewer in
           let n = can.narrow in
           upward (omega arith) (omega (arith, s.same, can.lent)) (omega arith) s.beyond o a
 
-      restoring_one : Upward can.table can.bound (base_in ws) can.ground ws fs f d restoring_reached.environment xs r left
+      restoring_one : Upward can.table can.bound (base_in ws) can.beneath ws fs f d restoring_reached.environment xs r left
       restoring_one = restoring_up restoring_reached.awaits
 
       pub restoring_less : goes_to fs f < f
@@ -205,8 +205,8 @@ module _ {ws fs : List ℕ} (can : Restorable ws fs) where
             beyond = λ k l. u.beyond k (omega arith) ∙ s.beyond k l;
             inside = omega (arith, u.earlier, s.inside);
             fewer = omega (arith, u.fewer);
-            reached = λ table bound ground env ks owed frames a.
-                let q = s.reached table bound ground env ks owed frames a in
+            reached = λ table bound beneath env ks owed frames a.
+                let q = s.reached table bound beneath env ks owed frames a in
                 let w = restoring_up q.awaits in
                 record {
                   environment = w.environment;
@@ -225,11 +225,11 @@ module _ {ws fs : List ℕ} (can : Restorable ws fs) where
           same = s.same;
           first = s.first;
           beyond = s.beyond;
-          variables = λ table bound ground env ks owed frames vs a.
-              let q = s.reached table bound ground env ks owed frames a in
+          variables = λ table bound beneath env ks owed frames vs a.
+              let q = s.reached table bound beneath env ks owed frames a in
               let b = awaits-base q.awaits in
               let e = restoring_base in
-              let g = awaits-ground (omega arith) q.awaits in
+              let g = awaits-beneath (omega arith) q.awaits in
               let z : d ≡ base_in ws = omega arith in
               extends-variables (rw (g, z) (variables-kept (base_in ws) (omega arith) s.first (same-grown s.beyond) vs)) q.extends;
         }

@@ -37,8 +37,8 @@ one_less : (k : ℕ) → 1 ≤ k → (r : ℕ) × (k ≡ suc r)
 one_less (suc r) h = (r, refl)
 one_less Prim.Native.Nat.zero h = elim h [ ]
 
-module _ {limit : ℕ} {table : List ℕ} {bound base : ℕ} {ground : List Symbolic} {ws fs : List ℕ} {m : ℕ} {ls : List Leaf}
-    (q : Entering limit table bound base ground ws fs m ls) where
+module _ {limit : ℕ} {table : List ℕ} {bound base : ℕ} {beneath : List Symbolic} {ws fs : List ℕ} {m : ℕ} {ls : List Leaf}
+    (q : Entering limit table bound base beneath ws fs m ls) where
   pub enters_formed : FormedNodes table (suc m)
   enters_formed = formed_less (suc m) q.low q.stands.formed
 
@@ -53,14 +53,14 @@ module _ {limit : ℕ} {table : List ℕ} {bound base : ℕ} {ground : List Symb
 
   -- node m waits for its first operand, which is next
   pub enters_first : waits_for (node_in table m).kind ≡ true → {gs : List ℕ} → Waits m for_first 0 0 fs gs
-      → Entering limit table bound base ground ws gs (node_in table m).a ls
+      → Entering limit table bound base beneath ws gs (node_in table m).a ls
   unfolding go_on
   enters_first e {gs} w = by (eqb (node_operands (node_in table m).kind) 1) refl
     where
       some : 1 ≤ node_operands (node_in table m).kind
       some = some-operand enters_formed (waits_inner (node_in table m).kind e)
 
-      by : (b : Bool) → eqb (node_operands (node_in table m).kind) 1 ≡ b → Entering limit table bound base ground ws gs (node_in table m).a ls
+      by : (b : Bool) → eqb (node_operands (node_in table m).kind) 1 ≡ b → Entering limit table bound base beneath ws gs (node_in table m).a ls
       by true z =
           let f = first_of (shaped limit enters_formed) some in
           let o = eqb-true (node_operands (node_in table m).kind) 1 z in
@@ -116,8 +116,8 @@ module _ {limit : ℕ} {table : List ℕ} {bound base : ℕ} {ground : List Symb
                 (go_on limit table (first m q.environment ∷ q.later)) (go_on limit table q.later) λ v p. refl);
           }
 
-pub enters_descends : {limit : ℕ} {table : List ℕ} {bound base : ℕ} {ground : List Symbolic} {ws fs gs : List ℕ} {m n : ℕ} {ls : List Leaf}
-    → Entering limit table bound base ground ws fs m ls → Descends table fs m n gs → Entering limit table bound base ground ws gs n ls
+pub enters_descends : {limit : ℕ} {table : List ℕ} {bound base : ℕ} {beneath : List Symbolic} {ws fs gs : List ℕ} {m n : ℕ} {ls : List Leaf}
+    → Entering limit table bound base beneath ws fs m ls → Descends table fs m n gs → Entering limit table bound base beneath ws gs n ls
 enters_descends q (down_to e) = q
 enters_descends q (down_from e w d) = enters_descends (enters_first q e w) d
 
@@ -132,14 +132,14 @@ descends_tops (down_from e w d) = let h = descends_tops d in let t = w.top in om
 -- ---- a rule
 
 -- a value goes up, or the path stops
-pub data Gives (limit : ℕ) (table : List ℕ) (bound base : ℕ) (ground : List Symbolic) (left fs : List ℕ) (ls : List Leaf) : Step → Type 0 where
-  gives : {t q : ℕ} → Returning limit table bound base ground left fs t q ls → Gives limit table bound base ground left fs ls (Gave t q)
-  gives_none : {x : Refusal} (rest : List Leaf) → ls ≡ stopped x ∷ rest → Gives limit table bound base ground left fs ls (Stopped x)
+pub data Gives (limit : ℕ) (table : List ℕ) (bound base : ℕ) (beneath : List Symbolic) (left fs : List ℕ) (ls : List Leaf) : Step → Type 0 where
+  gives : {t q : ℕ} → Returning limit table bound base beneath left fs t q ls → Gives limit table bound base beneath left fs ls (Gave t q)
+  gives_none : {x : Refusal} (rest : List Leaf) → ls ≡ stopped x ∷ rest → Gives limit table bound base beneath left fs ls (Stopped x)
 
-pub yields-gives : {limit : ℕ} {table : List ℕ} {bound base : ℕ} {ground : List Symbolic} {ws fs left : List ℕ} {env : List Symbolic} {p : Path} {ks : List Later}
-    {owed frames : ℕ} {others ls : List Leaf} {r : Step} {x : Paths} → Stands limit table bound base ground ws fs env p ks owed frames others → Ruled ws left
+pub yields-gives : {limit : ℕ} {table : List ℕ} {bound base : ℕ} {beneath : List Symbolic} {ws fs left : List ℕ} {env : List Symbolic} {p : Path} {ks : List Later}
+    {owed frames : ℕ} {others ls : List Leaf} {r : Step} {x : Paths} → Stands limit table bound base beneath ws fs env p ks owed frames others → Ruled ws left
     → Room ws (1 + owed) → top_in fs + forked_in fs + suc frames ≤ node_limit → ls ≡ leaves (bind x (go_on limit table ks)) ++ others → Yields left r x
-    → Gives limit table bound base ground left fs ls r
+    → Gives limit table bound base beneath left fs ls r
 unfolding bind leaves
 yields-gives {env = env} {ks = ks} {owed = owed} {frames = frames} {others = others} s u room tops e (ending {v = v} {p = q} m h) =
     gives (record {

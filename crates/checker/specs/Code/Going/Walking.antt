@@ -39,24 +39,24 @@ pub record Walking (limit : ℕ) (table : List ℕ) (n m : ℕ) (ws fs left gs :
   pub same : length left ≡ length ws
   pub framed : length gs ≡ length fs
   pub can : Walkable limit table left gs n next
-  pub goes : (bound base : ℕ) (ground : List Symbolic) (ls : List Leaf) → Entering limit table bound base ground ws fs m ls
-      → Entering limit table bound base ground left gs next ls
+  pub goes : (bound base : ℕ) (beneath : List Symbolic) (ls : List Leaf) → Entering limit table bound base beneath ws fs m ls
+      → Entering limit table bound base beneath left gs next ls
 
 pub walking_start : {limit : ℕ} {table ws fs : List ℕ} {n m : ℕ} → Walkable limit table ws fs n m → Walking limit table n m ws fs ws fs m
-walking_start x = record { same = refl; framed = refl; can = x; goes = λ bound base ground ls q. q }
+walking_start x = record { same = refl; framed = refl; can = x; goes = λ bound base beneath ls q. q }
 
 module _ {limit : ℕ} {table : List ℕ} {n m : ℕ} {ws fs left gs : List ℕ} {next : ℕ} (w : Walking limit table n m ws fs left gs next) where
   pub walking_descendable : Descendable table gs next
   walking_descendable = enters_descendable w.can.can.entering
 
   module _ {inner : ℕ} {hs : List ℕ} (d : Descends table gs next inner hs) where
-    inner_entering : Entering limit table w.can.can.bound w.can.can.base w.can.can.ground left hs inner w.can.can.to_come
+    inner_entering : Entering limit table w.can.can.bound w.can.can.base w.can.can.beneath left hs inner w.can.can.to_come
     inner_entering = enters_descends w.can.can.entering d
 
     pub walking-enterable : Enterable limit table left hs inner
     walking-enterable =
         let x = w.can.can in
-        record { bound = x.bound; base = x.base; ground = x.ground; to_come = x.to_come; entering = inner_entering }
+        record { bound = x.bound; base = x.base; beneath = x.beneath; to_come = x.to_come; entering = inner_entering }
 
     pub walking-earlier : inner < n
     walking-earlier = let l = inner_entering.low in omega (arith, l, w.can.above)
@@ -80,21 +80,21 @@ module _ {limit : ℕ} {table : List ℕ} {n m : ℕ} {ws fs left gs : List ℕ}
               can = record {
                 bound = x.bound;
                 base = x.base;
-                ground = x.ground;
+                beneath = x.beneath;
                 to_come = x.to_come;
-                entering = came-entering (a.came x.bound x.base x.ground x.to_come inner_entering) e;
+                entering = came-entering (a.came x.bound x.base x.beneath x.to_come inner_entering) e;
               };
               above = w.can.above;
             };
-            goes = λ bound base ground ls q. came-entering (a.came bound base ground ls (enters_descends (w.goes bound base ground ls q) d)) e;
+            goes = λ bound base beneath ls q. came-entering (a.came bound base beneath ls (enters_descends (w.goes bound base beneath ls q) d)) e;
           }
 
       pub walking-stopped : {is_first : Bool} {wanted : ℕ} {x : Refusal} → r ≡ Stopped x → Walks limit table n m is_first wanted ws fs (Wrong x) left₂ ks
       unfolding judge
       walking-stopped {is_first} {wanted} {x} e =
           record {
-            walked = λ bound base ground ls q.
-                let z = came-none (a.came bound base ground ls (enters_descends (w.goes bound base ground ls q) d)) e in
+            walked = λ bound base beneath ls q.
+                let z = came-none (a.came bound base beneath ls (enters_descends (w.goes bound base beneath ls q) d)) e in
                 refused {x = x} λ k. ap (judge n (suc k) (pick is_first (first_type ls) wanted)) z.1;
           }
 
@@ -108,9 +108,9 @@ module _ {limit : ℕ} {table : List ℕ} {n m : ℕ} {ws fs left gs : List ℕ}
               limit = limit;
               bound = x.bound;
               base = x.base;
-              ground = x.ground;
+              beneath = x.beneath;
               to_come = x.to_come;
-              returning = came-returning (a.came x.bound x.base x.ground x.to_come inner_entering) e;
+              returning = came-returning (a.came x.bound x.base x.beneath x.to_come inner_entering) e;
             };
           }
 
@@ -118,31 +118,31 @@ module _ {limit : ℕ} {table : List ℕ} {n m : ℕ} {ws fs left gs : List ℕ}
           → PathEnds table n u is_first wanted left₂ ks v left₃ js → Walks limit table n m is_first wanted ws fs v left₃ js
       walking-ended {s = s} e p =
           record {
-            walked = λ bound base ground ls q.
-                p.ends limit bound base s ground ls (came-returning (a.came bound base ground ls (enters_descends (w.goes bound base ground ls q) d)) e);
+            walked = λ bound base beneath ls q.
+                p.ends limit bound base s beneath ls (came-returning (a.came bound base beneath ls (enters_descends (w.goes bound base beneath ls q) d)) e);
           }
 
 -- ---- the loop over the paths
 
 -- another path follows
-record Further (limit : ℕ) (table : List ℕ) (bound base : ℕ) (ground : List Symbolic) (n T : ℕ) (left gs : List ℕ) (ls : List Leaf) (t m : ℕ) : Type 0 where
+record Further (limit : ℕ) (table : List ℕ) (bound base : ℕ) (beneath : List Symbolic) (n T : ℕ) (left gs : List ℕ) (ls : List Leaf) (t m : ℕ) : Type 0 where
   after : List Leaf
   type : T ≡ t
-  entering : Entering limit table bound base ground left gs m after
+  entering : Entering limit table bound base beneath left gs m after
   goes : (k : ℕ) → judge n (suc k) T ls ≡ judge n k T after
 
-module _ {limit : ℕ} {table : List ℕ} {bound base : ℕ} {ground : List Symbolic} {n T : ℕ} {left gs : List ℕ} {ls : List Leaf} where
-  walk-wrong : {w : Walked} {x : Refusal} → WalkOf limit table bound base ground n T left gs ls w → w ≡ Wrong x → (k : ℕ) → judge n (suc k) T ls ≡ Refused x
+module _ {limit : ℕ} {table : List ℕ} {bound base : ℕ} {beneath : List Symbolic} {n T : ℕ} {left gs : List ℕ} {ls : List Leaf} where
+  walk-wrong : {w : Walked} {x : Refusal} → WalkOf limit table bound base beneath n T left gs ls w → w ≡ Wrong x → (k : ℕ) → judge n (suc k) T ls ≡ Refused x
   walk-wrong (refused h) e k = h k ∙ cc
   walk-wrong (lasted h) e k = absurd (let z : ◌≡◌ {A = ℕ} 0 1 = cc in omega arith)
   walk-wrong (went_on after q i h) e k = absurd (let z : ◌≡◌ {A = ℕ} 0 1 = cc in omega arith)
 
-  walk-last : {w : Walked} {t : ℕ} → WalkOf limit table bound base ground n T left gs ls w → w ≡ Last t → (k : ℕ) → judge n (suc k) T ls ≡ Accepted t
+  walk-last : {w : Walked} {t : ℕ} → WalkOf limit table bound base beneath n T left gs ls w → w ≡ Last t → (k : ℕ) → judge n (suc k) T ls ≡ Accepted t
   walk-last (refused h) e k = absurd (let z : ◌≡◌ {A = ℕ} 0 1 = cc in omega arith)
   walk-last (lasted h) e k = h k ∙ cc
   walk-last (went_on after q i h) e k = absurd (let z : ◌≡◌ {A = ℕ} 0 1 = cc in omega arith)
 
-  walk_more : {w : Walked} {t m : ℕ} → WalkOf limit table bound base ground n T left gs ls w → w ≡ More t m → Further limit table bound base ground n T left gs ls t m
+  walk_more : {w : Walked} {t m : ℕ} → WalkOf limit table bound base beneath n T left gs ls w → w ≡ More t m → Further limit table bound base beneath n T left gs ls t m
   walk_more (refused h) e = absurd (let z : ◌≡◌ {A = ℕ} 0 1 = cc in omega arith)
   walk_more (lasted h) e = absurd (let z : ◌≡◌ {A = ℕ} 0 1 = cc in omega arith)
   walk_more {m = m} (went_on {m = m₁} after q i h) e =
@@ -168,7 +168,7 @@ module _ {table types : List ℕ} {depth limit n a : ℕ} {ws fs : List ℕ} {fo
   pub turn_walkable : Walkable limit table ws fs n next
   turn_walkable =
       record {
-        can = record { bound = suc a; base = depth; ground = symbols 0 (types_on types depth); to_come = u.to_come; entering = u.entering };
+        can = record { bound = suc a; base = depth; beneath = symbols 0 (types_on types depth); to_come = u.to_come; entering = u.entering };
         above = u.above;
       }
 
@@ -245,7 +245,7 @@ turn-start {table} {types} {depth} {limit} {n} {a} {ws} {fs} whole framed zeros 
           framed = omega arith;
           narrow = omega (arith, q.variables, d);
           state = rw d s.state;
-          ground-is = s.state.variables;
+          beneath-is = s.state.variables;
           based = s.bare.base;
           notes = (bare_noting s.lent s.bare).kept;
           awaits = rw (f, d) no_frame;
