@@ -2,5 +2,5 @@
 use Rattle.mixcheck.specs.Line.Laws.{line_taken}
 use Rattle.mixcheck.proofs.main.Goals as goal
 
-pub slice_bounds-say-end : goal.slice_bounds-say-end
-slice_bounds-say-end c = line_taken c.put_line-length.ensures
+pub slice_bounds-write_all-end : goal.slice_bounds-write_all-end
+slice_bounds-write_all-end c = line_taken c.put_line-length.ensures
