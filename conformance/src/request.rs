@@ -60,12 +60,12 @@ const LONG_WORK: u64 = 1_000_000;
 pub fn request(seed: u64, number: u64) -> Request {
     let mut random = Random::new(seed, number);
     let source = random.weighted(&[
-        (25, Source::Made),
+        (28, Source::Made),
         (13, Source::Cells),
         (13, Source::Scratch),
         (6, Source::Uses),
         (9, Source::Wide),
-        (11, Source::Changed),
+        (14, Source::Changed),
         (5, Source::Loose),
         (3, Source::Limits),
         (4, Source::Table),

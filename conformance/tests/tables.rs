@@ -4,7 +4,7 @@ use conformance::compare::line_of;
 use conformance::families::MarkCounts;
 use conformance::node_uses;
 use conformance::random::Random;
-use conformance::request::{request, Source};
+use conformance::request::request;
 use conformance::settings;
 use reference::{Node, Refusal, Script};
 use std::collections::BTreeMap;
@@ -18,6 +18,9 @@ const RANDOM: u64 = 20_000;
 
 /// At most so many bytes of input at a time, as the program reads no more.
 const INPUT: usize = 262_144;
+
+/// How many of them are about uses of nodes.
+const USES: u64 = 4_000;
 
 /// The refusals that the tests of a table give.
 const TABLE_REFUSALS: [u8; 7] = [32, 2, 3, 33, 4, 5, 13];
@@ -165,27 +168,31 @@ fn number(random: &mut Random) -> u32 {
     random.below(most) as u32
 }
 
-/// The script of a request, or one about uses of nodes, as their texts are mostly not read.
-fn random_script(random: &mut Random, seed: u64, index: u64) -> Script {
-    let request = request(seed, index);
-    if request.source == Source::Uses || random.chance(10) {
-        return node_uses::script(random);
-    }
-    reference::read(&request.text).unwrap_or_else(|_| Script {
-        entries: vec![0; random.below(4)],
-        nodes: Vec::new(),
-    })
-}
-
 /// The table of a random script, of which now and then something is changed.
 fn random_table(seed: u64, index: u64) -> Table {
     let mut random = Random::new(seed ^ 0x7ab1e5, index);
-    let script = random_script(&mut random, seed, index);
+    let script = reference::read(&request(seed, index).text);
+    let script = script.unwrap_or_else(|_| Script {
+        entries: vec![0; random.below(4)],
+        nodes: Vec::new(),
+    });
+    changed(&mut random, &script, settings::again(seed, index))
+}
+
+/// The table of a random script about uses of nodes, likewise.
+fn table_of_uses(seed: u64, index: u64) -> Table {
+    let mut random = Random::new(seed ^ 0x05e5, index);
+    let script = node_uses::script(&mut random);
+    changed(&mut random, &script, settings::again(seed, index))
+}
+
+/// The table of a script, of which now and then something is changed.
+fn changed(random: &mut Random, script: &Script, name: String) -> Table {
     let row = |n: &Node| [n.kind, n.operands[0], n.operands[1], n.operands[2]];
     let mut table = Table {
         nodes: script.nodes.len(),
         entries: script.entries.len(),
-        name: settings::again(seed, index),
+        name,
         lent: script.entries.clone(),
         numbers: script.nodes.iter().flat_map(row).map(|n| n % 256).collect(),
     };
@@ -207,36 +214,26 @@ fn random_table(seed: u64, index: u64) -> Table {
             }
             3 | 4 => {
                 let place = random.below(table.lent.len());
-                table.lent[place] = number(&mut random);
+                table.lent[place] = number(random);
             }
             _ => {
                 let places = 4 * (table.nodes + 1).min(130);
                 let length = table.numbers.len().max(places);
                 table.numbers.resize(length, 0);
                 let place = random.below(places);
-                table.numbers[place] = number(&mut random);
+                table.numbers[place] = number(random);
             }
         }
     }
     table
 }
 
-#[test]
-fn random_tables() {
-    let seed = settings::seed();
-    println!("tables of records: {RANDOM} random ones, seed {seed}");
-    let only = settings::only();
-    let mut answers: BTreeMap<Option<u8>, usize> = BTreeMap::new();
-    let mut marks = MarkCounts::default();
+/// Compares what the program prints for tables with the second program, in batches; tells of each and its answer.
+fn compare(tables: impl Iterator<Item = Table>, mut seen: impl FnMut(&Table, Option<u8>)) {
     let mut batch: Vec<Table> = Vec::new();
     let mut input = String::new();
-    for index in only.map_or(0..RANDOM, |one| one..one + 1) {
-        let table = random_table(seed, index);
-        let answer = table.checked().err().map(|r| r.number);
-        *answers.entry(answer).or_default() += 1;
-        if !answer.is_some_and(|number| BEFORE_USES.contains(&number)) {
-            marks.count(node_uses::marks(&table.script()));
-        }
+    for table in tables {
+        seen(&table, table.checked().err().map(|r| r.number));
         let text = table.text();
         if input.len() + text.len() > INPUT {
             expect_lines(&batch, &printed(&input));
@@ -247,12 +244,25 @@ fn random_tables() {
         batch.push(table);
     }
     expect_lines(&batch, &printed(&input));
+}
+
+#[test]
+fn random_tables() {
+    let seed = settings::seed();
+    println!("tables of records: {RANDOM} random ones, seed {seed}");
+    let only = settings::only();
+    let mut answers: BTreeMap<Option<u8>, usize> = BTreeMap::new();
+    let indices = only.map_or(0..RANDOM, |one| one..one + 1);
+    compare(
+        indices.map(|index| random_table(seed, index)),
+        |_, answer| {
+            *answers.entry(answer).or_default() += 1;
+        },
+    );
     if only.is_some() {
         return;
     }
     println!("tables of records: accepted and refused {answers:?}");
-    println!("tables of records that ask for");
-    marks.print(&node_uses::MARKS);
     for number in TABLE_REFUSALS {
         assert!(
             answers.contains_key(&Some(number)),
@@ -261,6 +271,28 @@ fn random_tables() {
     }
     let accepted = answers.get(&None).copied().unwrap_or(0);
     assert!(accepted * 5 >= RANDOM as usize, "only {accepted} accepted");
+}
+
+#[test]
+fn random_tables_of_uses() {
+    let seed = settings::seed();
+    println!("tables of records: {USES} random ones about uses of nodes, seed {seed}");
+    let only = settings::only();
+    let mut marks = MarkCounts::default();
+    let indices = only.map_or(0..USES, |one| one..one + 1);
+    compare(
+        indices.map(|index| table_of_uses(seed, index)),
+        |table, answer| {
+            if !answer.is_some_and(|number| BEFORE_USES.contains(&number)) {
+                marks.count(node_uses::marks(&table.script()));
+            }
+        },
+    );
+    if only.is_some() {
+        return;
+    }
+    println!("tables of records that ask for");
+    marks.print(&node_uses::MARKS);
     let missing = marks.missing(&node_uses::MARKS, 1);
     assert!(missing.is_empty(), "seed {seed}: {}", missing.join("; "));
 }

@@ -1,5 +1,5 @@
-// Reading and writing of script text and test 5 of a table, each answered by one number, for the program `bench`, which times them from outside. Hosts have
-// no use for this library: their calls are those of `host`.
+// Reading and writing of script text and test 5 of a table, each answered by one number, for the program `bench`, which times them from outside, by what
+// `timing_c` exports. Hosts have no use for this library: their calls are those of `host`.
 #![tactic(auto)]
 
 ghost use Rattle.std.specs.Prelude.{◌≡◌};
@@ -13,8 +13,7 @@ use script::{Place, Reading, Script, Writing};
 use uses::walk;
 
 // Reads a text into a lent table and lent entries: how many nodes it has; 0 if it is refused.
-#[unsafe(no_mangle)]
-pub extern "C" fn timing_read(text: &[u8], table: &mut [u32], entries: &mut [u32]) -> u64
+pub fn timing_read(text: &[u8], table: &mut [u32], entries: &mut [u32]) -> u64
     ensures { ReadTo (reading_in text.now table.old entries.old) result table.new entries.new }
 {
     match reader::read(text, table, entries) {
@@ -24,8 +23,7 @@ pub extern "C" fn timing_read(text: &[u8], table: &mut [u32], entries: &mut [u32
 }
 
 // Writes the text of a table into lent bytes: its length; 0 if the table is refused or the bytes are too few.
-#[unsafe(no_mangle)]
-pub extern "C" fn timing_write(
+pub fn timing_write(
     table: &[u32],
     nodes: usize,
     entries: &[u32],
@@ -41,8 +39,7 @@ pub extern "C" fn timing_write(
 }
 
 // Test 5 alone, of the first `nodes` nodes of a table: one more than the node that it names; 0 if it names none, or if there are not so many nodes.
-#[unsafe(no_mangle)]
-pub extern "C" fn timing_uses(table: &[u32], nodes: usize) -> u64
+pub fn timing_uses(table: &[u32], nodes: usize) -> u64
     ensures { result ≡ wrong_use (nodes_in table.now) nodes }
 {
     if Script::NODES < nodes {
