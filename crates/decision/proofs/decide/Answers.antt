@@ -42,17 +42,24 @@ compare-requires c =
 pub returns-then-all_numbered : goal.returns-then-all_numbered
 returns-then-all_numbered c =
     let a = c.args in
-    let n = (let a = c.args in let l = c.list_guard-count.ensures in numbers-known a.space.now a.at a.guard c.list_guard-count.new.order c.list_guard-count.result c.number_known.new.numbers l.many l.rows c.number_known.ensures) in
-    let t = sym ((let a = c.args in let l = c.list_guard-count.ensures in recalls-is a.space.now a.at a.guard c.list_guard-count.new.order c.list_guard-count.result c.number_known.new.numbers l.many l.rows c.all_numbered.result ((let a = c.args in let l = c.list_guard-count.ensures in numbers-known a.space.now a.at a.guard c.list_guard-count.new.order c.list_guard-count.result c.number_known.new.numbers l.many l.rows c.number_known.ensures)) c.all_numbered.ensures)) ∙ c.if-all_numbered.true in
-    let e = rw n at c.compare.ensures in
+    let l = c.list_guard-count.ensures in
+    let known = numbers-known a.space.now a.at a.guard c.list_guard-count.new.order c.list_guard-count.result c.number_known.new.numbers l.many l.rows c.number_known.ensures in
+    let recalled = recalls-is a.space.now a.at a.guard c.list_guard-count.new.order c.list_guard-count.result c.number_known.new.numbers l.many
+    l.rows c.all_numbered.result known c.all_numbered.ensures in
+    let t = sym recalled ∙ c.if-all_numbered.true in
+    let e = rw known at c.compare.ensures in
     known_promised (decided-known a.space.now a.at a.condition a.guard c.compare.result c.if-space-at-ne1.false t e) c.requires
     c.if-space-at-ne1.false t e
 
 pub returns : goal.returns
 returns c =
     let a = c.args in
+    let l = c.list_guard-count.ensures in
+    let known = numbers-known a.space.now a.at a.guard c.list_guard-count.new.order c.list_guard-count.result c.number_known.new.numbers l.many l.rows c.number_known.ensures in
+    let recalled = recalls-is a.space.now a.at a.guard c.list_guard-count.new.order c.list_guard-count.result c.number_known.new.numbers l.many
+    l.rows c.all_numbered.result known c.all_numbered.ensures in
     anew_promised
     (decided-other a.space.now a.at a.condition a.guard c.decide_anew-2.result c.if-space-at-ne1.false
-    (sym ((let a = c.args in let l = c.list_guard-count.ensures in recalls-is a.space.now a.at a.guard c.list_guard-count.new.order c.list_guard-count.result c.number_known.new.numbers l.many l.rows c.all_numbered.result ((let a = c.args in let l = c.list_guard-count.ensures in numbers-known a.space.now a.at a.guard c.list_guard-count.new.order c.list_guard-count.result c.number_known.new.numbers l.many l.rows c.number_known.ensures)) c.all_numbered.ensures)) ∙ c.if-all_numbered.false) c.decide_anew-2.ensures.value)
-    c.requires (not-recalled a.space.now a.at a.guard (sym ((let a = c.args in let l = c.list_guard-count.ensures in recalls-is a.space.now a.at a.guard c.list_guard-count.new.order c.list_guard-count.result c.number_known.new.numbers l.many l.rows c.all_numbered.result ((let a = c.args in let l = c.list_guard-count.ensures in numbers-known a.space.now a.at a.guard c.list_guard-count.new.order c.list_guard-count.result c.number_known.new.numbers l.many l.rows c.number_known.ensures)) c.all_numbered.ensures)) ∙ c.if-all_numbered.false))
+    (sym recalled ∙ c.if-all_numbered.false) c.decide_anew-2.ensures.value)
+    c.requires (not-recalled a.space.now a.at a.guard (sym recalled ∙ c.if-all_numbered.false))
     c.decide_anew-2.ensures.value c.decide_anew-2.ensures.left_anew

@@ -3,7 +3,7 @@ use mathlib.Core.Path.{refl}
 use native.Mathlib.Omega.{arith}
 use Rattle.rows.specs.Code.{left-same, left-none}
 use Rattle.rows.specs.Known.{blocks_most}
-use Rattle.decision.specs.Whole.{room-start, room-marked, room-guard, decided-many, decided-alone, decided_with, decided-without, decided-both, aside-alone, aside_with, aside-without, aside-not, keepable, left_after, left_alone}
+use Rattle.decision.specs.Whole.{Prepared, room-start, room-marked, room-guard, decided-many, decided-alone, decided_with, decided-without, decided-both, aside-alone, aside_with, aside-without, aside-not, keepable, left_after, left_alone}
 use Rattle.decision.proofs.decide_anew.Goals as goal
 
 pub above-n-requires : goal.above-n-requires
@@ -17,16 +17,21 @@ mark_all-counts-requires c =
 
 pub returns-then-counts-gt-ATOMS : goal.returns-then-counts-gt-ATOMS
 returns-then-counts-gt-ATOMS c =
-    let a = c.args in record {
-      value = decided-many a.space.now a.condition a.guard ((record { up = c.above-n.ensures; marks = c.mark_all-counts.ensures.marks_after; counts = c.mark_all-counts.ensures.value })) c.if-counts-gt-ATOMS.true;
+    let a = c.args in
+    let d : Prepared a.space.now a.condition a.guard c.above-n.result c.mark_all-counts.new.marks c.mark_all-counts.result =
+    record { up = c.above-n.ensures; marks = c.mark_all-counts.ensures.marks_after; counts = c.mark_all-counts.ensures.value } in
+    record {
+      value = decided-many a.space.now a.condition a.guard d c.if-counts-gt-ATOMS.true;
       left_anew = left-same refl refl;
     }
 
 pub search-alone-requires : goal.search-alone-requires
 search-alone-requires c =
     let a = c.args in
-    let p = c.requires in record {
-      searchable = record { low = p.high; high = p.high; room = room-guard a.condition a.guard ((let a = c.args in let p = c.requires in room-marked _ (room-start a.space.now a.condition a.guard c.above-n.result c.above-n.ensures (omega (arith, p.behind, p.lent)) p.low p.high) c.mark_all-counts.ensures.marks_after)) c.above-n.ensures; few = rw c.blocks_of.ensures (blocks_most _) };
+    let p = c.requires in
+    let r = room-marked _ (room-start a.space.now a.condition a.guard c.above-n.result c.above-n.ensures (omega (arith, p.behind, p.lent)) p.low p.high) c.mark_all-counts.ensures.marks_after in
+    record {
+      searchable = record { low = p.high; high = p.high; room = room-guard a.condition a.guard r c.above-n.ensures; few = rw c.blocks_of.ensures (blocks_most _) };
       in_bounds = omega arith;
     }
 
@@ -35,9 +40,12 @@ forget_after-requires c = omega (arith, c.requires.lent)
 
 pub returns-then-counts-eq0 : goal.returns-then-counts-eq0
 returns-then-counts-eq0 c =
-    let a = c.args in record {
-      value = (let a = c.args in decided-alone a.space.now a.condition a.guard ((record { up = c.above-n.ensures; marks = c.mark_all-counts.ensures.marks_after; counts = c.mark_all-counts.ensures.value })) c.blocks_of.result c.search-alone.result c.if-counts-gt-ATOMS.false c.if-counts-eq0.true c.blocks_of.ensures c.search-alone.ensures.is);
-      left_anew = left_alone (aside-alone a.space.now a.condition a.guard ((record { up = c.above-n.ensures; marks = c.mark_all-counts.ensures.marks_after; counts = c.mark_all-counts.ensures.value })) c.if-counts-eq0.true) c.forget_after.ensures;
+    let a = c.args in
+    let d : Prepared a.space.now a.condition a.guard c.above-n.result c.mark_all-counts.new.marks c.mark_all-counts.result =
+    record { up = c.above-n.ensures; marks = c.mark_all-counts.ensures.marks_after; counts = c.mark_all-counts.ensures.value } in
+    record {
+      value = decided-alone a.space.now a.condition a.guard d c.blocks_of.result c.search-alone.result c.if-counts-gt-ATOMS.false c.if-counts-eq0.true c.blocks_of.ensures c.search-alone.ensures.is;
+      left_anew = left_alone (aside-alone a.space.now a.condition a.guard d c.if-counts-eq0.true) c.forget_after.ensures;
     }
 
 pub conjunct-link-requires : goal.conjunct-link-requires
@@ -48,9 +56,12 @@ forget-requires c = omega (arith, c.requires.lent)
 
 pub returns-then-link-eq-CONJUNCTION : goal.returns-then-link-eq-CONJUNCTION
 returns-then-link-eq-CONJUNCTION c =
-    let a = c.args in record {
-      value = decided_with a.space.now a.condition a.guard ((record { up = c.above-n.ensures; marks = c.mark_all-counts.ensures.marks_after; counts = c.mark_all-counts.ensures.value })) c.conjunct-link.result c.if-counts-gt-ATOMS.false c.if-counts-eq0.false c.conjunct-link.ensures c.if-link-eq-CONJUNCTION.true;
-      left_anew = left-none refl (aside_with a.space.now a.condition a.guard ((record { up = c.above-n.ensures; marks = c.mark_all-counts.ensures.marks_after; counts = c.mark_all-counts.ensures.value })) c.conjunct-link.result c.if-counts-eq0.false c.conjunct-link.ensures c.if-link-eq-CONJUNCTION.true) c.forget.ensures;
+    let a = c.args in
+    let d : Prepared a.space.now a.condition a.guard c.above-n.result c.mark_all-counts.new.marks c.mark_all-counts.result =
+    record { up = c.above-n.ensures; marks = c.mark_all-counts.ensures.marks_after; counts = c.mark_all-counts.ensures.value } in
+    record {
+      value = decided_with a.space.now a.condition a.guard d c.conjunct-link.result c.if-counts-gt-ATOMS.false c.if-counts-eq0.false c.conjunct-link.ensures c.if-link-eq-CONJUNCTION.true;
+      left_anew = left-none refl (aside_with a.space.now a.condition a.guard d c.conjunct-link.result c.if-counts-eq0.false c.conjunct-link.ensures c.if-link-eq-CONJUNCTION.true) c.forget.ensures;
     }
 
 pub forget-requires-then-link-eq-EXCLUSION : goal.forget-requires-then-link-eq-EXCLUSION
@@ -58,29 +69,46 @@ forget-requires-then-link-eq-EXCLUSION c = omega (arith, c.requires.lent)
 
 pub returns-then-link-eq-EXCLUSION : goal.returns-then-link-eq-EXCLUSION
 returns-then-link-eq-EXCLUSION c =
-    let a = c.args in record {
-      value = decided-without a.space.now a.condition a.guard ((record { up = c.above-n.ensures; marks = c.mark_all-counts.ensures.marks_after; counts = c.mark_all-counts.ensures.value })) c.conjunct-link.result c.if-counts-gt-ATOMS.false c.if-counts-eq0.false c.conjunct-link.ensures c.if-link-eq-EXCLUSION.true;
-      left_anew = left-none refl (aside-without a.space.now a.condition a.guard ((record { up = c.above-n.ensures; marks = c.mark_all-counts.ensures.marks_after; counts = c.mark_all-counts.ensures.value })) c.conjunct-link.result c.if-counts-eq0.false c.conjunct-link.ensures c.if-link-eq-EXCLUSION.true) c.forget-then-link-eq-EXCLUSION.ensures;
+    let a = c.args in
+    let d : Prepared a.space.now a.condition a.guard c.above-n.result c.mark_all-counts.new.marks c.mark_all-counts.result =
+    record { up = c.above-n.ensures; marks = c.mark_all-counts.ensures.marks_after; counts = c.mark_all-counts.ensures.value } in
+    record {
+      value = decided-without a.space.now a.condition a.guard d c.conjunct-link.result c.if-counts-gt-ATOMS.false c.if-counts-eq0.false c.conjunct-link.ensures c.if-link-eq-EXCLUSION.true;
+      left_anew = left-none refl (aside-without a.space.now a.condition a.guard d c.conjunct-link.result c.if-counts-eq0.false
+          c.conjunct-link.ensures c.if-link-eq-EXCLUSION.true) c.forget-then-link-eq-EXCLUSION.ensures;
     }
 
 pub search-decision-requires : goal.search-decision-requires
 search-decision-requires c =
-    let p = c.requires in record {
-      searchable = record { low = p.low; high = p.high; room = rw c.above-n.ensures at ((let a = c.args in let p = c.requires in room-marked _ (room-start a.space.now a.condition a.guard c.above-n.result c.above-n.ensures (omega (arith, p.behind, p.lent)) p.low p.high) c.mark_all-counts.ensures.marks_after)); few = rw c.blocks_of-blocks.ensures (blocks_most _) };
+    let p = c.requires in
+    let a = c.args in
+    let r = room-marked _ (room-start a.space.now a.condition a.guard c.above-n.result c.above-n.ensures (omega (arith, p.behind, p.lent)) p.low p.high) c.mark_all-counts.ensures.marks_after in
+    record {
+      searchable = record { low = p.low; high = p.high; room = rw c.above-n.ensures at r; few = rw c.blocks_of-blocks.ensures (blocks_most _) };
       in_bounds = omega arith;
     }
 
 pub keep_after-requires : goal.keep_after-requires
 keep_after-requires c =
     let a = c.args in
-    let p = c.requires in record {
-      keepable = keepable a.space.now a.condition a.guard ((record { up = c.above-n.ensures; marks = c.mark_all-counts.ensures.marks_after; counts = c.mark_all-counts.ensures.value })) a.at p.behind p.lent p.low p.high c.if-counts-gt-ATOMS.false;
+    let p = c.requires in
+    let d : Prepared a.space.now a.condition a.guard c.above-n.result c.mark_all-counts.new.marks c.mark_all-counts.result =
+    record { up = c.above-n.ensures; marks = c.mark_all-counts.ensures.marks_after; counts = c.mark_all-counts.ensures.value } in
+    record {
+      keepable = keepable a.space.now a.condition a.guard d a.at p.behind p.lent p.low p.high c.if-counts-gt-ATOMS.false;
       blocks_bound = (rw c.blocks_of-blocks.ensures (blocks_most _), omega (arith, c.search-decision.ensures.same));
     }
 
 pub returns : goal.returns
 returns c =
-    let a = c.args in record {
-      value = (let a = c.args in decided-both a.space.now a.condition a.guard ((record { up = c.above-n.ensures; marks = c.mark_all-counts.ensures.marks_after; counts = c.mark_all-counts.ensures.value })) c.conjunct-link.result c.blocks_of-blocks.result c.search-decision.result c.if-counts-gt-ATOMS.false c.if-counts-eq0.false c.conjunct-link.ensures c.if-link-eq-CONJUNCTION.false c.if-link-eq-EXCLUSION.false c.blocks_of-blocks.ensures c.search-decision.ensures.is);
-      left_anew = left_after a.space.now a.condition a.guard ((record { up = c.above-n.ensures; marks = c.mark_all-counts.ensures.marks_after; counts = c.mark_all-counts.ensures.value })) (aside-not a.space.now a.condition a.guard ((record { up = c.above-n.ensures; marks = c.mark_all-counts.ensures.marks_after; counts = c.mark_all-counts.ensures.value })) c.conjunct-link.result c.if-counts-eq0.false c.conjunct-link.ensures c.if-link-eq-CONJUNCTION.false c.if-link-eq-EXCLUSION.false) c.if-counts-gt-ATOMS.false c.blocks_of-blocks.ensures c.search-decision.ensures c.keep_after.ensures;
+    let a = c.args in
+    let d : Prepared a.space.now a.condition a.guard c.above-n.result c.mark_all-counts.new.marks c.mark_all-counts.result =
+    record { up = c.above-n.ensures; marks = c.mark_all-counts.ensures.marks_after; counts = c.mark_all-counts.ensures.value } in
+    record {
+      value = decided-both a.space.now a.condition a.guard d c.conjunct-link.result c.blocks_of-blocks.result c.search-decision.result
+          c.if-counts-gt-ATOMS.false c.if-counts-eq0.false c.conjunct-link.ensures c.if-link-eq-CONJUNCTION.false c.if-link-eq-EXCLUSION.false
+          c.blocks_of-blocks.ensures c.search-decision.ensures.is;
+      left_anew = left_after a.space.now a.condition a.guard d (aside-not a.space.now a.condition a.guard d c.conjunct-link.result
+          c.if-counts-eq0.false c.conjunct-link.ensures c.if-link-eq-CONJUNCTION.false c.if-link-eq-EXCLUSION.false) c.if-counts-gt-ATOMS.false
+          c.blocks_of-blocks.ensures c.search-decision.ensures c.keep_after.ensures;
     }

@@ -20,7 +20,9 @@ slice_bounds-number_atoms-end c = sym c.list_rows-count.ensures.same
 pub number_atoms-requires : goal.number_atoms-requires
 number_atoms-requires c =
     record {
-      rows = (let a = c.args in let r = c.requires.searchable.room in let l = c.list_rows-count.ensures in rows-listed a.space.now a.marks.now a.least c.above-n.result c.list_rows-count.new.order c.list_rows-count.result r.lent (omega (arith, r.few)) (order_long a.marks.now a.least c.above-n.result c.list_rows-count.result c.list_rows-count.new.order (omega (arith, r.few)) l.many l.same) l.many l.rows);
+      rows = (let a = c.args in let r = c.requires.searchable.room in let l = c.list_rows-count.ensures in rows-listed a.space.now a.marks.now
+          a.least c.above-n.result c.list_rows-count.new.order c.list_rows-count.result r.lent (omega (arith, r.few)) (order_long a.marks.now a.least
+          c.above-n.result c.list_rows-count.result c.list_rows-count.new.order (omega (arith, r.few)) l.many l.same) l.many l.rows);
       row_limit_in_bounds = omega arith;
     }
 
@@ -29,16 +31,28 @@ slice_bounds-begin-end c = sym c.list_rows-count.ensures.same
 
 pub begin-more-requires : goal.begin-more-requires
 begin-more-requires c =
+    let a = c.args in
     let r = c.requires.searchable.room in
+    let l = c.list_rows-count.ensures in
+    let f = order_long a.marks.now a.least c.above-n.result c.list_rows-count.result c.list_rows-count.new.order (omega (arith, r.few))
+    l.many l.same in
     record {
-      rows = (let a = c.args in let r = c.requires.searchable.room in let l = c.list_rows-count.ensures in rows-listed a.space.now a.marks.now a.least c.above-n.result c.list_rows-count.new.order c.list_rows-count.result r.lent (omega (arith, r.few)) (order_long a.marks.now a.least c.above-n.result c.list_rows-count.result c.list_rows-count.new.order (omega (arith, r.few)) l.many l.same) l.many l.rows);
+      rows =
+          rows-listed a.space.now a.marks.now a.least c.above-n.result c.list_rows-count.new.order c.list_rows-count.result r.lent
+          (omega (arith, r.few)) f l.many l.rows;
       row_limit_in_bounds = (omega (arith, c.number_atoms.auto.numbers), omega arith);
       n_le_row_limit = (omega (arith, r.few), omega (arith, r.few));
     }
 
 pub loop-block-init : goal.loop-block-init
 loop-block-init c =
-    looking ((record { up = c.above-n.ensures; many = c.list_rows-count.ensures.many; rows = c.list_rows-count.ensures.rows; numbers = c.number_atoms.ensures })) c.requires.searchable c.args.truths.now _ c.begin-more.ensures.words_after
+    looking ((record {
+      up = c.above-n.ensures;
+      many = c.list_rows-count.ensures.many;
+      rows = c.list_rows-count.ensures.rows;
+      numbers =
+          c.number_atoms.ensures;
+    })) c.requires.searchable c.args.truths.now _ c.begin-more.ensures.words_after
 
 pub slice_bounds-evaluate-end : goal.slice_bounds-evaluate-end
 slice_bounds-evaluate-end c = sym c.begin-more.ensures.lists.same
@@ -83,7 +97,13 @@ bounds-truths-block c =
 
 pub returns-then-both_found : goal.returns-then-both_found
 returns-then-both_found c =
-    let k = looking_on ((record { up = c.above-n.ensures; many = c.list_rows-count.ensures.many; rows = c.list_rows-count.ensures.rows; numbers = c.number_atoms.ensures })) c.requires.searchable c.begin-more.new.later c.begin-more.result
+    let k = looking_on ((record {
+      up = c.above-n.ensures;
+      many = c.list_rows-count.ensures.many;
+      rows = c.list_rows-count.ensures.rows;
+      numbers =
+          c.number_atoms.ensures;
+    })) c.requires.searchable c.begin-more.new.later c.begin-more.result
     c.begin-more.ensures.lists.many c.begin-more.ensures.lists.rows c.loop-block.invariant c.requires.in_bounds c.loop-block-test.true
     c.evaluate.ensures c.condition_word-c.ensures refl in
     looking-both k c.both_found.result c.both_found.ensures c.if-both_found.true
@@ -94,7 +114,13 @@ overflow_add-block c =
 
 pub loop-block-preserved : goal.loop-block-preserved
 loop-block-preserved c =
-    looking_on ((record { up = c.above-n.ensures; many = c.list_rows-count.ensures.many; rows = c.list_rows-count.ensures.rows; numbers = c.number_atoms.ensures })) c.requires.searchable c.begin-more.new.later c.begin-more.result
+    looking_on ((record {
+      up = c.above-n.ensures;
+      many = c.list_rows-count.ensures.many;
+      rows = c.list_rows-count.ensures.rows;
+      numbers =
+          c.number_atoms.ensures;
+    })) c.requires.searchable c.begin-more.new.later c.begin-more.result
     c.begin-more.ensures.lists.many c.begin-more.ensures.lists.rows c.loop-block.invariant c.requires.in_bounds c.loop-block-test.true
     c.evaluate.ensures c.condition_word-c.ensures refl
 

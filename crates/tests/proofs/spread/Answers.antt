@@ -10,12 +10,15 @@ loop-k-init c = let a = c.args in (omega arith, spread_none (operands a.n) a.dep
 pub bounds-depths-o : goal.bounds-depths-o
 bounds-depths-o c =
     let a = c.args in
-    place-within a.n c.loop-k.k c.operand_at-o.result a.depths.now c.loop-k.depths ((let m = c.node_operands-m in operand-place c.args.n m.result c.loop-k.k c.operand_at-o.result m.ensures c.loop-k-test.true c.operand_at-o.ensures)) c.requires c.loop-k.invariant.1.same
+    let m = c.node_operands-m in
+    let p = operand-place c.args.n m.result c.loop-k.k c.operand_at-o.result m.ensures c.loop-k-test.true c.operand_at-o.ensures in
+    place-within a.n c.loop-k.k c.operand_at-o.result a.depths.now c.loop-k.depths p c.requires c.loop-k.invariant.1.same
 
 pub loop-k-preserved : goal.loop-k-preserved
 loop-k-preserved c =
     let a = c.args in
-    let p = (let m = c.node_operands-m in operand-place c.args.n m.result c.loop-k.k c.operand_at-o.result m.ensures c.loop-k-test.true c.operand_at-o.ensures) in
+    let m = c.node_operands-m in
+    let p = operand-place c.args.n m.result c.loop-k.k c.operand_at-o.result m.ensures c.loop-k-test.true c.operand_at-o.ensures in
     (omega arith, spread-more (operands a.n) a.depths.now a.v c.loop-k.depths c.loop-k.k c.operand_at-o.result c.requires p.below p.is c.loop-k.invariant.1)
 
 pub returns : goal.returns

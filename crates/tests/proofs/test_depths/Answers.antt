@@ -10,12 +10,14 @@ loop-i-init c = let a = c.args in look (deep_by a.table.now a.nodes a.depths.now
 pub returns-then-too_deep : goal.returns-then-too_deep
 returns-then-too_deep c =
     let a = c.args in
-    depths_refused a.table.now a.nodes a.depths.now c.loop-i.i c.requires.lent c.loop-i.invariant c.loop-i-test.true (sym ((let a = c.args in deep_is a.table.now a.nodes a.depths.now c.loop-i.i c.loop-i-test.true c.node_at.result c.too_deep.result c.node_at.ensures c.too_deep.ensures)) ∙ c.if-too_deep.true)
+    let deep = deep_is a.table.now a.nodes a.depths.now c.loop-i.i c.loop-i-test.true c.node_at.result c.too_deep.result c.node_at.ensures c.too_deep.ensures in
+    depths_refused a.table.now a.nodes a.depths.now c.loop-i.i c.requires.lent c.loop-i.invariant c.loop-i-test.true (sym deep ∙ c.if-too_deep.true)
 
 pub loop-i-preserved : goal.loop-i-preserved
 loop-i-preserved c =
     let a = c.args in
-    look_on (deep_by a.table.now a.nodes a.depths.now) a.nodes c.loop-i.i c.loop-i.invariant c.loop-i-test.true (sym ((let a = c.args in deep_is a.table.now a.nodes a.depths.now c.loop-i.i c.loop-i-test.true c.node_at.result c.too_deep.result c.node_at.ensures c.too_deep.ensures)) ∙ c.if-too_deep.false)
+    let deep = deep_is a.table.now a.nodes a.depths.now c.loop-i.i c.loop-i-test.true c.node_at.result c.too_deep.result c.node_at.ensures c.too_deep.ensures in
+    look_on (deep_by a.table.now a.nodes a.depths.now) a.nodes c.loop-i.i c.loop-i.invariant c.loop-i-test.true (sym deep ∙ c.if-too_deep.false)
 
 pub returns : goal.returns
 returns c =

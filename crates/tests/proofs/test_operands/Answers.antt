@@ -12,12 +12,14 @@ loop-i-init c = let a = c.args in look (malformed a.table.now a.nodes) a.nodes
 pub returns-then-not-well_formed : goal.returns-then-not-well_formed
 returns-then-not-well_formed c =
     let a = c.args in
-    operands-refused a.table.now a.nodes c.requires c.loop-i.i c.loop-i.invariant c.loop-i-test.true (ap not (sym (formed-is a.table.now a.nodes c.loop-i.i c.loop-i-test.true c.node_at.result c.well_formed-in-loop-i.result c.node_at.ensures c.well_formed-in-loop-i.ensures) ∙ c.if-not-well_formed.true))
+    let formed = formed-is a.table.now a.nodes c.loop-i.i c.loop-i-test.true c.node_at.result c.well_formed-in-loop-i.result c.node_at.ensures c.well_formed-in-loop-i.ensures in
+    operands-refused a.table.now a.nodes c.requires c.loop-i.i c.loop-i.invariant c.loop-i-test.true (ap not (sym formed ∙ c.if-not-well_formed.true))
 
 pub loop-i-preserved : goal.loop-i-preserved
 loop-i-preserved c =
     let a = c.args in
-    look_on (malformed a.table.now a.nodes) a.nodes c.loop-i.i c.loop-i.invariant c.loop-i-test.true (ap not (sym (formed-is a.table.now a.nodes c.loop-i.i c.loop-i-test.true c.node_at.result c.well_formed-in-loop-i.result c.node_at.ensures c.well_formed-in-loop-i.ensures) ∙ c.if-not-well_formed.false))
+    let formed = formed-is a.table.now a.nodes c.loop-i.i c.loop-i-test.true c.node_at.result c.well_formed-in-loop-i.result c.node_at.ensures c.well_formed-in-loop-i.ensures in
+    look_on (malformed a.table.now a.nodes) a.nodes c.loop-i.i c.loop-i.invariant c.loop-i-test.true (ap not (sym formed ∙ c.if-not-well_formed.false))
 
 pub returns : goal.returns
 returns c =
