@@ -8,8 +8,8 @@ ghost use Rattle.text.specs.Code.Scan.{ends_field, field_in, starts_with, number
 
 pub mod words;
 
-use script::Script;
-use text::Said;
+use script::{Script};
+
 
 pub const TAB: u8 = 9;
 
@@ -61,7 +61,7 @@ pub fn byte_is(text: &[u8], at: usize, b: u8) -> bool
 }
 
 // The number that the digits of a field make, at most `limit`.
-fn digits(f: &[u8], limit: u32) -> Said
+fn digits(f: &[u8], limit: u32) -> Option<u32>
     ensures { result ≡ said_by (number_after limit 0 f.now) }
 {
     let mut n: u64 = 0;
@@ -69,52 +69,52 @@ fn digits(f: &[u8], limit: u32) -> Said
     while i < f.len() {
         let c = f[i];
         if c < b'0' {
-            return Said::Nothing;
+            return None;
         }
         if b'9' < c {
-            return Said::Nothing;
+            return None;
         }
         n = 10 * n + ((c - b'0') as u64);
         if (limit as u64) < n {
-            return Said::Nothing;
+            return None;
         }
         i += 1;
     }
-    Said::Number(n as u32)
+    Some(n as u32)
 }
 
 // The number that a field says: decimal without leading zeros, at most `limit`.
-pub fn number(f: &[u8], limit: u32) -> Said
+pub fn number(f: &[u8], limit: u32) -> Option<u32>
     ensures { result ≡ said_by (decimal_up_to limit f.now) }
 {
     if f.len() == 0 {
-        return Said::Nothing;
+        return None;
     }
     if f.len() == 1 {
         return digits(f, limit);
     }
     if f[0] == b'0' {
-        return Said::Nothing;
+        return None;
     }
     digits(f, limit)
 }
 
 // The type's code that the last letter makes after the letters r.
-fn last_letter(t: u32, c: u8) -> Said
+fn last_letter(t: u32, c: u8) -> Option<u32>
     requires { t ≤ 30 }
     ensures { result ≡ said_by (type_up_to type_limit (last_letter t c [])) }
 {
     if c == b'i' {
-        return Said::Number(t);
+        return Some(t);
     }
     if c == b'b' {
-        return Said::Number(t + 1);
+        return Some(t + 1);
     }
-    Said::Nothing
+    None
 }
 
 // The code of the type that a field says: 0 to 15 letters r, then i or b.
-pub fn type_code(f: &[u8]) -> Said
+pub fn type_code(f: &[u8]) -> Option<u32>
     ensures { result ≡ said_by (type_of f.now) }
 {
     let mut references: u32 = 0;
@@ -124,14 +124,14 @@ pub fn type_code(f: &[u8]) -> Said
         i += 1;
         if c != b'r' {
             if i < f.len() {
-                return Said::Nothing;
+                return None;
             }
             return last_letter(2 * references, c);
         }
         if Script::REFERENCES <= references {
-            return Said::Nothing;
+            return None;
         }
         references += 1;
     }
-    Said::Nothing
+    None
 }

@@ -3,8 +3,8 @@ ghost use Rattle.std.specs.Prelude.{◌≡◌};
 ghost use Rattle.text.specs.Fields.{same_bytes, kind_named};
 ghost use Rattle.text.specs.Code.Scan.{said_by};
 
-use script::table::KINDS;
-use text::Said;
+use script::table::{KINDS};
+
 
 // The words in the order of the kinds, each in five places.
 pub const WORDS: [u8; 5 * KINDS as usize] =
@@ -31,7 +31,7 @@ pub fn same(a: &[u8], b: &[u8]) -> bool
 }
 
 // The kind whose word the field is.
-pub fn kind_of(f: &[u8]) -> Said
+pub fn kind_of(f: &[u8]) -> Option<u32>
     ensures { result ≡ said_by (kind_named f.now) }
 {
     let words = WORDS;
@@ -41,9 +41,9 @@ pub fn kind_of(f: &[u8]) -> Said
         let from = 5 * (k as usize);
         let end = from + lengths[k as usize];
         if same(&words[from..end], f) {
-            return Said::Number(k);
+            return Some(k);
         }
         k += 1;
     }
-    Said::Nothing
+    None
 }

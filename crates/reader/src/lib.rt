@@ -16,8 +16,8 @@ ghost use Rattle.text.specs.Code.Steps.{Kept, Took, Holds, entry_step, entry_sto
 mod lines;
 
 use lines::line_at;
-use script::table::{Tested, WIDTH};
-use script::{Node, Reading, Refusal, Script, Sized};
+use script::table::{WIDTH};
+use script::{Node, Refusal, Script};
 use table::clearing::{clear_entries, clear_nodes};
 use table::{put_node, well_formed};
 use tests::test_tree;
@@ -32,12 +32,12 @@ fn take_entry(entries: &mut [u32], script: Script, t: u32, next: usize, i: u32) 
         return Step::Refused(Refusal::BadLine(i));
     }
     match script.with_entry() {
-        Sized::Fits(more) => {
+        Some(more) => {
             let at = script.entries;
             entries[at] = t;
             return Step::Next(more, next);
         }
-        Sized::TooLarge => {
+        None => {
             return Step::Refused(Refusal::TooManyAt(i));
         }
     }
@@ -49,7 +49,7 @@ fn take_node(table: &mut [u32], script: Script, n: Node, next: usize, i: u32) ->
     ensures { (result ≡ node_step script n next i) × (table.new ≡ node_stored script n table.old) }
 {
     match script.with_node() {
-        Sized::Fits(more) => {
+        Some(more) => {
             let at = script.nodes;
             if !well_formed(n, at) {
                 return Step::Refused(Refusal::BadOperand(i));
@@ -57,7 +57,7 @@ fn take_node(table: &mut [u32], script: Script, n: Node, next: usize, i: u32) ->
             put_node(table, at, n);
             return Step::Next(more, next);
         }
-        Sized::TooLarge => {
+        None => {
             return Step::Refused(Refusal::TooManyAt(i));
         }
     }
@@ -84,22 +84,22 @@ fn take_line(
 }
 
 // 3, 5 and 13 after the last line.
-fn at_end(table: &[u32], script: Script) -> Reading
+fn at_end(table: &[u32], script: Script) -> Result<Script, Refusal>
     requires { FormedNodes table.now script.nodes }
     ensures { result ≡ ended_by (need (ltb 0 script.nodes) NoNode (tree_test (take script.nodes (nodes_in table.now)))) script }
 {
     let nodes = script.nodes;
     if nodes == 0 {
-        return Reading::Refused(Refusal::NoNode);
+        return Err(Refusal::NoNode);
     }
     match test_tree(table, nodes) {
-        Tested::Passed => Reading::Read(script),
-        Tested::Refused(r) => Reading::Refused(r),
+        Ok(()) => Ok(script),
+        Err(r) => Err(r),
     }
 }
 
 // All lines, in one pass.
-fn read_lines(text: &[u8], table: &mut [u32], entries: &mut [u32]) -> Reading
+fn read_lines(text: &[u8], table: &mut [u32], entries: &mut [u32]) -> Result<Script, Refusal>
     requires text_len_bound { length text.now ≤ byte_limit }
     requires node_limit_in_bounds { node_width * node_limit ≤ length table.old }
     requires entry_limit_in_bounds { entry_limit ≤ length entries.old }
@@ -115,7 +115,7 @@ fn read_lines(text: &[u8], table: &mut [u32], entries: &mut [u32]) -> Reading
                 at = next;
             }
             Step::Refused(r) => {
-                return Reading::Refused(r);
+                return Err(r);
             }
         }
         i += 1;
@@ -124,37 +124,37 @@ fn read_lines(text: &[u8], table: &mut [u32], entries: &mut [u32]) -> Reading
 }
 
 // 32 and 31, then the lines.
-fn read_text(text: &[u8], table: &mut [u32], entries: &mut [u32]) -> Reading
+fn read_text(text: &[u8], table: &mut [u32], entries: &mut [u32]) -> Result<Script, Refusal>
     ensures { Holds (tried text.now (length (nodes_in table.old)) (length entries.old)) table.old entries.old result table.new entries.new }
 {
     if table.len() / WIDTH < Script::NODES {
-        return Reading::Refused(Refusal::TableTooSmall);
+        return Err(Refusal::TableTooSmall);
     }
     if entries.len() < Script::ENTRIES {
-        return Reading::Refused(Refusal::TableTooSmall);
+        return Err(Refusal::TableTooSmall);
     }
     if Script::BYTES < text.len() {
-        return Reading::Refused(Refusal::TextTooLong);
+        return Err(Refusal::TextTooLong);
     }
     read_lines(text, table, entries)
 }
 
 // Reads a text into a lent table and a lent list of entries.
-pub fn read(text: &[u8], table: &mut [u32], entries: &mut [u32]) -> Reading
+pub fn read(text: &[u8], table: &mut [u32], entries: &mut [u32]) -> Result<Script, Refusal>
     ensures { leaves result table.new entries.new ≡ reading_in text.now table.old entries.old }
 {
     match read_text(text, table, entries) {
-        Reading::Read(script) => {
+        Ok(script) => {
             let nodes = script.nodes;
             let used = script.entries;
             clear_nodes(table, nodes);
             clear_entries(entries, used);
-            return Reading::Read(script);
+            return Ok(script);
         }
-        Reading::Refused(r) => {
+        Err(r) => {
             clear_nodes(table, 0);
             clear_entries(entries, 0);
-            return Reading::Refused(r);
+            return Err(r);
         }
     }
 }

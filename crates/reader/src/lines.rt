@@ -6,10 +6,10 @@ ghost use Rattle.text.specs.Code.Scan.{field_ends, largest_by, operand_at, entry
 
 use fields::words::{kind_of, same};
 use fields::{LF, TAB, byte_is, field, number, type_code};
-use script::table::Takes;
+use script::table::{Takes};
 use script::{Node, Script};
 use table::{kind_takes, operand_count};
-use text::{Operand, Said, Scanned};
+use text::{Operand, Scanned};
 
 // The operand after a tab, at most `limit`; 0 without looking where none is wanted.
 fn operand_at(text: &[u8], at: usize, limit: u32, wanted: bool) -> Operand
@@ -25,8 +25,8 @@ fn operand_at(text: &[u8], at: usize, limit: u32, wanted: bool) -> Operand
     let from = at + 1;
     let f = field(text, from);
     match number(f, limit) {
-        Said::Number(n) => Operand::Is(n, from + f.len()),
-        Said::Nothing => Operand::Bad,
+        Some(n) => Operand::Is(n, from + f.len()),
+        None => Operand::Bad,
     }
 }
 
@@ -80,8 +80,8 @@ fn entry_line(text: &[u8], at: usize) -> Scanned
         return Scanned::Bad;
     }
     match type_code(f) {
-        Said::Number(t) => Scanned::Entry(t, end + 1),
-        Said::Nothing => Scanned::Bad,
+        Some(t) => Scanned::Entry(t, end + 1),
+        None => Scanned::Bad,
     }
 }
 
@@ -96,7 +96,7 @@ pub fn line_at(text: &[u8], at: usize) -> Scanned
         return entry_line(text, end);
     }
     match kind_of(w) {
-        Said::Number(kind) => node_line(text, end, kind),
-        Said::Nothing => Scanned::Bad,
+        Some(kind) => node_line(text, end, kind),
+        None => Scanned::Bad,
     }
 }

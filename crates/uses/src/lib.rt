@@ -10,7 +10,7 @@ ghost use Rattle.script.specs.Table.{operands};
 ghost use Rattle.script.specs.Tests.Bits.{bit};
 ghost use Rattle.uses.specs.Walk.{half, used_again, with_use, with_uses, first_unused, lowest_wrong, wrong_before, start, step, walk};
 
-use script::{Node, Place, Script};
+use script::{Node, Script};
 use table::{node_at, node_operands};
 
 // How many nodes one word has bits for.
@@ -33,7 +33,7 @@ pub struct Uses {
 #[derive(Clone, Copy)]
 pub struct State {
     pub uses: Uses,
-    pub wrong: Place,
+    pub wrong: Option<u32>,
 }
 
 // Bit k of a word is 1.
@@ -139,14 +139,14 @@ fn lowest_wrong(u: Uses) -> u32
 }
 
 // That node, if it is before the last.
-fn wrong_before(u: Uses, last: u32) -> Place
+fn wrong_before(u: Uses, last: u32) -> Option<u32>
     ensures { result ≡ wrong_before u last }
 {
     let lowest = lowest_wrong(u);
     if lowest < last {
-        return Place::At(lowest);
+        return Some(lowest);
     }
-    Place::Nowhere
+    None
 }
 
 // Before the first node.
@@ -160,7 +160,7 @@ pub fn start() -> State
             again: LIMIT,
             seen: 0,
         },
-        wrong: Place::Nowhere,
+        wrong: None,
     }
 }
 

@@ -11,8 +11,8 @@ ghost use Rattle.text.specs.Writing.{outcome, entry_text, node_text, entries_tex
 
 use fields::{LF, TAB};
 use output::{put, put_bytes, put_number, put_type, put_word};
-use script::table::Tested;
-use script::{Node, Refusal, Script, Writing};
+
+use script::{Node, Refusal, Script};
 use table::{node_at, operand_count};
 use tests::test_table;
 
@@ -122,15 +122,15 @@ fn write_passed(
     nodes: usize,
     entries: &[u32],
     entry_count: usize,
-) -> Writing
+) -> Result<usize, Refusal>
     requires { table_test (table_in table.now nodes entries.now entry_count) ≡ none }
     ensures { outcome result out.new ≡ writing (table_in table.now nodes entries.now entry_count) out.old }
 {
     if fits(out, table, nodes, entries, entry_count) {
         let length = put_text(out, table, nodes, entries, entry_count);
-        return Writing::Wrote(length);
+        return Ok(length);
     }
-    Writing::Refused(Refusal::OutputTooShort)
+    Err(Refusal::OutputTooShort)
 }
 
 // Writes the text of a table into lent bytes: the tests of the table, then 36. A refusal changes nothing lent.
@@ -140,11 +140,11 @@ pub fn write(
     entries: &[u32],
     entry_count: usize,
     out: &mut [u8],
-) -> Writing
+) -> Result<usize, Refusal>
     ensures { outcome result out.new ≡ writing (table_in table.now nodes entries.now entry_count) out.old }
 {
     match test_table(table, nodes, entries, entry_count) {
-        Tested::Passed => write_passed(out, table, nodes, entries, entry_count),
-        Tested::Refused(r) => Writing::Refused(r),
+        Ok(()) => write_passed(out, table, nodes, entries, entry_count),
+        Err(r) => Err(r),
     }
 }

@@ -12,14 +12,13 @@ pub mod Resuming
 pub mod Rewinding
 pub mod Steps
 pub mod Walking
-use Rattle.std.specs.Prelude.{Bool, true, List, [], ◌∷◌, ◌++◌, ◌≡◌, ℕ, suc, ◌+◌, ◌*◌, ◌-◌, ◌≤◌, ◌<◌, length, get_or, set}
+use Rattle.std.specs.Prelude.{Bool, true, List, [], ◌∷◌, ◌++◌, ◌≡◌, ℕ, suc, ◌+◌, ◌*◌, ◌-◌, ◌≤◌, ◌<◌, length, get_or, set, Err, Ok}
 use Rattle.script.specs.Code.Forms.{form_of, node_in, tree_in}
 use Rattle.script.specs.Flat.{FormedNodes}
 use Rattle.script.specs.Rows.{let_form, node_operands}
 use Rattle.script.specs.Rows.Kinds.{kind_for, leaf_kinds}
 use Rattle.script.specs.Tests.{pick}
 use Rattle.script.specs.Tree.{size}
-use Rattle.script.specs.declared.Checked.TheVariants.{Accepted, Refused}
 use Rattle.script.specs.declared.Refusal.{Refusal}
 use Rattle.script.specs.Limits.{node_limit}
 use Rattle.rules.specs.Checking.{exec}
@@ -294,8 +293,8 @@ pub record LeafArrives (table : List ℕ) (n : ℕ) (ws fs : List ℕ) (r : Move
 
 -- what a path says of the leaves from its own on, where T is the type of the first
 pub data WalkOf (limit : ℕ) (table : List ℕ) (bound base : ℕ) (beneath : List Symbolic) (n T : ℕ) (left gs : List ℕ) (ls : List Leaf) : Walked → Type 0 where
-  refused : {x : Refusal} → ((k : ℕ) → judge n (suc k) T ls ≡ Refused x) → WalkOf limit table bound base beneath n T left gs ls (Wrong x)
-  lasted : {t : ℕ} → ((k : ℕ) → judge n (suc k) T ls ≡ Accepted t) → WalkOf limit table bound base beneath n T left gs ls (Last t)
+  refused : {x : Refusal} → ((k : ℕ) → judge n (suc k) T ls ≡ Err x) → WalkOf limit table bound base beneath n T left gs ls (Wrong x)
+  lasted : {t : ℕ} → ((k : ℕ) → judge n (suc k) T ls ≡ Ok t) → WalkOf limit table bound base beneath n T left gs ls (Last t)
   went_on : {t m : ℕ} (after : List Leaf) → T ≡ t → Entering limit table bound base beneath left gs m after
       → ((k : ℕ) → judge n (suc k) T ls ≡ judge n k T after) → WalkOf limit table bound base beneath n T left gs ls (More t m)
 

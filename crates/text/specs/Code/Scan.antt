@@ -1,22 +1,22 @@
 -- What stands at a place of a text, for the contracts of the reader's parts: each is given the rest of the text from there on. Nothing here has to be
 -- believed: the laws tie it to the grammar. Assumes nothing.
-use Rattle.std.specs.Prelude.{Bool, true, false, ◌&&◌, ◌||◌, List, [], ◌∷◌, ℕ, ◌+◌, leb, eqb, length}
+use Rattle.std.specs.Prelude.{Bool, true, false, ◌&&◌, ◌||◌, List, [], ◌∷◌, ℕ, ◌+◌, leb, eqb, length, None, Some}
 use Rattle.std.proofs.Math.Option.{Option, none, some}
 use Rattle.script.specs.Rows.{Row, row_of, number_up_to}
 use Rattle.script.specs.Tests.{pick, all}
 use Rattle.text.specs.Bytes.{lf, tab}
 use Rattle.text.specs.Fields.{given, is_digit, value_after, decimal_up_to}
 use Rattle.text.specs.Grammar.{Line, entry_line, node_line, up_to, node_by, entry_from, line_of, parts}
-use Rattle.text.specs.declared.Said.{Said}
 use Rattle.text.specs.declared.Operand.{Operand}
 use Rattle.text.specs.declared.Scanned.{Scanned}
+use Rattle.text.specs.Code.Named.{Said}
 pub mod Laws
 pub mod Lines
 pub mod Nodes
 
 abbrev pub said_by : Option ℕ → Said
-said_by none = Said.Nothing
-said_by (some n) = Said.Number n
+said_by none = None
+said_by (some n) = Some n
 
 -- ---- bytes
 

@@ -1,6 +1,6 @@
 -- The reader's state from line to line, for the contracts of its parts: the used places of the lent table and entries are the nodes and entries so far.
 -- Nothing here has to be believed: the laws tie it to the grammar. Assumes nothing.
-use Rattle.std.specs.Prelude.{true, List, ◌≡◌, ℕ, ◌+◌, ◌*◌, ◌≤◌, ◌<◌, ltb, eqb, length, take, drop, set}
+use Rattle.std.specs.Prelude.{true, List, ◌≡◌, ℕ, ◌+◌, ◌*◌, ◌≤◌, ◌<◌, ltb, eqb, length, take, drop, set, Err, Ok}
 use Rattle.std.proofs.Math.Option.{Option, none, some}
 use Rattle.std.proofs.lemmas.List.Edits.{sets}
 use Rattle.script.specs.Flat.{numbers_of, node_width, nodes_in}
@@ -9,7 +9,6 @@ use Rattle.script.specs.Rows.{row_of}
 use Rattle.script.specs.Table.{right_node, well_formed}
 use Rattle.script.specs.Tests.{pick}
 use Rattle.script.specs.declared.Node.{Node}
-use Rattle.script.specs.declared.Reading.{Reading}
 use Rattle.script.specs.declared.Refusal.{Refusal}
 use Rattle.script.specs.declared.Refusal.TheVariants.{BadLine, TooManyAt, BadOperand}
 use Rattle.script.specs.declared.Script.{Script}
@@ -18,6 +17,7 @@ use Rattle.text.specs.Grammar.{Line, Meaning, go_on, stop, admit, line_of}
 use Rattle.text.specs.Reading.{answer_of, nodes_read, entries_read}
 use Rattle.text.specs.Code.Scan.{line_in, line_ends}
 use Rattle.text.specs.declared.Step.{Step}
+use Rattle.script.specs.Answers.Named.{Reading}
 pub mod Laws
 pub mod Taken
 pub mod Walk
@@ -94,17 +94,17 @@ pub record Took (text : List ℕ) (at i : ℕ) (s : Script) (xs es : List ℕ) (
 -- ---- all lines
 
 abbrev pub used_nodes : Reading → ℕ
-used_nodes (Reading.Read s) = s.nodes
-used_nodes (Reading.Refused r) = 0
+used_nodes (Ok s) = s.nodes
+used_nodes (Err r) = 0
 
 abbrev pub used_entries : Reading → ℕ
-used_entries (Reading.Read s) = s.entries
-used_entries (Reading.Refused r) = 0
+used_entries (Ok s) = s.entries
+used_entries (Err r) = 0
 
 -- the 3, 5 or 13 after the last line, or the script
 abbrev pub ended_by : Option Refusal → Script → Reading
-ended_by none s = Reading.Read s
-ended_by (some r) s = Reading.Refused r
+ended_by none s = Ok s
+ended_by (some r) s = Err r
 
 -- a text of this meaning has been read: the used places hold it
 pub record Holds (m : Meaning) (xs es : List ℕ) (r : Reading) (xs' es' : List ℕ) : Type 0 where

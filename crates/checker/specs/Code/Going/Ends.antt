@@ -1,12 +1,11 @@
 -- The end of a path: its log, its type, and the path that follows; and the loop over the paths. Assumes nothing.
-use Rattle.std.specs.Prelude.{Bool, true, false, not, ◌||◌, ◌≡◌, ℕ, suc, ◌≤◌, eqb}
+use Rattle.std.specs.Prelude.{Bool, true, false, not, ◌||◌, ◌≡◌, ℕ, suc, ◌≤◌, eqb, Ok}
 use Rattle.std.proofs.lemmas.Bool.{false≢true}
 use mathlib.Core.List.{List, [], ◌∷◌, ◌++◌}
 use Rattle.std.proofs.Math.Path.{refl, ap}
 use Rattle.std.proofs.Common.{sym, ◌∙◌, arith}
 use borrow.Author.Tests.{not-true, not-false, eqb-true, eq-eqb}
 use Rattle.script.specs.Tests.{pick}
-use Rattle.script.specs.declared.Checked.TheVariants.{Accepted}
 use Rattle.script.specs.declared.Refusal.TheVariants.{InconsistentLog, PathTypesDiffer}
 use Rattle.rules.specs.Paths.{Leaf, ended, leaves, consistent}
 use Rattle.rules.specs.Symbolic.{Symbolic, type_of}
@@ -85,7 +84,7 @@ module _ {limit : ℕ} {table : List ℕ} {bound base : ℕ} {beneath : List Sym
         unfolding judge
         end_last z =
             lasted λ k.
-            goes k ∙ ap (judge n k (pick is_first (first_type ls) wanted)) (none-left_of r.stands.left z) ∙ ap Accepted right
+            goes k ∙ ap (judge n k (pick is_first (first_type ls) wanted)) (none-left_of r.stands.left z) ∙ ap Ok right
 
         pub end_more : {left gs : List ℕ} {m : ℕ} → Resumes table ws fs m left gs
             → WalkOf limit table bound base beneath n (pick is_first (first_type ls) wanted) left gs ls (More t m)

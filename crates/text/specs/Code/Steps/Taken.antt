@@ -1,5 +1,5 @@
 -- What an entry line, a node line and a bad line do to the lent numbers, as the grammar admits them. Assumes nothing.
-use Rattle.std.specs.Prelude.{Bool, true, false, List, [], ◌∷◌, ◌++◌, ◌≡◌, refl, ℕ, ◌+◌, ◌*◌, ◌≤◌, ◌<◌, ltb, eqb, take, drop, set}
+use Rattle.std.specs.Prelude.{Bool, true, false, List, [], ◌∷◌, ◌++◌, ◌≡◌, refl, ℕ, ◌+◌, ◌*◌, ◌≤◌, ◌<◌, ltb, eqb, take, drop, set, None, Some}
 use Rattle.std.proofs.Math.Option.{Option, none, some}
 use Rattle.std.proofs.Common.{sym, ap, ◌∙◌, add-one, arith, length-drop, length-set, length-take-le, take-suc-set, eqb-true, ltb-true}
 use Rattle.std.proofs.Math.ListN.{length, length-append}
@@ -16,13 +16,13 @@ use Rattle.script.specs.Tests.{pick}
 use Rattle.script.specs.declared.Node.{Node}
 use Rattle.script.specs.declared.Refusal.TheVariants.{BadLine, TooManyAt, BadOperand}
 use Rattle.script.specs.declared.Script.{Script}
-use Rattle.script.specs.declared.Sized.{Sized}
 use Rattle.text.specs.Grammar.{Line, entry_line, node_line, go_on, stop, admit, line_of}
 use Rattle.text.specs.Code.Scan.{line_in, line_ends, located, line_at}
 use Rattle.text.specs.Code.Steps.{nodes_by, entries_by, Kept, Framed, entry_step, entry_stored, node_step, node_stored, line_here, goes-next, refused, Took}
 use Rattle.text.specs.Code.Steps.Laws.{line-within}
 use Rattle.text.specs.declared.Scanned.{Scanned}
 use Rattle.text.specs.declared.Step.{Step}
+use Rattle.script.specs.Answers.Named.{Sized}
 
 -- ---- what a scanned line tells
 
@@ -69,11 +69,11 @@ module _ (at : ℕ) (cs : List ℕ) where
 
 -- ---- one more node or entry, or one too many
 
-pub sized_fits : (b : Bool) (s t : Script) → pick_sized b (Sized.Fits s) ≡ Sized.Fits t → (b ≡ true) × (t ≡ s)
+pub sized_fits : (b : Bool) (s t : Script) → pick_sized b (Some s) ≡ Some t → (b ≡ true) × (t ≡ s)
 sized_fits true s t e = (refl, cc)
 sized_fits false s t e = let z : ◌≡◌ {A = ℕ} 0 1 = cc in absurd (omega arith)
 
-pub sized_large : (b : Bool) (s : Script) → pick_sized b (Sized.Fits s) ≡ Sized.TooLarge → b ≡ false
+pub sized_large : (b : Bool) (s : Script) → pick_sized b (Some s) ≡ None → b ≡ false
 sized_large true s e = let z : ◌≡◌ {A = ℕ} 0 1 = cc in absurd (omega arith)
 sized_large false s e = refl
 
