@@ -1,6 +1,6 @@
 -- Every script has one text (docs/SCRIPTS.md): a text that is read is the text of what it means, so that no two texts mean the same, and
 -- writing what a call of the reader read gives the same bytes back. The table that is read passes every test. Assumes nothing.
-use Rattle.std.specs.Prelude.{Bool, true, false, ◌&&◌, ◌≡◌, refl, ℕ, ◌-◌, ◌≤◌, leb, length, take, drop, replicate, Ok, Some}
+use Rattle.std.specs.Prelude.{Bool, true, false, ◌&&◌, ◌≡◌, refl, ℕ, ◌-◌, ◌≤◌, leb, length, take, drop, replicate, Ok}
 use Rattle.std.proofs.Math.Bool.{not}
 use mathlib.Core.List.{List, [], ◌++◌}
 use Rattle.std.proofs.Math.Option.{none}

@@ -1,6 +1,6 @@
 -- The place of a refused text (docs/REFUSALS.md, 'Which one comes first'): a line's refusal is that of the lowest line that is refused, all before it being taken, and a
 -- node's refusal is that of the lowest node that fails the test, all lines being taken. Assumes nothing.
-use Rattle.std.specs.Prelude.{Bool, true, false, not, List, [], ◌∷◌, ◌++◌, ◌≡◌, refl, ℕ, zero, suc, ◌+◌, ◌≤◌, ◌<◌, pred, leb, ltb, eqb, length, take, drop, get_or, Err, Some}
+use Rattle.std.specs.Prelude.{Bool, true, false, not, List, [], ◌∷◌, ◌++◌, ◌≡◌, refl, ℕ, zero, suc, ◌+◌, ◌≤◌, ◌<◌, pred, leb, ltb, eqb, length, take, drop, get_or, Err}
 use Rattle.std.proofs.Math.Option.{Option, none, some}
 use Rattle.std.proofs.Common.{sym, ap, ◌∙◌, arith, length-drop, length-take-le, take-take, get_or-take, leb-false, le-leb, lt-ltb, eqb-true}
 use Rattle.std.proofs.lemmas.Bool.{not-false}

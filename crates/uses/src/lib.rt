@@ -58,12 +58,7 @@ fn used_again(u: Uses, o: u32) -> Uses
     ensures { result ≡ used_again u o }
 {
     if o < u.again {
-        return Uses {
-            low: u.low,
-            high: u.high,
-            again: o,
-            seen: u.seen,
-        };
+        return Uses { again: o, ..u };
     }
     u
 }
@@ -76,9 +71,7 @@ fn with_use(u: Uses, o: u32) -> Uses
         if has_bit(u.low, o) {
             return Uses {
                 low: without_bit(u.low, o),
-                high: u.high,
-                again: u.again,
-                seen: u.seen,
+                ..u
             };
         }
         return used_again(u, o);
@@ -86,10 +79,8 @@ fn with_use(u: Uses, o: u32) -> Uses
     if o < LIMIT {
         if has_bit(u.high, o - HALF) {
             return Uses {
-                low: u.low,
                 high: without_bit(u.high, o - HALF),
-                again: u.again,
-                seen: u.seen,
+                ..u
             };
         }
         return used_again(u, o);
@@ -120,11 +111,11 @@ fn with_uses(u: Uses, n: Node) -> Uses
 fn first_unused(u: Uses) -> u32
     ensures { result ≡ first_unused u }
 {
-    let low = u64::trailing_zeros(u.low);
+    let low = u.low.trailing_zeros();
     if low < HALF {
         return low;
     }
-    HALF + u64::trailing_zeros(u.high)
+    HALF + u.high.trailing_zeros()
 }
 
 // The lowest node that is unused or used again, or 128.
@@ -155,8 +146,8 @@ pub fn start() -> State
 {
     State {
         uses: Uses {
-            low: 0xffff_ffff_ffff_ffff,
-            high: 0xffff_ffff_ffff_ffff,
+            low: u64::MAX,
+            high: u64::MAX,
             again: LIMIT,
             seen: 0,
         },
@@ -174,10 +165,8 @@ pub fn step(s: State, n: Node) -> State
     let last = before.seen;
     let wrong = wrong_before(after, last);
     let uses = Uses {
-        low: after.low,
-        high: after.high,
-        again: after.again,
         seen: last + 1,
+        ..after
     };
     State { uses, wrong }
 }
@@ -188,10 +177,8 @@ pub fn walk(table: &[u32], nodes: usize) -> State
     ensures { result ≡ walk (take nodes (nodes_in table.now)) }
 {
     let mut s = start();
-    let mut i = 0;
-    while i < nodes {
+    for i in 0..nodes {
         s = step(s, node_at(table, i));
-        i += 1;
     }
     s
 }

@@ -37,14 +37,14 @@ data Good (t : ℕ) : List Leaf → Type 0 where
   no_more : Good t []
   and_good : {v : Symbolic} {p : Path} {ls : List Leaf} → consistent p ≡ true → type_of v ≡ t → Good t ls → Good t (ended v p ∷ ls)
 
-refused_accepted : {A : Type 0} {r : Refusal} {t : ℕ} → Err r ≡ Ok t → A
+refused_accepted : {A : Type 0} {r : Refusal} {t : ℕ} → ◌≡◌ {A = Checked} (Err r) (Ok t) → A
 refused_accepted e = let z : ◌≡◌ {A = ℕ} 0 1 = cc in absurd (omega arith)
 
 judge_good : (n left t : ℕ) (ls : List Leaf) {u : ℕ} → judge n left t ls ≡ Ok u → (t ≡ u) × Good t ls
 unfolding judge
 judge_good n left t [] e = (inside e, no_more)
   where
-    inside : {t u : ℕ} → Ok t ≡ Ok u → t ≡ u
+    inside : {t u : ℕ} → ◌≡◌ {A = Checked} (Ok t) (Ok u) → t ≡ u
     inside q = cc
 judge_good n zero t (ended v p ∷ ls) e = refused_accepted e
 judge_good n zero t (stopped r ∷ ls) e = refused_accepted e

@@ -43,3 +43,10 @@ lacking (Some a) e h = let z : ◌≡◌ {A = ℕ} 0 1 = cc in absurd (omega ari
 pub there_is : {A : Type 0} (o : Option A) (e : Refusal) {a : A} → ok_or o e ≡ Ok a → o ≡ Some a
 there_is None e h = let z : ◌≡◌ {A = ℕ} 0 1 = cc in absurd (omega arith)
 there_is (Some b) e h = cc
+
+-- two answers with a pair that are the same have the same parts
+pub same_parts : {A B : Type 0} {a c : A} {b d : B} → ◌≡◌ {A = Option (A × B)} (Some (a , b)) (Some (c , d)) → (a ≡ c) × (b ≡ d)
+same_parts {A} {B} {a} {c} {b} {d} e = let q : ◌≡◌ {A = A × B} (a , b) (c , d) = cc in (ap (λ p. p.0) q, ap (λ p. p.1) q)
+
+pub same_given : {A B : Type 0} {a c : A} {b d : B} → ◌≡◌ {A = Result (A × B) Refusal} (Ok (a , b)) (Ok (c , d)) → (a ≡ c) × (b ≡ d)
+same_given {A} {B} {a} {c} {b} {d} e = let q : ◌≡◌ {A = A × B} (a , b) (c , d) = cc in (ap (λ p. p.0) q, ap (λ p. p.1) q)
