@@ -8,8 +8,7 @@ ghost use Rattle.text.specs.Code.Scan.{ends_field, field_in, starts_with, number
 
 pub mod words;
 
-use script::{Script};
-
+use script::Script;
 
 pub const TAB: u8 = 9;
 
@@ -30,14 +29,12 @@ fn field_end(text: &[u8], from: usize) -> usize
     requires { from ≤ length text.now }
     ensures { result ≡ from + length (field_in (drop from text.now)) }
 {
-    let mut e = from;
-    while e < text.len() {
+    for e in from..text.len() {
         if ends_field(text[e]) {
             return e;
         }
-        e += 1;
     }
-    e
+    text.len()
 }
 
 // The field that starts at `from`, as that part of the text.
@@ -65,9 +62,7 @@ fn digits(f: &[u8], limit: u32) -> Option<u32>
     ensures { result ≡ said_by (number_after limit 0 f.now) }
 {
     let mut n: u64 = 0;
-    let mut i = 0;
-    while i < f.len() {
-        let c = f[i];
+    for &c in f {
         if c < b'0' {
             return None;
         }
@@ -78,7 +73,6 @@ fn digits(f: &[u8], limit: u32) -> Option<u32>
         if (limit as u64) < n {
             return None;
         }
-        i += 1;
     }
     Some(n as u32)
 }
@@ -117,21 +111,16 @@ fn last_letter(t: u32, c: u8) -> Option<u32>
 pub fn type_code(f: &[u8]) -> Option<u32>
     ensures { result ≡ said_by (type_of f.now) }
 {
-    let mut references: u32 = 0;
-    let mut i = 0;
-    while i < f.len() {
-        let c = f[i];
-        i += 1;
+    for (i, &c) in f.iter().enumerate() {
         if c != b'r' {
-            if i < f.len() {
+            if i + 1 < f.len() {
                 return None;
             }
-            return last_letter(2 * references, c);
+            return last_letter(2 * i as u32, c);
         }
-        if Script::REFERENCES <= references {
+        if Script::REFERENCES as usize <= i {
             return None;
         }
-        references += 1;
     }
     None
 }
