@@ -18,7 +18,6 @@ mod steps;
 use cells::tests::{right_cells, right_values};
 use operators::Step;
 use operators::steps::whole;
-
 use script::{Ran, Refusal, Script};
 use steps::run_node;
 use tests::test_table;
@@ -78,8 +77,8 @@ pub fn run_passed(
         return Ran::Refused(Refusal::BadValues);
     }
     match run_tested(table, nodes, entry_count, values, cells, used) {
-        Step::Gave(v, count) => Ran::Gave(v, count),
-        Step::Failed(at, count) => Ran::Failed(at, count),
+        Ok((v, count)) => Ran::Gave(v, count),
+        Err((at, count)) => Ran::Failed(at, count),
     }
 }
 
@@ -97,7 +96,7 @@ pub fn run(
     ensures { Answered table.now nodes entries.now entry_count values.now cells.old used result cells.new }
 {
     match test_table(table, nodes, entries, entry_count) {
-        Err(why) => Ran::Refused(why),
         Ok(()) => run_passed(table, nodes, entries, entry_count, values, cells, used),
+        Err(why) => Ran::Refused(why),
     }
 }

@@ -5,9 +5,9 @@ use Rattle.runner.specs.Code.Whole.{table-refused}
 use Rattle.runner.proofs.run.Goals as goal
 
 pub run_passed-requires : goal.run_passed-requires
-run_passed-requires c = passed_none _ (sym c.test_table.ensures ∙ c.in-Passed.is)
+run_passed-requires c = passed_none _ (sym c.test_table.ensures ∙ c.in-Ok.is)
 
-pub returns-in-Refused : goal.returns-in-Refused
-returns-in-Refused c =
+pub returns-in-Err : goal.returns-in-Err
+returns-in-Err c =
     let a = c.args in
-    table-refused a.table.now a.nodes a.entries.now a.entry_count a.values.now a.cells.now a.used (refused-some _ _ (sym c.test_table.ensures ∙ c.in-Refused.is))
+    table-refused a.table.now a.nodes a.entries.now a.entry_count a.values.now a.cells.now a.used (refused-some _ _ (sym c.test_table.ensures ∙ c.in-Err.is))

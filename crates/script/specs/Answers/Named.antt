@@ -31,16 +31,16 @@ Writing = Result ℕ Refusal
 -- ---- what `?` hands on
 
 -- a refusal handed on is the same refusal
-pub handed_on : {A : Type 0} (r : Result A Refusal) {x : Refusal} → IsErrAnd r (λ e. e ≡ x) → r ≡ Err x
+pub handed_on : {A E : Type 0} (r : Result A E) {x : E} → IsErrAnd r (λ e. e ≡ x) → r ≡ Err x
 handed_on (Err e) h = ap Err h
 handed_on (Ok a) h = absurd h
 
 -- an `ok_or` refuses where there is nothing, and gives what there is
-pub lacking : {A : Type 0} (o : Option A) (e : Refusal) {x : Refusal} → ok_or o e ≡ Err x → (o ≡ None) × (x ≡ e)
+pub lacking : {A E : Type 0} (o : Option A) (e : E) {x : E} → ok_or o e ≡ Err x → (o ≡ None) × (x ≡ e)
 lacking None e h = (refl, cc)
 lacking (Some a) e h = let z : ◌≡◌ {A = ℕ} 0 1 = cc in absurd (omega arith)
 
-pub there_is : {A : Type 0} (o : Option A) (e : Refusal) {a : A} → ok_or o e ≡ Ok a → o ≡ Some a
+pub there_is : {A E : Type 0} (o : Option A) (e : E) {a : A} → ok_or o e ≡ Ok a → o ≡ Some a
 there_is None e h = let z : ◌≡◌ {A = ℕ} 0 1 = cc in absurd (omega arith)
 there_is (Some b) e h = cc
 
@@ -48,5 +48,5 @@ there_is (Some b) e h = cc
 pub same_parts : {A B : Type 0} {a c : A} {b d : B} → ◌≡◌ {A = Option (A × B)} (Some (a , b)) (Some (c , d)) → (a ≡ c) × (b ≡ d)
 same_parts {A} {B} {a} {c} {b} {d} e = let q : ◌≡◌ {A = A × B} (a , b) (c , d) = cc in (ap (λ p. p.0) q, ap (λ p. p.1) q)
 
-pub same_given : {A B : Type 0} {a c : A} {b d : B} → ◌≡◌ {A = Result (A × B) Refusal} (Ok (a , b)) (Ok (c , d)) → (a ≡ c) × (b ≡ d)
-same_given {A} {B} {a} {c} {b} {d} e = let q : ◌≡◌ {A = A × B} (a , b) (c , d) = cc in (ap (λ p. p.0) q, ap (λ p. p.1) q)
+pub same_given : {A B E : Type 0} {a c : A} {b d : B} → ◌≡◌ {A = Result (A × B) E} (Ok (a , b)) (Ok (c , d)) → (a ≡ c) × (b ≡ d)
+same_given {A} {B} {E} {a} {c} {b} {d} e = let q : ◌≡◌ {A = A × B} (a , b) (c , d) = cc in (ap (λ p. p.0) q, ap (λ p. p.1) q)
