@@ -3,7 +3,7 @@ pub mod Keeping
 pub mod Making
 pub mod Mentions
 pub mod Recalling
-use Rattle.std.specs.Prelude.{Bool, true, false, ◌&&◌, List, ◌≡◌, ℕ, zero, suc, ◌+◌, ◌*◌, ◌-◌, ◌%◌, ◌≤◌, ◌<◌, leb, eqb, length, get_or, set}
+use Rattle.std.specs.Prelude.{Bool, true, false, ◌&&◌, List, ◌≡◌, ℕ, zero, suc, ◌+◌, ◌*◌, ◌-◌, ◌%◌, ◌≤◌, ◌<◌, leb, eqb, length, get_or, set, Some, None}
 use Rattle.std.proofs.Math.Option.{some}
 use Rattle.std.proofs.Math.ListN.{get_elem?}
 use Rattle.script.specs.Code.Forms.{tree_in}
@@ -16,10 +16,9 @@ use Rattle.script.specs.declared.Node.{Node}
 use Rattle.rules.specs.Checking.{check}
 use Rattle.rules.specs.Checking.Mentions.{mentions}
 use Rattle.terms.specs.Places.{symbol_limit, variables_end}
+use Rattle.workspace.specs.Answers.{Known}
 use Rattle.workspace.specs.Places.{base_at, known_at, name_limit, note_at, note_limit, note_width, notes_at, space_size, turn_at}
 use Rattle.workspace.specs.State.{types_on}
-use Rattle.workspace.specs.declared.Known.{Known}
-use Rattle.workspace.specs.declared.Known.TheVariants.{Typed, Nothing}
 
 -- whether a node whose operands are no nodes mentions variable k; no other form does
 unfoldable pub leaf_mentions : Form → Node → ℕ → Bool
@@ -91,8 +90,8 @@ is_of ws at depth a = eqb (operand_in ws at) a && (eqb (note_depth ws at) (depth
 
 -- what the notes from the i-th on say
 unfoldable pub recalled_on : List ℕ → ℕ → ℕ → ℕ → ℕ → Known
-recalled_on ws depth a i zero = Nothing
-recalled_on ws depth a i (suc more) = pick (is_of ws (note_at i) depth a) (Typed (type_in ws (note_at i))) (recalled_on ws depth a (suc i) more)
+recalled_on ws depth a i zero = None
+recalled_on ws depth a i (suc more) = pick (is_of ws (note_at i) depth a) (Some (type_in ws (note_at i))) (recalled_on ws depth a (suc i) more)
 
 -- ---- making a note
 

@@ -2,7 +2,7 @@
 // on them, stand in `specs/`. No function.
 #![tactic(auto)]
 
-use script::{Refusal, Script};
+use script::Script;
 use terms::END;
 
 // ---- the workspace, behind the environment and the terms
@@ -92,20 +92,6 @@ pub const AWAITS: u32 = 4;
 
 // ---- what the functions hand to each other
 
-// What `get` finds: a value's type and place, or nothing.
-#[derive(Clone, Copy)]
-pub enum Found {
-    Value(u32, u32),
-    Nothing,
-}
-
-// What the notes say of a block: its type, or nothing.
-#[derive(Clone, Copy)]
-pub enum Known {
-    Typed(u32),
-    Nothing,
-}
-
 // What a frame has: the node that waits, for what, and the type and the place of its first operand's value.
 #[derive(Clone, Copy)]
 pub struct Frame {
@@ -115,18 +101,10 @@ pub struct Frame {
     pub y: u32,
 }
 
-// What becomes of an `if`: a branch, both, or a refusal.
+// What becomes of an `if`: a branch, or both.
 #[derive(Clone, Copy)]
 pub enum Branch {
     First,
     Second,
     Both,
-    Neither(Refusal),
-}
-
-// A path's step: a value's type and place, or a refusal that ends the path.
-#[derive(Clone, Copy)]
-pub enum Step {
-    Gave(u32, u32),
-    Stopped(Refusal),
 }
