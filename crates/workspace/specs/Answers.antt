@@ -11,6 +11,10 @@ Found = Option (ℕ × ℕ)
 abbrev pub Known : Type 0
 Known = Option ℕ
 
+-- how many variables a note names, or nothing where they are too many
+abbrev pub Count : Type 0
+Count = Option ℕ
+
 -- a path's step: a value's type and place, or a refusal that ends the path
 abbrev pub Step : Type 0
 Step = Result (ℕ × ℕ) Refusal
