@@ -80,7 +80,8 @@ pub const MANY_ROWS: u32 = 4096;
 // How many numbers frames and forks have: each fork has two frames of its own.
 pub const FRAMES: usize = FORKS + FORK * (Script::NODES / 2);
 
-// What a node waits for: the value of its first operand, of the next one, or of the body of a `let`, whose variable is bound then.
+// What a node waits for: the value of its first operand, of the next one, or of the body of a `let`, whose variable is bound then. Numbers and no enum:
+// `frames::wait` takes any below `AWAITS`.
 pub const FOR_FIRST: u32 = 0;
 
 pub const FOR_NEXT: u32 = 1;
