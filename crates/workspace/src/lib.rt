@@ -2,7 +2,7 @@
 // on them, stand in `specs/`. No function.
 #![tactic(auto)]
 
-use script::Script;
+use script::{Refusal, Script};
 use terms::END;
 
 // ---- the workspace, behind the environment and the terms
@@ -92,6 +92,9 @@ pub const FOR_BODY: u32 = 2;
 pub const AWAITS: u32 = 4;
 
 // ---- what the functions hand to each other
+
+// A path's step: a value's type and place, or a refusal that ends the path.
+pub type Step = Result<(u32, u32), Refusal>;
 
 // What a frame has: the node that waits, for what, and the type and the place of its first operand's value.
 #[derive(Clone, Copy)]

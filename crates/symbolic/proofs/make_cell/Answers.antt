@@ -9,10 +9,7 @@ returns-then-t-ge-DEEPEST c = ref-wrong c.args.n c.args.t c.args.q c.if-t-ge-DEE
 
 pub fresh-place-requires : goal.fresh-place-requires
 fresh-place-requires c =
-    record {
-      room = c.requires;
-      origin = refl;
-    }
+    c.requires
 
 pub write-requires : goal.write-requires
 write-requires c =

@@ -22,14 +22,14 @@ consistent-requires c =
 
 pub returns-then-not-consistent : goal.returns-then-not-consistent
 returns-then-not-consistent c =
-    get_stopped c.args.n c.args.t c.args.q c.if-t-lt2.false c.lookup.ensures c.in-Nothing.is
+    get_stopped c.args.n c.args.t c.args.q c.if-t-lt2.false c.lookup.ensures c.in-None.is
     c.consistent.ensures (c.if-not-consistent.true)
 
-pub returns-in-Value : goal.returns-in-Value
-returns-in-Value c =
-    get_value c.args.n c.args.t c.args.q c.if-t-lt2.false c.lookup.ensures c.in-Value.is
+pub returns-in-Some : goal.returns-in-Some
+returns-in-Some c =
+    get_value c.args.n c.args.t c.args.q c.if-t-lt2.false c.lookup.ensures c.in-Some.is
 
 pub returns-else-not-consistent : goal.returns-else-not-consistent
 returns-else-not-consistent c =
-    get_fresh c.args.n c.args.t c.args.q c.if-t-lt2.false c.lookup.ensures c.in-Nothing.is
+    get_fresh c.args.n c.args.t c.args.q c.if-t-lt2.false c.lookup.ensures c.in-None.is
     c.consistent.ensures (c.if-not-consistent.false) c.fresh.ensures

@@ -19,10 +19,7 @@ forget-requires c = c.requires.lent
 
 pub fresh-requires : goal.fresh-requires
 fresh-requires c =
-    record {
-      room = rw c.forget.ensures (emptied-room c.args.n c.args.t c.consistent.ensures c.requires);
-      origin = refl;
-    }
+    rw c.forget.ensures (emptied-room c.args.n c.args.t c.consistent.ensures c.requires)
 
 pub shape_of-space : goal.shape_of-space
 shape_of-space c = omega (arith, c.space-2-1.given, c.space-1.given)
