@@ -4,10 +4,10 @@
 
 ghost use Rattle.std.specs.Prelude.{◌*◌, ◌≤◌, length};
 ghost use Rattle.script.specs.Code.Forms.{form_of};
-ghost use Rattle.script.specs.Rows.{var_form, unary_form, binary_form, not_op, ref_op, get_op, add_op, eq_op, and_op, set_op};
+ghost use Rattle.script.specs.Rows.{var_form, unary_form, binary_form, not_op, ref_op, get_op, eq_op, set_op};
 ghost use Rattle.terms.specs.References.{origin_as};
 ghost use Rattle.workspace.specs.Paths.{Fresh};
-ghost use Rattle.workspace.specs.Rules.{Leaf, One, Two, After, Operable};
+ghost use Rattle.workspace.specs.Rules.{Leaf, One, Two, OfBoth, After, Operable};
 ghost use Rattle.workspace.specs.State.{Room};
 
 use script::table::{ADD, AND, EQ, GET, INT, NOT, REF, SET, TRUE, VAR};
@@ -117,15 +117,15 @@ pub fn one(kind: u32, t: u32, q: u32, space: &mut [u32], n: u32) -> Step
     }
 }
 
-// `add`.
-fn sum(t: u32, q: u32, u: u32, s: u32, space: &mut [u32], n: u32) -> Step
+// `add` and `and`: both values are of the type wanted, and so is the row of this operator.
+fn both(wanted: u32, op: u32, t: u32, q: u32, u: u32, s: u32, space: &mut [u32], n: u32) -> Step
     requires { Room space.old 1 }
-    ensures { Two (binary_form add_op) n t q u s space.old result space.new }
+    ensures { OfBoth wanted op n t q u s space.old result space.new }
 {
-    if t != 0 || u != 0 {
-        return Err(Refusal::WrongType(n));
+    if t == wanted && u == wanted {
+        return Ok((wanted, push(space, op, q, s)));
     }
-    Ok((0, push(space, SUM, q, s)))
+    Err(Refusal::WrongType(n))
 }
 
 // `eq`.
@@ -141,17 +141,6 @@ fn equality(t: u32, q: u32, u: u32, s: u32, space: &mut [u32], n: u32) -> Step
         1 => Ok((1, push(space, EQUALITY, q, s))),
         _ => Ok((1, equal_references(space, q, s))),
     }
-}
-
-// `and`.
-fn conjunction(t: u32, q: u32, u: u32, s: u32, space: &mut [u32], n: u32) -> Step
-    requires { Room space.old 1 }
-    ensures { Two (binary_form and_op) n t q u s space.old result space.new }
-{
-    if t != 1 || u != 1 {
-        return Err(Refusal::WrongType(n));
-    }
-    Ok((1, push(space, CONJUNCTION, q, s)))
 }
 
 // `set`: any value is logged.
@@ -172,9 +161,9 @@ pub fn two(kind: u32, t: u32, q: u32, u: u32, s: u32, space: &mut [u32], n: u32)
     ensures { Two (form_of kind) n t q u s space.old result space.new }
 {
     match kind {
-        ADD => sum(t, q, u, s, space, n),
+        ADD => both(0, SUM, t, q, u, s, space, n),
         EQ => equality(t, q, u, s, space, n),
-        AND => conjunction(t, q, u, s, space, n),
+        AND => both(1, CONJUNCTION, t, q, u, s, space, n),
         SET => write_cell(t, q, u, s, space, n),
         _ => Ok((u, s)),
     }

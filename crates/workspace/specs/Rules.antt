@@ -17,6 +17,7 @@ use Rattle.script.specs.declared.Checked.{Checked}
 use Rattle.script.specs.declared.Checked.TheVariants.{Accepted}
 use Rattle.script.specs.declared.Node.{Node}
 use Rattle.script.specs.declared.Refusal.{Refusal}
+use Rattle.script.specs.declared.Refusal.TheVariants.{WrongType}
 use Rattle.script.specs.Limits.{node_limit}
 use Rattle.rules.specs.Checking.{known, check, exec}
 use Rattle.rules.specs.Paths.{Path, Paths, ends, stops, forks, bind, start, assume}
@@ -25,7 +26,7 @@ use Rattle.rules.specs.Symbolic.{Formula, negation, conjunction, Symbolic, a_wor
 use Rattle.rules.specs.SymbolicRules.{unary_exec, binary_exec, decide, typed_result, variable}
 use Rattle.rules.specs.TypedRules.{and_then, unary_type, binary_type, if_type}
 use Rattle.terms.specs.Places.{symbol_limit, variables_end}
-use Rattle.terms.specs.Terms.{count_in, Distinct}
+use Rattle.terms.specs.Terms.{count_in, pushed, Distinct}
 use Rattle.workspace.specs.Answers.{Step, Choice}
 use Rattle.workspace.specs.Notes.{Bare}
 use Rattle.workspace.specs.Numbers.{gives, leaf_gives, one_gives, two_gives, after_gives}
@@ -198,6 +199,11 @@ pub record Two (f : Form) (n t q u s : ℕ) (ws : List ℕ) (r : Step) (left : L
   pub ruled : Ruled ws left
   pub yields : (v w : Symbolic) (p : Path) → Means ws t q v → Means ws u s w → PathIn ws p → Yields left r (two_exec f n v w p)
   pub exactly : gives r left ≡ two_gives f n t q u s ws
+
+-- two values of type k make a row with this operator, of the same type; others are refused
+pub data OfBoth (k op n t q u s : ℕ) (ws : List ℕ) : Step → List ℕ → Type 0 where
+  both-wrong : (t ≡ k → u ≡ k → ⊥) → OfBoth k op n t q u s ws (Err (WrongType n)) ws
+  both-made : {r : ℕ} {left : List ℕ} → t ≡ k → u ≡ k → r ≡ count_in ws → left ≡ pushed ws op q s → OfBoth k op n t q u s ws (Ok (k, r)) left
 
 pub record After (n t : ℕ) (ws : List ℕ) (r : Step) (left : List ℕ) : Type 0 where
   pub ruled : Ruled ws left

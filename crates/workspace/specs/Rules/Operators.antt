@@ -27,7 +27,7 @@ use Rattle.workspace.specs.Answers.{Step}
 use Rattle.workspace.specs.Numbers.{Outcome, gives, leaf_gives, unary_gives, one_gives, equal_place, equal_numbers, both_of, binary_gives, two_gives}
 use Rattle.workspace.specs.Paths.Conditions.{ruled-refl}
 use Rattle.workspace.specs.Places.{depth_at, next_at, writes_at}
-use Rattle.workspace.specs.Rules.{leaf_exec, one_exec, two_exec, Ruled, Leaf, One, Two, Operable}
+use Rattle.workspace.specs.Rules.{leaf_exec, one_exec, two_exec, Ruled, Leaf, One, Two, OfBoth, both-wrong, both-made, Operable}
 use Rattle.workspace.specs.State.{Means, word_row, truth_row, reference_place, PathIn, Room, Yields, ending, stopping}
 use Rattle.workspace.specs.State.Laws.{path-added, variables-at, variables-length, none-at, room-space, Refers, refer, refers}
 
@@ -232,11 +232,11 @@ word-inside : {ws : List ℕ} {q : ℕ} {v : Symbolic} → Means ws 0 q v → q 
 word-inside (word_row l f) = l
 
 module _ (n t q u s : ℕ) {ws : List ℕ} where
-  pub sum_wrong : (t ≡ 0 → u ≡ 0 → ⊥) → Two (binary_form add_op) n t q u s ws (Err (WrongType n)) ws
+  sum_wrong : (t ≡ 0 → u ≡ 0 → ⊥) → Two (binary_form add_op) n t q u s ws (Err (WrongType n)) ws
   unfolding two_exec two_gives binary_gives
   sum_wrong d = record { ruled = ruled-refl ws; yields = λ v w p m k h. no_word n p d m k; exactly = sym (not-both 0 n t u ws _ d) }
 
-  pub conjunction-wrong : (t ≡ 1 → u ≡ 1 → ⊥) → Two (binary_form and_op) n t q u s ws (Err (WrongType n)) ws
+  conjunction-wrong : (t ≡ 1 → u ≡ 1 → ⊥) → Two (binary_form and_op) n t q u s ws (Err (WrongType n)) ws
   unfolding two_exec two_gives binary_gives
   conjunction-wrong d = record { ruled = ruled-refl ws; yields = λ v w p m k h. no_truth n p d m k; exactly = sym (not-both 1 n t u ws _ d) }
 
@@ -245,7 +245,7 @@ module _ (n t q u s : ℕ) {ws : List ℕ} where
   equality-wrong d = record { ruled = ruled-refl ws; yields = λ v w p m k h. other-types n p d m k; exactly = rw (ne_eqb t u d) refl }
 
   module _ {left : List ℕ} {r : ℕ} (x : Room ws 1) where
-    pub sum_made : t ≡ 0 → u ≡ 0 → r ≡ count_in ws → left ≡ pushed ws of_sum q s → Two (binary_form add_op) n t q u s ws (Ok (0, r)) left
+    sum_made : t ≡ 0 → u ≡ 0 → r ≡ count_in ws → left ≡ pushed ws of_sum q s → Two (binary_form add_op) n t q u s ws (Ok (0, r)) left
     unfolding two_exec two_gives binary_gives
     sum_made a b er e =
         record {
@@ -254,7 +254,7 @@ module _ (n t q u s : ℕ) {ws : List ℕ} where
           exactly = rw (eq-eqb t 0 a, eq-eqb u 0 b, er, e) refl;
         }
 
-    pub conjunction-made : t ≡ 1 → u ≡ 1 → r ≡ count_in ws → left ≡ pushed ws of_conjunction q s → Two (binary_form and_op) n t q u s ws (Ok (1, r)) left
+    conjunction-made : t ≡ 1 → u ≡ 1 → r ≡ count_in ws → left ≡ pushed ws of_conjunction q s → Two (binary_form and_op) n t q u s ws (Ok (1, r)) left
     unfolding two_exec two_gives binary_gives
     conjunction-made a b er e =
         record {
@@ -271,6 +271,14 @@ module _ (n t q u s : ℕ) {ws : List ℕ} where
           yields = λ v w p m k h. same-truths n (room-space x) er e h (rw a at m) (rw (sym b ∙ a) at k);
           exactly = rw (eq-eqb t u b, a, er, e) refl;
         }
+
+  pub both_sum : {left : List ℕ} {r : Step} → Room ws 1 → OfBoth 0 of_sum n t q u s ws r left → Two (binary_form add_op) n t q u s ws r left
+  both_sum x (both-wrong d) = sum_wrong d
+  both_sum x (both-made a b er e) = sum_made x a b er e
+
+  pub both_conjunction : {left : List ℕ} {r : Step} → Room ws 1 → OfBoth 1 of_conjunction n t q u s ws r left → Two (binary_form and_op) n t q u s ws r left
+  both_conjunction x (both-wrong d) = conjunction-wrong d
+  both_conjunction x (both-made a b er e) = conjunction-made x a b er e
 
   pub words_required : Operable ws t q u s → t ≡ 0 → t ≡ u → Words ws q s
   words_required x a b =
