@@ -30,10 +30,8 @@ fn entry_types(entries: &[u32], entry_count: usize, space: &mut [u32])
     requires entry_count_in_bounds_2 { 2 * entry_count ≤ length space.old }
     ensures { Placed entries.now space.old entry_count space.new }
 {
-    let mut i = 0;
-    while i < entry_count {
+    for i in 0..entry_count {
         space[2 * i] = entries[i];
-        i += 1;
     }
 }
 

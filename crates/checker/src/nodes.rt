@@ -26,13 +26,12 @@ use script::{Checked, Refusal};
 use symbolic::typed_result;
 use table::{has_one, node_at};
 use types::{bind_type, if_type, leaf_type, one_type, right_type, two_type};
-use workspace::{DEPTH, FRAMES, Known, SPACE, Step};
+use workspace::{DEPTH, FRAMES, SPACE};
 use write_log::consistent;
 
-// How a path ended: with a refusal of the `sym`, as the last path, or with another one after it, which goes on from a node; the type is the path's.
+// How a path ended: as the last path, or with another one after it, which goes on from a node; the type is the path's.
 #[derive(Clone, Copy)]
 pub enum Walked {
-    Wrong(Refusal),
     Last(u32),
     More(u32, u32),
 }
@@ -44,22 +43,21 @@ fn path_end(
     frames: &mut [u32],
     n: u32,
     t: u32,
-    first: bool,
-    wanted: u32,
-) -> Walked
+    wanted: Option<u32>,
+) -> Result<Walked, Refusal>
     requires { AtEnd table.now space.old frames.old t }
-    ensures { PathEnds table.now n t first wanted space.old frames.old result space.new frames.new }
+    ensures { PathEnds table.now n t wanted space.old frames.old result space.new frames.new }
 {
     if !consistent(space) {
-        return Walked::Wrong(Refusal::InconsistentLog(n));
+        return Err(Refusal::InconsistentLog(n));
     }
-    if !right_type(t, first, wanted) {
-        return Walked::Wrong(Refusal::PathTypesDiffer(n));
+    if !right_type(t, wanted) {
+        return Err(Refusal::PathTypesDiffer(n));
     }
     if none_left(frames) {
-        return Walked::Last(t);
+        return Ok(Walked::Last(t));
     }
-    Walked::More(t, resume(table, space, frames))
+    Ok(Walked::More(t, resume(table, space, frames)))
 }
 
 // Follows a path of the `sym` n from node m on to its end.
@@ -71,18 +69,16 @@ fn walk(
     limit: u32,
     n: u32,
     m: u32,
-    first: bool,
-    wanted: u32,
-) -> Walked
+    wanted: Option<u32>,
+) -> Result<Walked, Refusal>
     requires { Walkable limit table.now space.old frames.old n m }
-    ensures { Walks limit table.now n m first wanted space.old frames.old result space.new frames.new }
+    ensures { Walks limit table.now n m wanted space.old frames.old result space.new frames.new }
 {
     let mut next = m;
     loop {
         let inner = descend(table, frames, next);
-        match arrive(table, space, frames, limit, inner) {
-            Move::Stopped(why) => return Walked::Wrong(why),
-            Move::Value(u, _) => return path_end(table, space, frames, n, u, first, wanted),
+        match arrive(table, space, frames, limit, inner)? {
+            Move::Value(u, _) => return path_end(table, space, frames, n, u, wanted),
             Move::Operand(k) => next = k,
         }
     }
@@ -98,28 +94,17 @@ fn paths(table: &[u32], types: &[u32], depth: usize, limit: u32, n: u32, a: u32)
     let mut space = [0u32; SPACE];
     let mut frames = [0u32; FRAMES];
     start(types, &mut space, depth);
-    let mut followed = 0;
-    let mut wanted = 0;
+    let mut wanted = None;
     let mut next = a;
-    while followed < limit {
-        match walk(
-            table,
-            &mut space,
-            &mut frames,
-            limit,
-            n,
-            next,
-            followed == 0,
-            wanted,
-        ) {
-            Walked::Wrong(why) => return Checked::Refused(why),
-            Walked::Last(t) => return Checked::Accepted(t),
-            Walked::More(t, m) => {
-                wanted = t;
+    for _followed in 0..limit {
+        match walk(table, &mut space, &mut frames, limit, n, next, wanted) {
+            Err(why) => return Checked::Refused(why),
+            Ok(Walked::Last(t)) => return Checked::Accepted(t),
+            Ok(Walked::More(t, m)) => {
+                wanted = Some(t);
                 next = m;
             }
         }
-        followed += 1;
     }
     Checked::Refused(Refusal::TooManyPaths(n))
 }
@@ -208,8 +193,8 @@ fn block_type(table: &[u32], space: &mut [u32], depth: usize, limit: u32, a: u32
     ensures { Blocked limit table.now (check limit (tree_in table.now a) (types_on space.old depth)) depth space.old result space.new }
 {
     match recall(space, depth, a) {
-        Known::Typed(t) => Checked::Accepted(t),
-        Known::Nothing => match check_node(table, space, depth, limit, a) {
+        Some(t) => Checked::Accepted(t),
+        None => match check_node(table, space, depth, limit, a) {
             Checked::Refused(why) => Checked::Refused(why),
             Checked::Accepted(t) => {
                 note(table, space, depth, a, t);
@@ -221,7 +206,13 @@ fn block_type(table: &[u32], space: &mut [u32], depth: usize, limit: u32, a: u32
 
 // The typed block n on a path: a symbol of its type goes up.
 #[cycle(arrive_block_type_block_up_check_node_check_several_operand_type_paths_walk)]
-fn block_up(table: &[u32], space: &mut [u32], frames: &mut [u32], limit: u32, n: u32) -> Move
+fn block_up(
+    table: &[u32],
+    space: &mut [u32],
+    frames: &mut [u32],
+    limit: u32,
+    n: u32,
+) -> Result<Move, Refusal>
     requires enterable { Enterable limit table.now space.old frames.old n }
     requires n_value { (node_in table.now n).kind ≡ kind_for typed_form }
     ensures { Arrives limit table.now n space.old frames.old result space.new frames.new }
@@ -229,17 +220,23 @@ fn block_up(table: &[u32], space: &mut [u32], frames: &mut [u32], limit: u32, n:
     let a = node_at(table, n as usize).a;
     let depth = space[DEPTH] as usize;
     match block_type(table, space, depth, limit, a) {
-        Checked::Refused(why) => Move::Stopped(why),
-        Checked::Accepted(t) => match typed_result(t, space, n) {
-            Step::Stopped(why) => Move::Stopped(why),
-            Step::Gave(u, q) => climb(table, space, frames, u, q),
-        },
+        Checked::Refused(why) => Err(why),
+        Checked::Accepted(t) => {
+            let (u, q) = typed_result(t, space, n)?;
+            climb(table, space, frames, u, q)
+        }
     }
 }
 
 // A node on a path that waits for no operand: a leaf or a typed block.
 #[cycle(arrive_block_type_block_up_check_node_check_several_operand_type_paths_walk)]
-fn arrive(table: &[u32], space: &mut [u32], frames: &mut [u32], limit: u32, n: u32) -> Move
+fn arrive(
+    table: &[u32],
+    space: &mut [u32],
+    frames: &mut [u32],
+    limit: u32,
+    n: u32,
+) -> Result<Move, Refusal>
     requires enterable { Enterable limit table.now space.old frames.old n }
     requires n_value { waits_for (node_in table.now n).kind ≡ false }
     ensures { Arrives limit table.now n space.old frames.old result space.new frames.new }

@@ -1,7 +1,7 @@
 // The type rules: what node n gives in typed mode once its operands have given their types. A type is its code.
 #![tactic(auto)]
 
-ghost use Rattle.std.specs.Prelude.{◌||◌, ◌≡◌, ◌*◌, ◌<◌, ◌≤◌, eqb, length};
+ghost use Rattle.std.specs.Prelude.{◌≡◌, ◌*◌, ◌<◌, ◌≤◌, eqb, length, unwrap_or};
 ghost use Rattle.std.proofs.Math.ListN.{get_elem?};
 ghost use Rattle.script.specs.Code.Forms.{form_of};
 ghost use Rattle.script.specs.Rows.{set_op};
@@ -138,12 +138,9 @@ pub fn bind_type(space: &mut [u32], depth: usize, node: Node, t: u32) -> usize
     depth
 }
 
-// The type t of a path is the first path's: that of this path, if it is the first.
-pub fn right_type(t: u32, first: bool, wanted: u32) -> bool
-    ensures { result ≡ (first || eqb t wanted) }
+// The type t of a path is the one wanted, the first path's: any is, while there is none yet.
+pub fn right_type(t: u32, wanted: Option<u32>) -> bool
+    ensures { result ≡ eqb t (unwrap_or wanted t) }
 {
-    if first {
-        return true;
-    }
-    t == wanted
+    t == wanted.unwrap_or(t)
 }

@@ -1,24 +1,9 @@
 -- `symbolic::read_cell` meets its contract: what the log has, no consistent log, and a fresh symbol. Assumes nothing.
-use native.Mathlib.Omega.{arith}
 use Rattle.workspace.specs.Rules.Memory.{get_wrong, get_value, get_stopped, get_fresh}
 use Rattle.symbolic.proofs.read_cell.Goals as goal
 
 pub returns-then-t-lt2 : goal.returns-then-t-lt2
 returns-then-t-lt2 c = get_wrong c.args.n c.args.t c.args.q c.if-t-lt2.true
-
-pub lookup-requires : goal.lookup-requires
-lookup-requires c =
-    record {
-      space_bound = omega (arith, c.requires.writes);
-      space_size_in_bounds = c.requires.lent;
-    }
-
-pub consistent-requires : goal.consistent-requires
-consistent-requires c =
-    record {
-      space_bound = omega (arith, c.requires.writes);
-      space_size_in_bounds = c.requires.lent;
-    }
 
 pub returns-then-not-consistent : goal.returns-then-not-consistent
 returns-then-not-consistent c =

@@ -1,6 +1,7 @@
 -- The checker meets its contracts: `check_node`, `check_several`, `operand_type`, `paths`, `walk`, `arrive`, `block_up` and `block_type` of `checker::nodes`, which call each
 -- other; a node's number falls on the way round. In the answers s is the start's measure and `requires`, q the `requires`, node what was read, h that it has an operand,
 -- d what that one came to, or the way down to the inner node, w what holds at a turn of the loop, b what was bound, or what a block came to. Assumes nothing.
+use Rattle.std.proofs.Common.{rules, ◌≡◌, Err}
 use mathlib.Core.Path.{refl, sym, ◌∙◌}
 use native.Mathlib.Omega.{arith}
 use Rattle.script.specs.Code.Forms.{has_one, has_more, some-operand}
@@ -52,10 +53,10 @@ block_type-note-requires t c =
       space_size_in_bounds = judged_lent s.checkable s.noting j;
     }
 
-pub block_type-returns-in-Typed : goal.block_type-returns-in-Typed
-block_type-returns-in-Typed t c =
+pub block_type-returns-in-Some : goal.block_type-returns-in-Some
+block_type-returns-in-Some t c =
     let s = c.requires in
-    block_recalled s.checkable s.noting c.recall.ensures c.in-Typed.is
+    block_recalled s.checkable s.noting c.recall.ensures c.in-Some.is
 
 pub block_type-returns-in-Refused : goal.block_type-returns-in-Refused
 block_type-returns-in-Refused t c =
@@ -92,7 +93,7 @@ pub block_up-climb-requires : goal.block_up-climb-requires
 block_up-climb-requires t c =
     let s = c.requires in
     let b = rw c.node_at-a.ensures at c.block_type.ensures in
-    up-returnable s.enterable s.n_value b c.in-Accepted.is c.typed_result.ensures c.in-Gave.is
+    up-returnable s.enterable s.n_value b c.in-Accepted.is c.typed_result.ensures c.in_ok-u-in-Accepted.was
 
 pub block_up-returns-in-Refused : goal.block_up-returns-in-Refused
 block_up-returns-in-Refused t c =
@@ -100,17 +101,18 @@ block_up-returns-in-Refused t c =
     let b = rw c.node_at-a.ensures at c.block_type.ensures in
     up-refused s.enterable s.n_value b c.in-Refused.is
 
-pub block_up-returns-in-Stopped : goal.block_up-returns-in-Stopped
-block_up-returns-in-Stopped t c =
+pub block_up-returns-in_err-u-in-Accepted : goal.block_up-returns-in_err-u-in-Accepted
+block_up-returns-in_err-u-in-Accepted t c =
     let s = c.requires in
     let b = rw c.node_at-a.ensures at c.block_type.ensures in
-    up-stopping s.enterable s.n_value b c.in-Accepted.is c.typed_result.ensures c.in-Stopped.is
+    let e : c.from_residual.result ≡ Err c.in_err-u-in-Accepted.field-0.0 = search rules in
+    rw e (up-stopping s.enterable s.n_value b c.in-Accepted.is c.typed_result.ensures c.in_err-u-in-Accepted.was)
 
-pub block_up-returns-in-Gave : goal.block_up-returns-in-Gave
-block_up-returns-in-Gave t c =
+pub block_up-returns-in_ok-u-in-Accepted : goal.block_up-returns-in_ok-u-in-Accepted
+block_up-returns-in_ok-u-in-Accepted t c =
     let s = c.requires in
     let b = rw c.node_at-a.ensures at c.block_type.ensures in
-    up_climbing s.enterable s.n_value b c.in-Accepted.is c.typed_result.ensures c.in-Gave.is c.climb.ensures
+    up_climbing s.enterable s.n_value b c.in-Accepted.is c.typed_result.ensures c.in_ok-u-in-Accepted.was c.climb.ensures
 
 pub check_node-node_at-node-requires : goal.check_node-node_at-node-requires
 check_node-node_at-node-requires t c = omega (arith, c.requires.formed.room)
@@ -346,72 +348,67 @@ paths-slice_bounds-walk-end-in-loop-followed t c = sym c.loop-followed.invariant
 pub paths-walk-requires : goal.paths-walk-requires
 paths-walk-requires t c = (omega (arith, c.decreases), turn_walkable c.loop-followed.invariant)
 
-pub paths-returns-in-Wrong : goal.paths-returns-in-Wrong
-paths-returns-in-Wrong t c = turn-wrong c.loop-followed.invariant c.loop-followed-test.true c.walk.ensures c.in-Wrong.is
+pub paths-returns-in-Err : goal.paths-returns-in-Err
+paths-returns-in-Err t c = turn-wrong c.loop-followed.invariant c.loop-followed-test.true c.walk.ensures c.in-Err.is
 
-pub paths-returns-in-Last : goal.paths-returns-in-Last
-paths-returns-in-Last t c = turn_last c.loop-followed.invariant c.loop-followed-test.true c.walk.ensures c.in-Last.is
-
-pub paths-overflow_add-followed : goal.paths-overflow_add-followed
-paths-overflow_add-followed t c = omega arith
-
-pub paths-loop-followed-smaller : goal.paths-loop-followed-smaller
-paths-loop-followed-smaller t c = omega arith
+pub paths-returns-in-Ok-Last : goal.paths-returns-in-Ok-Last
+paths-returns-in-Ok-Last t c = turn_last c.loop-followed.invariant c.loop-followed-test.true c.walk.ensures (rw c.in-Ok-Last.field-0-is at c.in-Ok-Last.is)
 
 pub paths-loop-followed-preserved : goal.paths-loop-followed-preserved
 paths-loop-followed-preserved t c =
-    turn_more c.loop-followed.invariant c.loop-followed-test.true c.walk.ensures c.in-More.is c.walk.auto.space
+    turn_more c.loop-followed.invariant c.loop-followed-test.true c.walk.ensures (rw c.in-Ok-More.field-0-is at c.in-Ok-More.is) c.walk.auto.space
     c.walk.auto.frames
 
 pub paths-returns : goal.paths-returns
 paths-returns t c = turn-none c.loop-followed.invariant c.loop-followed-test.false
 
-pub walk-loop-why-init : goal.walk-loop-why-init
-walk-loop-why-init t c = walking_start c.requires
+pub walk-loop-u-init : goal.walk-loop-u-init
+walk-loop-u-init t c = walking_start c.requires
 
 pub walk-descend-inner-requires : goal.walk-descend-inner-requires
-walk-descend-inner-requires t c = walking_descendable c.loop-why.invariant
+walk-descend-inner-requires t c = walking_descendable c.loop-u.invariant
 
 pub walk-arrive-requires : goal.walk-arrive-requires
 walk-arrive-requires t c =
-    let w = c.loop-why.invariant in
+    let w = c.loop-u.invariant in
     let d = c.descend-inner.ensures in (
       omega (arith, walking-earlier w d, c.decreases),
       (walking-enterable w d, descends_other d),
     )
 
-pub walk-shape_of-space-in-Stopped : goal.walk-shape_of-space-in-Stopped
-walk-shape_of-space-in-Stopped t c = c.arrive.auto.space ∙ c.loop-why.invariant.same
+pub walk-shape_of-space-in_err-u : goal.walk-shape_of-space-in_err-u
+walk-shape_of-space-in_err-u t c = c.arrive.auto.space ∙ c.loop-u.invariant.same
 
-pub walk-shape_of-frames-in-Stopped : goal.walk-shape_of-frames-in-Stopped
-walk-shape_of-frames-in-Stopped t c =
-    c.arrive.auto.frames ∙ c.descend-inner.auto.frames ∙ c.loop-why.invariant.framed
+pub walk-shape_of-frames-in_err-u : goal.walk-shape_of-frames-in_err-u
+walk-shape_of-frames-in_err-u t c =
+    c.arrive.auto.frames ∙ c.descend-inner.auto.frames ∙ c.loop-u.invariant.framed
 
-pub walk-returns-in-Stopped : goal.walk-returns-in-Stopped
-walk-returns-in-Stopped t c =
-    walking-stopped c.loop-why.invariant c.descend-inner.ensures c.arrive.ensures c.in-Stopped.is
+pub walk-returns-in_err-u : goal.walk-returns-in_err-u
+walk-returns-in_err-u t c =
+    let e : c.from_residual.result ≡ Err c.in_err-u.field-0.0 = search rules in
+    rw e (walking-stopped c.loop-u.invariant c.descend-inner.ensures c.arrive.ensures c.in_err-u.was)
 
 pub walk-path_end-requires : goal.walk-path_end-requires
 walk-path_end-requires t c =
-    walking_end c.loop-why.invariant c.descend-inner.ensures c.arrive.ensures c.in-Value.is
+    walking_end c.loop-u.invariant c.descend-inner.ensures c.arrive.ensures (rw c.in-Value.is at c.in_ok-u.was)
 
 pub walk-shape_of-space-in-Value : goal.walk-shape_of-space-in-Value
 walk-shape_of-space-in-Value t c =
-    c.path_end.auto.space ∙ c.arrive.auto.space ∙ c.loop-why.invariant.same
+    c.path_end.auto.space ∙ c.arrive.auto.space ∙ c.loop-u.invariant.same
 
 pub walk-shape_of-frames-in-Value : goal.walk-shape_of-frames-in-Value
 walk-shape_of-frames-in-Value t c =
-    c.path_end.auto.frames ∙ c.arrive.auto.frames ∙ c.descend-inner.auto.frames ∙ c.loop-why.invariant.framed
+    c.path_end.auto.frames ∙ c.arrive.auto.frames ∙ c.descend-inner.auto.frames ∙ c.loop-u.invariant.framed
 
 pub walk-returns-in-Value : goal.walk-returns-in-Value
 walk-returns-in-Value t c =
-    walking-ended c.loop-why.invariant c.descend-inner.ensures c.arrive.ensures c.in-Value.is c.path_end.ensures
+    walking-ended c.loop-u.invariant c.descend-inner.ensures c.arrive.ensures (rw c.in-Value.is at c.in_ok-u.was) c.path_end.ensures
 
-pub walk-loop-why-smaller : goal.walk-loop-why-smaller
-walk-loop-why-smaller t c =
-    walking_less c.loop-why.invariant c.descend-inner.ensures c.arrive.ensures c.in-Operand.is
+pub walk-loop-u-smaller : goal.walk-loop-u-smaller
+walk-loop-u-smaller t c =
+    walking_less c.loop-u.invariant c.descend-inner.ensures c.arrive.ensures (rw c.in-Operand.is at c.in_ok-u.was)
 
-pub walk-loop-why-preserved : goal.walk-loop-why-preserved
-walk-loop-why-preserved t c =
-    walking_on c.loop-why.invariant c.descend-inner.ensures c.arrive.ensures c.in-Operand.is c.arrive.auto.space
+pub walk-loop-u-preserved : goal.walk-loop-u-preserved
+walk-loop-u-preserved t c =
+    walking_on c.loop-u.invariant c.descend-inner.ensures c.arrive.ensures (rw c.in-Operand.is at c.in_ok-u.was) c.arrive.auto.space
     (c.arrive.auto.frames ∙ c.descend-inner.auto.frames)
