@@ -5,7 +5,7 @@ ghost use Rattle.std.specs.Prelude.{◌≡◌, ◌^◌, ◌<◌};
 ghost use Rattle.answers.specs.Answers.{packed, answer_of_refusal, answer_of_check, answer_of_run};
 ghost use Rattle.answers.specs.Code.Packing.{used_in};
 
-use script::{Checked, Place, Ran, Refusal};
+use script::{Ran, Refusal};
 
 // The four fields of an answer in one number.
 fn pack(status: u64, number: u64, place: u64, value: u64) -> u64
@@ -21,18 +21,18 @@ fn refusal_answer(why: Refusal) -> u64
 {
     let number = why.number() as u64;
     match why.place() {
-        Place::Nowhere => pack(1, number, 0, 0),
-        Place::At(i) => pack(1, number, i as u64 + 1, 0),
+        None => pack(1, number, 0, 0),
+        Some(i) => pack(1, number, i as u64 + 1, 0),
     }
 }
 
 // The answer of a check: the type's code, or the refusal.
-pub fn check_answer(answer: Checked) -> u64
+pub fn check_answer(answer: Result<u32, Refusal>) -> u64
     ensures { result ≡ answer_of_check answer }
 {
     match answer {
-        Checked::Accepted(code) => pack(0, 0, 0, code as u64),
-        Checked::Refused(why) => refusal_answer(why),
+        Ok(code) => pack(0, 0, 0, code as u64),
+        Err(why) => refusal_answer(why),
     }
 }
 

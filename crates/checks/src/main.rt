@@ -9,8 +9,8 @@
 // Its line has fields parted by tabs: the name, then `accepted` and the letters of the type, or `refused`, number, and place or `-`.
 #![tactic(auto)]
 
-use script::table::WIDTH;
-use script::{Reading, Script};
+use script::table::{WIDTH};
+use script::{Script};
 use std::io;
 use trial::{name_end, read_full, say, say_checked, say_refusal, text_end};
 
@@ -19,12 +19,12 @@ fn try_text(rt: &impl Print, text: &[u8]) -> io::Result<()> {
     let mut table = [0u32; WIDTH * Script::NODES];
     let mut entries = [0u32; Script::ENTRIES];
     match call_texts::read(text, &mut table, &mut entries) {
-        Reading::Read(script) => {
+        Ok(script) => {
             let nodes = script.nodes;
             let count = script.entries;
             say_checked(rt, calls::check(&table, nodes, &entries, count))
         }
-        Reading::Refused(r) => say_refusal(rt, r),
+        Err(r) => say_refusal(rt, r),
     }
 }
 

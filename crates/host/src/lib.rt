@@ -7,22 +7,22 @@ ghost use Rattle.answers.specs.Answers.{answer_of_check, AnswersRun};
 ghost use Rattle.host.specs.Texts.{check_text, run_text, RanTo};
 
 use answers::{check_answer, run_answer};
-use script::table::WIDTH;
-use script::{Checked, Ran, Reading, Script};
+use script::table::{WIDTH};
+use script::{Ran, Script, Refusal};
 
 // Reads a text and checks it: accepted with its type, or why not.
-pub fn check_text(text: &[u8]) -> Checked
+pub fn check_text(text: &[u8]) -> Result<u32, Refusal>
     ensures { result ≡ check_text text.now }
 {
     let mut table = [0u32; WIDTH * Script::NODES];
     let mut entries = [0u32; Script::ENTRIES];
     match reader::read(text, &mut table, &mut entries) {
-        Reading::Read(script) => {
+        Ok(script) => {
             let nodes = script.nodes;
             let count = script.entries;
             checker::check_passed(&table, nodes, &entries, count)
         }
-        Reading::Refused(why) => Checked::Refused(why),
+        Err(why) => Err(why),
     }
 }
 
@@ -33,12 +33,12 @@ pub fn run_text(text: &[u8], values: &[u8], cells: &mut [u8], used: u32) -> Ran
     let mut table = [0u32; WIDTH * Script::NODES];
     let mut entries = [0u32; Script::ENTRIES];
     match reader::read(text, &mut table, &mut entries) {
-        Reading::Read(script) => {
+        Ok(script) => {
             let nodes = script.nodes;
             let count = script.entries;
             runner::run_passed(&table, nodes, &entries, count, values, cells, used)
         }
-        Reading::Refused(why) => Ran::Refused(why),
+        Err(why) => Ran::Refused(why),
     }
 }
 

@@ -8,8 +8,8 @@ ghost use Rattle.copies.specs.Copies.{table_of};
 ghost use Rattle.records.specs.Records.{Checks, Runs};
 
 use copies::copy_out;
-use script::table::WIDTH;
-use script::{Checked, Node, Ran, Script};
+use script::table::{WIDTH};
+use script::{Node, Ran, Script, Refusal};
 
 // Checks a flat table of which the first `lent` nodes are lent.
 fn check_flat(
@@ -18,7 +18,7 @@ fn check_flat(
     nodes: usize,
     entries: &[u32],
     entry_count: usize,
-) -> Checked
+) -> Result<u32, Refusal>
     requires { node_width * lent ≤ length flat.now }
     ensures { Checks (table_in (take (node_width * lent) flat.now) nodes entries.now entry_count) result }
 {
@@ -51,7 +51,7 @@ fn run_flat(
 }
 
 // Checks a table: accepted with its type, or why not. Nothing lent changes.
-pub fn check(table: &[Node], nodes: usize, entries: &[u32], entry_count: usize) -> Checked
+pub fn check(table: &[Node], nodes: usize, entries: &[u32], entry_count: usize) -> Result<u32, Refusal>
     ensures { Checks (table_of table.now nodes entries.now entry_count) result }
 {
     let mut flat = [0u32; WIDTH * Script::NODES];

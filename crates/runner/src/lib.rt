@@ -18,7 +18,7 @@ mod steps;
 use cells::tests::{right_cells, right_values};
 use operators::Step;
 use operators::steps::whole;
-use script::table::Tested;
+
 use script::{Ran, Refusal, Script};
 use steps::run_node;
 use tests::test_table;
@@ -97,7 +97,7 @@ pub fn run(
     ensures { Answered table.now nodes entries.now entry_count values.now cells.old used result cells.new }
 {
     match test_table(table, nodes, entries, entry_count) {
-        Tested::Refused(why) => Ran::Refused(why),
-        Tested::Passed => run_passed(table, nodes, entries, entry_count, values, cells, used),
+        Err(why) => Ran::Refused(why),
+        Ok(()) => run_passed(table, nodes, entries, entry_count, values, cells, used),
     }
 }

@@ -4,8 +4,8 @@ ghost use Rattle.rules.specs.Running.{run_table};
 ghost use Rattle.call_texts.specs.Tables.{table_as};
 ghost use Rattle.runs.specs.Outcome.{cells_after};
 
-use script::table::WIDTH;
-use script::{Ran, Reading, Refusal, Script};
+use script::table::{WIDTH};
+use script::{Ran, Refusal, Script};
 use std::io;
 use trial::{say, say_decimal, say_either, say_number, say_refusal};
 
@@ -128,13 +128,13 @@ pub fn try_text(
     let mut table = [0u32; WIDTH * Script::NODES];
     let mut entries = [0u32; 16];
     match call_texts::read(text, &mut table, &mut entries) {
-        Reading::Read(script) => {
+        Ok(script) => {
             let nodes = script.nodes;
             let count = script.entries;
             try_script(
                 rt, &table, nodes, &entries, count, values, before, cells, used,
             )
         }
-        Reading::Refused(why) => say_unread(rt, why),
+        Err(why) => say_unread(rt, why),
     }
 }

@@ -13,8 +13,8 @@
 ghost use Rattle.std.specs.Prelude.{◌++◌, ◌≡◌, ◌≤◌, length, drop};
 
 use call_texts::PLACES;
-use script::Writing;
-use script::table::WIDTH;
+
+use script::table::{WIDTH};
 use std::io;
 use trial::given::bytes_line;
 use trial::{
@@ -52,11 +52,11 @@ fn try_table(
     say_checked(rt, calls::check(table, nodes, entries, used))?;
     say(rt, b"\t")?;
     match call_texts::write(table, nodes, entries, used, &mut out) {
-        Writing::Wrote(length) => {
+        Ok(length) => {
             say(rt, b"wrote")?;
             say_number(rt, length as u64)
         }
-        Writing::Refused(r) => say_refusal(rt, r),
+        Err(r) => say_refusal(rt, r),
     }
 }
 

@@ -3,7 +3,7 @@ ghost use Rattle.std.specs.Prelude.{◌≡◌};
 ghost use Rattle.texts.specs.Rounds.{wrote_by, Tried};
 
 use crate::slices::{all_bytes, entries_clear, fill_bytes, fill_words, nodes_clear};
-use script::{Reading, Refusal, Script, Writing};
+use script::{Refusal, Script};
 use std::io;
 use trial::{say, say_either, say_number, say_refusal};
 
@@ -16,7 +16,7 @@ const BLANK: u8 = b'.';
 // What came of a text: what was read, and the answer of its writing; or why it could not be read.
 #[derive(Clone, Copy)]
 pub enum Round {
-    Read(Script, Writing),
+    Read(Script, Result<usize, Refusal>),
     Refused(Refusal),
 }
 
@@ -52,7 +52,7 @@ fn say_same(rt: &impl Print, text: &[u8], out: &[u8], length: usize) -> io::Resu
 }
 
 // Writes a table that was read.
-fn try_writer(table: &[u32], nodes: usize, entries: &[u32], used: usize, out: &mut [u8]) -> Writing
+fn try_writer(table: &[u32], nodes: usize, entries: &[u32], used: usize, out: &mut [u8]) -> Result<usize, Refusal>
     ensures { out.new ≡ wrote_by table.now nodes entries.now «used» out.old }
 {
     fill_bytes(out, BLANK);
@@ -60,16 +60,16 @@ fn try_writer(table: &[u32], nodes: usize, entries: &[u32], used: usize, out: &m
 }
 
 // Prints what came of the writing of what was read from `text`.
-fn say_wrote(rt: &impl Print, text: &[u8], out: &[u8], answer: Writing) -> io::Result<()> {
+fn say_wrote(rt: &impl Print, text: &[u8], out: &[u8], answer: Result<usize, Refusal>) -> io::Result<()> {
     say(rt, b"\t")?;
     match answer {
-        Writing::Wrote(length) => {
+        Ok(length) => {
             say(rt, b"wrote")?;
             say_number(rt, length as u64)?;
             say_same(rt, text, out, length)?;
             say_kept(rt, out, length)
         }
-        Writing::Refused(r) => {
+        Err(r) => {
             say_refusal(rt, r)?;
             say_kept(rt, out, 0)
         }
@@ -83,13 +83,13 @@ pub fn try_text(text: &[u8], table: &mut [u32], entries: &mut [u32], out: &mut [
     fill_words(table, STALE);
     fill_words(entries, STALE);
     match call_texts::read(text, table, entries) {
-        Reading::Read(script) => {
+        Ok(script) => {
             let nodes = script.nodes;
             let used = script.entries;
             let answer = try_writer(table, nodes, entries, used, out);
             Round::Read(script, answer)
         }
-        Reading::Refused(r) => Round::Refused(r),
+        Err(r) => Round::Refused(r),
     }
 }
 

@@ -7,7 +7,7 @@ ghost use Rattle.trial.specs.Places.{name_end, text_end};
 
 pub mod given;
 
-use script::{Checked, Place, Refusal};
+use script::{Refusal};
 use std::io;
 use std::io::Read;
 
@@ -165,8 +165,8 @@ pub fn say_refusal(rt: &impl Print, r: Refusal) -> io::Result<()> {
     say(rt, b"refused")?;
     say_number(rt, r.number() as u64)?;
     match r.place() {
-        Place::At(i) => say_number(rt, i as u64),
-        Place::Nowhere => say(rt, b"\t-"),
+        Some(i) => say_number(rt, i as u64),
+        None => say(rt, b"\t-"),
     }
 }
 
@@ -184,12 +184,12 @@ fn say_type(rt: &impl Print, code: u32) -> io::Result<()> {
 }
 
 // Prints the checker's answer.
-pub fn say_checked(rt: &impl Print, answer: Checked) -> io::Result<()> {
+pub fn say_checked(rt: &impl Print, answer: Result<u32, Refusal>) -> io::Result<()> {
     match answer {
-        Checked::Accepted(code) => {
+        Ok(code) => {
             say(rt, b"accepted\t")?;
             say_type(rt, code)
         }
-        Checked::Refused(r) => say_refusal(rt, r),
+        Err(r) => say_refusal(rt, r),
     }
 }

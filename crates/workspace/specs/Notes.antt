@@ -3,15 +3,14 @@ pub mod Keeping
 pub mod Making
 pub mod Mentions
 pub mod Recalling
-use Rattle.std.specs.Prelude.{Bool, true, false, ◌&&◌, List, ◌≡◌, ℕ, zero, suc, ◌+◌, ◌*◌, ◌-◌, ◌%◌, ◌≤◌, ◌<◌, leb, eqb, length, get_or, set, Some, None}
+use Rattle.std.specs.Prelude.{Bool, true, false, ◌&&◌, List, ◌≡◌, ℕ, zero, suc, ◌+◌, ◌*◌, ◌-◌, ◌%◌, ◌≤◌, ◌<◌, leb, eqb, length, get_or, set, Some, None, Ok}
 use Rattle.std.proofs.Math.Option.{some}
 use Rattle.std.proofs.Math.ListN.{get_elem?}
 use Rattle.script.specs.Code.Forms.{tree_in}
 use Rattle.script.specs.Rows.{Form, int_form, var_form, if_form, let_form, typed_form, sym_form, truth_form, unary_form, binary_form}
 use Rattle.script.specs.Tests.{pick}
 use Rattle.script.specs.Tree.{Expr}
-use Rattle.script.specs.declared.Checked.{Checked}
-use Rattle.script.specs.declared.Checked.TheVariants.{Accepted}
+use Rattle.script.specs.Answers.Named.{Checked}
 use Rattle.script.specs.declared.Node.{Node}
 use Rattle.rules.specs.Checking.{check}
 use Rattle.rules.specs.Checking.Mentions.{mentions}
@@ -151,7 +150,7 @@ pub record Agrees (ws : List ℕ) (at : ℕ) (types : List ℕ) : Type 0 where
 pub record NoteOf (limit : ℕ) (table ws : List ℕ) (at depth : ℕ) : Type 0 where
   pub few : names_in ws at ≤ name_limit
   pub inside : (i : ℕ) → i < names_in ws at → name_in ws at i < depth
-  pub right : (types : List ℕ) → length types ≡ depth → Agrees ws at types → check limit (tree_in table (operand_in ws at)) types ≡ Accepted (type_in ws at)
+  pub right : (types : List ℕ) → length types ≡ depth → Agrees ws at types → check limit (tree_in table (operand_in ws at)) types ≡ Ok (type_in ws at)
 
 -- every note is right or says nothing
 pub record Kept (limit : ℕ) (table ws : List ℕ) : Type 0 where
@@ -173,7 +172,7 @@ pub record Noted (table : List ℕ) (depth a t : ℕ) (ws left : List ℕ) : Typ
   pub same : length left ≡ length ws
   pub before : (k : ℕ) → k < turn_at → get_or left k 0 ≡ get_or ws k 0
   pub beyond : (k : ℕ) → known_at ≤ k → get_or left k 0 ≡ get_or ws k 0
-  pub kept : (limit : ℕ) → base_in ws ≤ depth → check limit (tree_in table a) (types_on ws depth) ≡ Accepted t → Kept limit table ws → Kept limit table left
+  pub kept : (limit : ℕ) → base_in ws ≤ depth → check limit (tree_in table a) (types_on ws depth) ≡ Ok t → Kept limit table ws → Kept limit table left
 
 -- ---- what the executor asks and promises of the notes
 

@@ -13,8 +13,7 @@ use Rattle.script.specs.Flat.{FormedNodes}
 use Rattle.script.specs.Rows.{Form, int_form, var_form, if_form, let_form, typed_form, sym_form, truth_form, unary_form, binary_form, node_operands}
 use Rattle.script.specs.Rows.Kinds.{kind_for}
 use Rattle.script.specs.Tree.{Expr, size}
-use Rattle.script.specs.declared.Checked.{Checked}
-use Rattle.script.specs.declared.Checked.TheVariants.{Accepted}
+use Rattle.script.specs.Answers.Named.{Checked}
 use Rattle.script.specs.declared.Node.{Node}
 use Rattle.script.specs.declared.Refusal.{Refusal}
 use Rattle.script.specs.declared.Refusal.TheVariants.{WrongType}
@@ -38,38 +37,38 @@ use Rattle.workspace.specs.declared.Branch.TheVariants.{First, Second, Both}
 
 -- a node whose operands are no nodes; a form of other nodes stands for `false` here
 unfoldable pub leaf_type : Form → ℕ → Node → List ℕ → Checked
-leaf_type int_form n m env = Accepted 0
+leaf_type int_form n m env = Ok 0
 leaf_type var_form n m env = known n (get_elem? env m.a)
-leaf_type if_form n m env = Accepted 1
-leaf_type let_form n m env = Accepted 1
-leaf_type typed_form n m env = Accepted 1
-leaf_type sym_form n m env = Accepted 1
-leaf_type (truth_form b) n m env = Accepted 1
-leaf_type (unary_form o) n m env = Accepted 1
-leaf_type (binary_form o) n m env = Accepted 1
+leaf_type if_form n m env = Ok 1
+leaf_type let_form n m env = Ok 1
+leaf_type typed_form n m env = Ok 1
+leaf_type sym_form n m env = Ok 1
+leaf_type (truth_form b) n m env = Ok 1
+leaf_type (unary_form o) n m env = Ok 1
+leaf_type (binary_form o) n m env = Ok 1
 
 -- a node with one operand that is a node, of type t
 unfoldable pub one_type : Form → ℕ → ℕ → Checked
-one_type int_form n t = Accepted t
-one_type var_form n t = Accepted t
-one_type if_form n t = Accepted t
-one_type let_form n t = Accepted t
-one_type typed_form n t = Accepted t
-one_type sym_form n t = Accepted t
-one_type (truth_form b) n t = Accepted t
+one_type int_form n t = Ok t
+one_type var_form n t = Ok t
+one_type if_form n t = Ok t
+one_type let_form n t = Ok t
+one_type typed_form n t = Ok t
+one_type sym_form n t = Ok t
+one_type (truth_form b) n t = Ok t
 one_type (unary_form o) n t = unary_type n o t
-one_type (binary_form o) n t = Accepted t
+one_type (binary_form o) n t = Ok t
 
 -- a node whose first operand has type t and the second one u
 unfoldable pub two_type : Form → ℕ → ℕ → ℕ → Checked
-two_type int_form n t u = Accepted u
-two_type var_form n t u = Accepted u
-two_type if_form n t u = Accepted u
-two_type let_form n t u = Accepted u
-two_type typed_form n t u = Accepted u
-two_type sym_form n t u = Accepted u
-two_type (truth_form b) n t u = Accepted u
-two_type (unary_form o) n t u = Accepted u
+two_type int_form n t u = Ok u
+two_type var_form n t u = Ok u
+two_type if_form n t u = Ok u
+two_type let_form n t u = Ok u
+two_type typed_form n t u = Ok u
+two_type sym_form n t u = Ok u
+two_type (truth_form b) n t u = Ok u
+two_type (unary_form o) n t u = Ok u
 two_type (binary_form o) n t u = binary_type n o t u
 
 -- what is left of node n once its first operand has type t, where e and f are the trees of the other two
@@ -79,7 +78,7 @@ rest_type m limit n e f t env =
     (and_then (check limit e env) λ u. and_then (check limit f env) (if_type n t u))
     (check limit e (env ++ (t ∷ [])))
     (λ o. and_then (check limit e env) (binary_type n o t))
-    (Accepted t)
+    (Ok t)
 
 -- ---- symbolic mode
 
@@ -207,7 +206,7 @@ pub data OfBoth (k op n t q u s : ℕ) (ws : List ℕ) : Step → List ℕ → T
 
 pub record After (n t : ℕ) (ws : List ℕ) (r : Step) (left : List ℕ) : Type 0 where
   pub ruled : Ruled ws left
-  pub yields : (p : Path) → PathIn ws p → Yields left r (typed_result n p (Accepted t))
+  pub yields : (p : Path) → PathIn ws p → Yields left r (typed_result n p (Ok t))
   pub exactly : gives r left ≡ after_gives n t ws
 
 -- the condition with the guard, and without it

@@ -1,14 +1,13 @@
 -- How an answer is packed: each way through the code gives the answer's number. Assumes nothing.
-use Rattle.std.specs.Prelude.{◌≡◌, refl, ℕ, ◌+◌, ◌<◌}
+use Rattle.std.specs.Prelude.{◌≡◌, refl, ℕ, ◌+◌, ◌<◌, Err, None, Ok, Some}
 use Rattle.std.proofs.Common.{sym, ap, ◌∙◌, add-one}
 use Rattle.script.specs.Answers.{number_of, place_of, kind_of, bits_of}
-use Rattle.script.specs.declared.Place.{Place}
-use Rattle.script.specs.declared.Place.TheVariants.{Nowhere, At}
-use Rattle.script.specs.declared.Checked.{Checked}
 use Rattle.script.specs.declared.Ran.{Ran}
 use Rattle.script.specs.declared.Refusal.{Refusal}
 use Rattle.script.specs.declared.Value.{Value}
 use Rattle.answers.specs.Answers.{packed, refused, answer_of_refusal, done, failed, answer_of_check, answer_of_run}
+use Rattle.script.specs.Answers.Named.{Checked}
+use Rattle.script.specs.Answers.Named.{Place}
 
 -- the used count that the answer of a run has
 abbrev pub used_in : Ran → ℕ
@@ -19,19 +18,19 @@ used_in (Ran.Refused r) = 0
 -- ---- a refusal
 
 module _ (why : Refusal) {number : ℕ} {place : Place} {r : ℕ} (n : number ≡ number_of why) (p : place ≡ place_of why) where
-  pub refusal-nowhere : place ≡ Nowhere → r ≡ packed refused number 0 0 → r ≡ answer_of_refusal why
+  pub refusal-nowhere : place ≡ None → r ≡ packed refused number 0 0 → r ≡ answer_of_refusal why
   refusal-nowhere e h = h ∙ rw (n, sym p ∙ e) refl
 
-  pub refusal-at : {i : ℕ} → place ≡ At i → r ≡ packed refused number (i + 1) 0 → r ≡ answer_of_refusal why
+  pub refusal-at : {i : ℕ} → place ≡ Some i → r ≡ packed refused number (i + 1) 0 → r ≡ answer_of_refusal why
   refusal-at {i} e h = h ∙ rw (n, add-one i, sym p ∙ e) refl
 
 -- ---- the answer of a check
 
 module _ {answer : Checked} {r : ℕ} where
-  pub check_accepted : {code : ℕ} → answer ≡ Checked.Accepted code → r ≡ packed done 0 0 code → r ≡ answer_of_check answer
+  pub check_accepted : {code : ℕ} → answer ≡ Ok code → r ≡ packed done 0 0 code → r ≡ answer_of_check answer
   check_accepted e h = h ∙ ap answer_of_check (sym e)
 
-  pub check-refused : {why : Refusal} → answer ≡ Checked.Refused why → r ≡ answer_of_refusal why → r ≡ answer_of_check answer
+  pub check-refused : {why : Refusal} → answer ≡ Err why → r ≡ answer_of_refusal why → r ≡ answer_of_check answer
   check-refused e h = h ∙ ap answer_of_check (sym e)
 
 -- ---- the answer of a run

@@ -19,7 +19,6 @@ use Rattle.script.specs.Rows.{let_form, node_operands}
 use Rattle.script.specs.Rows.Kinds.{kind_for, leaf_kinds}
 use Rattle.script.specs.Tests.{pick}
 use Rattle.script.specs.Tree.{size}
-use Rattle.script.specs.declared.Checked.TheVariants.{Accepted, Refused}
 use Rattle.script.specs.declared.Refusal.{Refusal}
 use Rattle.script.specs.Limits.{node_limit}
 use Rattle.rules.specs.Checking.{exec}
@@ -299,8 +298,8 @@ pub record LeafArrives (table : List ℕ) (n : ℕ) (ws fs : List ℕ) (r : Move
 
 -- what a path says of the leaves from its own on, where T is the type of the first
 pub data WalkOf (limit : ℕ) (table : List ℕ) (bound base : ℕ) (beneath : List Symbolic) (n T : ℕ) (left gs : List ℕ) (ls : List Leaf) : Walk → Type 0 where
-  refused : {x : Refusal} → ((k : ℕ) → judge n (suc k) T ls ≡ Refused x) → WalkOf limit table bound base beneath n T left gs ls (Err x)
-  lasted : {t : ℕ} → ((k : ℕ) → judge n (suc k) T ls ≡ Accepted t) → WalkOf limit table bound base beneath n T left gs ls (Ok (Last t))
+  refused : {x : Refusal} → ((k : ℕ) → judge n (suc k) T ls ≡ Err x) → WalkOf limit table bound base beneath n T left gs ls (Err x)
+  lasted : {t : ℕ} → ((k : ℕ) → judge n (suc k) T ls ≡ Ok t) → WalkOf limit table bound base beneath n T left gs ls (Ok (Last t))
   went_on : {t m : ℕ} (after : List Leaf) → T ≡ t → Entering limit table bound base beneath left gs m after
       → ((k : ℕ) → judge n (suc k) T ls ≡ judge n k T after) → WalkOf limit table bound base beneath n T left gs ls (Ok (More t m))
 

@@ -12,7 +12,6 @@ use Rattle.script.specs.Table.{Table, table_test}
 use Rattle.script.specs.Table.Laws.{passes}
 use Rattle.script.specs.Tests.{need}
 use Rattle.script.specs.Tree.Numbers.{numbered-tree}
-use Rattle.script.specs.declared.Checked.{Checked}
 use Rattle.script.specs.declared.Ran.{Ran}
 use Rattle.script.specs.declared.Refusal.{Refusal}
 use Rattle.script.specs.declared.Refusal.TheVariants.{BadCells, BadValues}
@@ -32,6 +31,7 @@ use Rattle.text.specs.Grammar.Bounds.{RefusedBelow, is-refused, meaning-below}
 use Rattle.text.proofs.OneSpelling.{read_passes}
 use Rattle.text.specs.Reading.{table_read}
 use Rattle.host.specs.Texts.{check_meant, check_text, run_meant, run_text}
+use Rattle.script.specs.Answers.Named.{Checked}
 
 -- no place of a text's refusal is as high as this: a text has at most so many lines
 abbrev pub place_limit : ℕ

@@ -1,5 +1,5 @@
 -- Making a note: the loop over the variables that it names, that it is right, and that the other notes stay right. Assumes nothing.
-use Rattle.std.specs.Prelude.{Bool, List, ◌⊎◌, ◌≡◌, length, get_or, set, Some, None}
+use Rattle.std.specs.Prelude.{Bool, List, ◌⊎◌, ◌≡◌, length, get_or, set, Some, None, Ok}
 use Rattle.std.proofs.Math.Bool.{true, false}
 use Rattle.std.proofs.Common.{inl, inr, ap, ◌∙◌, eq-or-lt_of_le, get_or-set_same, get_or-set_other}
 use Rattle.std.proofs.Math.Option.{some}
@@ -13,7 +13,6 @@ use borrow.Author.Tests.{eqb-true, eqb-false, ne_eqb, leb-true, leb-false, le-le
 use Rattle.script.specs.Code.Forms.{tree_in}
 use Rattle.script.specs.Tests.Laws.{true_or_false}
 use Rattle.script.specs.Tree.{Expr}
-use Rattle.script.specs.declared.Checked.TheVariants.{Accepted}
 use Rattle.rules.specs.Checking.{check}
 use Rattle.rules.specs.Checking.Mentions.{mentions}
 use Rattle.rules.proofs.Checking.Mentions.{check-same}
@@ -279,7 +278,7 @@ module _ {e : Expr} {depth at a t count : ℕ} {ws middle left : List ℕ} (low 
         go (inr h) (inl z) = named-at k z (n.all k h z m)
         go (inr h) (inr z) = beyond-at k z
 
-  put_right : {limit : ℕ} {table : List ℕ} → e ≡ tree_in table a → check limit e (types_on ws depth) ≡ Accepted t → NoteOf limit table left at depth
+  put_right : {limit : ℕ} {table : List ℕ} → e ≡ tree_in table a → check limit e (types_on ws depth) ≡ Ok t → NoteOf limit table left at depth
   put_right {limit} f c =
       record {
         few = omega (arith, p.names, n.few);
@@ -391,7 +390,7 @@ module _ (ws : List ℕ) (depth turn : ℕ) (its : turn ≡ get_or ws turn_at 0 
             kept = λ limit base c k. kept_still turn whole-elsewhere (omega arith) k (λ d e. whole-right limit base c d e);
           }
         where
-          whole-right : (limit : ℕ) → base_in ws ≤ depth → check limit (tree_in table a) (types_on ws depth) ≡ Accepted t → (d : ℕ)
+          whole-right : (limit : ℕ) → base_in ws ≤ depth → check limit (tree_in table a) (types_on ws depth) ≡ Ok t → (d : ℕ)
               → note_depth whole (note_at turn) ≡ suc d → NoteOf limit table whole (note_at turn) d
           whole-right limit base c d e =
               let b : base_in cleared ≤ depth = omega (arith, base, cleared_other base_at (λ q. omega arith)) in

@@ -1,6 +1,6 @@
 -- Reading notes: the loops over a note and over the notes, that what a right note says of a block is its type, and that right notes can be read.
 -- Assumes nothing.
-use Rattle.std.specs.Prelude.{Bool, ◌&&◌, List, eqb, length, get_or, Some, None}
+use Rattle.std.specs.Prelude.{Bool, ◌&&◌, List, eqb, length, get_or, Some, None, Ok}
 use Rattle.std.proofs.Math.Bool.{true, false}
 use Rattle.std.proofs.Math.Option.{some}
 use Rattle.std.proofs.Math.Path.{◌≡◌, refl, sym}
@@ -11,7 +11,6 @@ use Rattle.std.proofs.lemmas.Bool.{eqb-false}
 use Rattle.script.specs.Code.Forms.{tree_in}
 use Rattle.script.specs.Tests.{pick}
 use Rattle.script.specs.Tests.Laws.{both_true}
-use Rattle.script.specs.declared.Checked.TheVariants.{Accepted}
 use Rattle.rules.specs.Checking.{check}
 use Rattle.terms.specs.Places.{symbol_limit}
 use Rattle.workspace.specs.Notes.{base_in, operand_in, note_depth, type_in, names_in, name_in, named_type, Recallables, agrees_from, agrees_on, is_of, recalled_on, Agrees, NoteOf, Kept}
@@ -111,27 +110,27 @@ module _ {limit : ℕ} {table ws : List ℕ} {depth : ℕ} (k : Kept limit table
         others = λ i l. types-at ws depth (name_in ws at i) (n.inside i l) ∙ ap some (agrees-each ws at 0 (names_in ws at) e i (omega arith) (omega arith));
       }
 
-  note_right : (i : ℕ) → i < note_limit → is_of ws (note_at i) depth a ≡ true → check limit (tree_in table a) (types_on ws depth) ≡ Accepted (type_in ws (note_at i))
+  note_right : (i : ℕ) → i < note_limit → is_of ws (note_at i) depth a ≡ true → check limit (tree_in table a) (types_on ws depth) ≡ Ok (type_in ws (note_at i))
   note_right i l e =
       let p = both_true (eqb (operand_in ws (note_at i)) a) _ e in
       let q = both_true (eqb (note_depth ws (note_at i)) (depth + 1)) (agrees_on ws (note_at i)) p.1 in
       let n = k.notes i l depth (eqb-true _ _ q.0 ∙ add-one depth) in
       rw (eqb-true (operand_in ws (note_at i)) a p.0) at (n.right (types_on ws depth) (types-length ws depth) (note_agrees (note_at i) n q.1))
 
-  recalled-from : (i more t : ℕ) → i + more ≤ note_limit → recalled_on ws depth a i more ≡ Some t → check limit (tree_in table a) (types_on ws depth) ≡ Accepted t
+  recalled-from : (i more t : ℕ) → i + more ≤ note_limit → recalled_on ws depth a i more ≡ Some t → check limit (tree_in table a) (types_on ws depth) ≡ Ok t
   unfolding recalled_on
   recalled-from i zero t l e = absurd (let z : ◌≡◌ {A = ℕ} 0 1 = cc in omega arith)
   recalled-from i (suc more) t l e = go (is_of ws (note_at i) depth a) refl e (recalled-from (suc i) more t (omega arith))
     where
       go : (b : Bool) → is_of ws (note_at i) depth a ≡ b → pick b (Some (type_in ws (note_at i))) (recalled_on ws depth a (suc i) more) ≡ Some t
-          → (recalled_on ws depth a (suc i) more ≡ Some t → check limit (tree_in table a) (types_on ws depth) ≡ Accepted t)
-          → check limit (tree_in table a) (types_on ws depth) ≡ Accepted t
+          → (recalled_on ws depth a (suc i) more ≡ Some t → check limit (tree_in table a) (types_on ws depth) ≡ Ok t)
+          → check limit (tree_in table a) (types_on ws depth) ≡ Ok t
       go true q s f = let u : type_in ws (note_at i) ≡ t = cc in rw u at (note_right i (omega arith) q)
       go false q s f = f s
 
 -- what is recalled is the block's type
 pub recalled-right : {limit : ℕ} {table ws : List ℕ} {depth t : ℕ} (a : ℕ) → Kept limit table ws → base_in ws ≤ depth → recalled_on ws depth a 0 note_limit ≡ Some t
-    → check limit (tree_in table a) (types_on ws depth) ≡ Accepted t
+    → check limit (tree_in table a) (types_on ws depth) ≡ Ok t
 recalled-right {t = t} a k low e = recalled-from k low a 0 8 t (omega arith) e
 
 -- right notes can be read

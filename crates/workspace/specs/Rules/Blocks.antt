@@ -1,9 +1,8 @@
 -- A typed block on a path, as the notes answer it, or else the typed rules, whose answer is then noted. Assumes nothing.
-use Rattle.std.specs.Prelude.{List, ◌≡◌, refl, ℕ, ◌≤◌, length, Some}
+use Rattle.std.specs.Prelude.{List, ◌≡◌, refl, ℕ, ◌≤◌, length, Some, Ok}
 use Rattle.std.proofs.Common.{sym, ◌∙◌, arith}
 use Rattle.script.specs.Code.Forms.{tree_in}
-use Rattle.script.specs.declared.Checked.{Checked}
-use Rattle.script.specs.declared.Checked.TheVariants.{Accepted}
+use Rattle.script.specs.Answers.Named.{Checked}
 use Rattle.rules.specs.Checking.{check}
 use Rattle.terms.specs.Places.{symbol_limit}
 use Rattle.workspace.specs.Answers.{Known}
@@ -24,7 +23,7 @@ module _ {limit : ℕ} {table ws : List ℕ} {depth a : ℕ} (q : Checkable tabl
 
   -- a note has its type
   pub block_recalled : {k : Known} {t : ℕ} → k ≡ recalled_on ws depth a 0 8 → k ≡ Some t
-      → Blocked limit table (check limit (tree_in table a) (types_on ws depth)) depth ws (Accepted t) ws
+      → Blocked limit table (check limit (tree_in table a) (types_on ws depth)) depth ws (Ok t) ws
   block_recalled e f =
       record {
         answer = sym (recalled-right a n.kept n.based (sym e ∙ f));
@@ -55,8 +54,8 @@ module _ {limit : ℕ} {table ws : List ℕ} {depth a : ℕ} (q : Checkable tabl
         }
 
     -- and the answer is noted
-    pub block_noted : {t : ℕ} {left₂ : List ℕ} → r ≡ Accepted t → Noted table depth a t left left₂
-        → Blocked limit table (check limit (tree_in table a) (types_on ws depth)) depth ws (Accepted t) left₂
+    pub block_noted : {t : ℕ} {left₂ : List ℕ} → r ≡ Ok t → Noted table depth a t left left₂
+        → Blocked limit table (check limit (tree_in table a) (types_on ws depth)) depth ws (Ok t) left₂
     block_noted {t} e o =
         let b = block_judged e in
         let base = b.between base_at (omega arith) (omega arith) in

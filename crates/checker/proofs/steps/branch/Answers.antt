@@ -1,7 +1,7 @@
 -- `checker::steps::branch` meets its contract: the branch that is taken, or the first one and a fork. Assumes nothing.
 use mathlib.Core.Path.{◌∙◌}
-use Rattle.std.proofs.Common.{rules, ◌≡◌, Err}
 use native.Mathlib.Omega.{arith}
+use Rattle.script.specs.Answers.Named.{handed_on}
 use Rattle.checker.specs.Code.Going.Branching.{both-lent, stored-lent, stored-space, both_forkable, branched_first, branched_second, branched_none, branched_both}
 use Rattle.checker.proofs.steps.branch.Goals as goal
 
@@ -31,9 +31,8 @@ pub returns-in-Second : goal.returns-in-Second
 returns-in-Second c = branched_second c.wait.ensures c.choose.ensures (rw c.in-Second.is at c.in_ok-choose.was)
 
 pub returns-in_err-choose : goal.returns-in_err-choose
-returns-in_err-choose c = 
-    let e : c.from_residual.result ≡ Err c.in_err-choose.field-0.0 = search rules in
-    rw e (branched_none c.wait.ensures c.choose.ensures c.in_err-choose.was)
+returns-in_err-choose c =
+    rw (handed_on c.from_residual.result c.from_residual.ensures.1) (branched_none c.wait.ensures c.choose.ensures c.in_err-choose.was)
 
 pub shape_of-space-in-Both : goal.shape_of-space-in-Both
 shape_of-space-in-Both c = c.assume.auto.space ∙ c.forget.auto.space ∙ c.choose.auto.space

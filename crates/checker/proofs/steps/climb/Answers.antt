@@ -1,7 +1,7 @@
 -- `checker::steps::climb` meets its contract: a value goes up frame by frame, and a frame's value goes to an earlier one. Assumes nothing.
-use Rattle.std.proofs.Common.{rules, ◌≡◌, Err}
 use native.Mathlib.Omega.{arith}
 use mathlib.Core.Path.{◌∙◌}
+use Rattle.script.specs.Answers.Named.{handed_on}
 use Rattle.checker.specs.Code.Going.AllFrames.{climbing_start, climbing_end, climbing_on, climbing_operand, climbing_stopped}
 use Rattle.checker.proofs.steps.climb.Goals as goal
 
@@ -44,8 +44,7 @@ shape_of-frames-in_err-w c = c.back.auto.frames ∙ c.loop-frames.invariant.fram
 
 pub returns-in_err-w : goal.returns-in_err-w
 returns-in_err-w c =
-    let e : c.from_residual.result ≡ Err c.in_err-w.field-0.0 = search rules in
-    rw e (climbing_stopped c.loop-frames.invariant c.back.ensures c.in_err-w.was)
+    rw (handed_on c.from_residual.result c.from_residual.ensures.1) (climbing_stopped c.loop-frames.invariant c.back.ensures c.in_err-w.was)
 
 pub shape_of-space : goal.shape_of-space
 shape_of-space c = c.loop-frames.invariant.same

@@ -1,5 +1,5 @@
 -- `checker::steps::leaf_up` meets its contract: a leaf's value goes up. Assumes nothing.
-use Rattle.std.proofs.Common.{rules, ◌≡◌, Err}
+use Rattle.script.specs.Answers.Named.{handed_on}
 use Rattle.checker.specs.Code.Going.Arriving.{leaf_room, leaf-lent, leaf-returnable, leaf_climbing, leaf-stopping}
 use Rattle.checker.proofs.steps.leaf_up.Goals as goal
 
@@ -16,8 +16,7 @@ climb-requires c =
 
 pub returns-in_err-t : goal.returns-in_err-t
 returns-in_err-t c =
-    let e : c.from_residual.result ≡ Err c.in_err-t.field-0.0 = search rules in
-    rw e (leaf-stopping c.requires (rw c.node_at-node.ensures at c.leaf.ensures) c.in_err-t.was)
+    rw (handed_on c.from_residual.result c.from_residual.ensures.1) (leaf-stopping c.requires (rw c.node_at-node.ensures at c.leaf.ensures) c.in_err-t.was)
 
 pub returns : goal.returns
 returns c =

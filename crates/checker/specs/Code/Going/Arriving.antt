@@ -6,8 +6,7 @@ use Rattle.script.specs.Flat.{HasNode}
 use Rattle.script.specs.Limits.{node_limit}
 use Rattle.script.specs.Rows.{typed_form, node_operands}
 use Rattle.script.specs.Rows.Kinds.{kind_for, leaf_kinds}
-use Rattle.script.specs.declared.Checked.{Checked}
-use Rattle.script.specs.declared.Checked.TheVariants.{Accepted, Refused}
+use Rattle.script.specs.Answers.Named.{Checked}
 use Rattle.script.specs.declared.Refusal.{Refusal}
 use Rattle.rules.specs.Checking.{check, exec}
 use Rattle.rules.specs.Paths.{Paths, bind, Leaf, stopped, leaves}
@@ -148,11 +147,11 @@ module _ {limit : ℕ} {table : List ℕ} {bound base : ℕ} {beneath : List Sym
       pub result-room : Room left 1
       result-room = block_room one_room
 
-      pub block_refused : {x : Refusal} → c ≡ Refused x → ls ≡ stopped x ∷ q.others
+      pub block_refused : {x : Refusal} → c ≡ Err x → ls ≡ stopped x ∷ q.others
       unfolding typed_result bind leaves
       block_refused e = block_is e
 
-      pub block_gives : {t : ℕ} → c ≡ Accepted t → {a : Step} {left₂ : List ℕ} → After n t left a left₂ → Gives limit table bound base beneath left₂ fs ls a
+      pub block_gives : {t : ℕ} → c ≡ Ok t → {a : Step} {left₂ : List ℕ} → After n t left a left₂ → Gives limit table bound base beneath left₂ fs ls a
       block_gives e o = yields-gives block_stands o.ruled (block_room enters_room) enters_tops (block_is e) (o.yields q.path block_path)
 
 -- ---- its value's way up
@@ -240,13 +239,13 @@ module _ {limit : ℕ} {table ws fs : List ℕ} {n : ℕ} (x : Enterable limit t
 
   module _ {c : Checked} {left : List ℕ}
       (b : Blocked limit table (check limit (tree_in table (node_in table n).a) (types_on ws (depth_in ws))) (depth_in ws) ws c left) where
-    pub up-refused : {y : Refusal} → c ≡ Refused y → Arrives limit table n ws fs (Err y) left fs
+    pub up-refused : {y : Refusal} → c ≡ Err y → Arrives limit table n ws fs (Err y) left fs
     up-refused i = arrives_stopping λ bound base beneath ls q. (q.others, block_refused q k some b i)
 
     pub up_room : Room left 1
     up_room = result-room x.entering k some b
 
-    module _ {t : ℕ} (i : c ≡ Accepted t) {a : Step} {left₂ : List ℕ} (o : After n t left a left₂) where
+    module _ {t : ℕ} (i : c ≡ Ok t) {a : Step} {left₂ : List ℕ} (o : After n t left a left₂) where
       pub up-returnable : {u q : ℕ} → a ≡ Ok (u, q) → Returnable table left₂ fs u q
       up-returnable j =
           record {

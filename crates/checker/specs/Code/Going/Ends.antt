@@ -6,7 +6,6 @@ use Rattle.std.proofs.Math.Path.{refl, ap}
 use Rattle.std.proofs.Common.{sym, ◌∙◌, arith}
 use borrow.Author.Tests.{not-true, not-false, eqb-true, eq-eqb}
 use Rattle.script.specs.Tests.{pick}
-use Rattle.script.specs.declared.Checked.TheVariants.{Accepted}
 use Rattle.script.specs.declared.Refusal.TheVariants.{InconsistentLog, PathTypesDiffer}
 use Rattle.rules.specs.Paths.{Leaf, ended, leaves, consistent}
 use Rattle.rules.specs.Symbolic.{Symbolic, type_of}
@@ -76,7 +75,7 @@ module _ {limit : ℕ} {table : List ℕ} {bound base : ℕ} {beneath : List Sym
         unfolding judge
         end_last z =
             lasted λ k.
-            goes k ∙ ap (judge n k (unwrap_or wanted (first_type ls))) (none-left_of r.stands.left z) ∙ ap Accepted right
+            goes k ∙ ap (judge n k (unwrap_or wanted (first_type ls))) (none-left_of r.stands.left z) ∙ ap Ok right
 
         pub end_more : {left gs : List ℕ} {m : ℕ} → Resumes table ws fs m left gs
             → WalkOf limit table bound base beneath n (unwrap_or wanted (first_type ls)) left gs ls (Ok (More t m))

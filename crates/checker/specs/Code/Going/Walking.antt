@@ -9,7 +9,6 @@ use Rattle.script.specs.Code.Forms.{tree_in}
 use Rattle.script.specs.Limits.{node_limit}
 use Rattle.script.specs.Rows.Laws.{same_anywhere}
 use Rattle.script.specs.Tests.{pick}
-use Rattle.script.specs.declared.Checked.TheVariants.{Accepted, Refused}
 use Rattle.script.specs.declared.Refusal.{Refusal}
 use Rattle.script.specs.declared.Refusal.TheVariants.{TooManyPaths}
 use Rattle.rules.specs.Checking.{exec}
@@ -130,12 +129,12 @@ record Further (limit : ℕ) (table : List ℕ) (bound base : ℕ) (beneath : Li
   goes : (k : ℕ) → judge n (suc k) T ls ≡ judge n k T after
 
 module _ {limit : ℕ} {table : List ℕ} {bound base : ℕ} {beneath : List Symbolic} {n T : ℕ} {left gs : List ℕ} {ls : List Leaf} where
-  walk-wrong : {w : Walk} {x : Refusal} → WalkOf limit table bound base beneath n T left gs ls w → w ≡ Err x → (k : ℕ) → judge n (suc k) T ls ≡ Refused x
+  walk-wrong : {w : Walk} {x : Refusal} → WalkOf limit table bound base beneath n T left gs ls w → w ≡ Err x → (k : ℕ) → judge n (suc k) T ls ≡ Err x
   walk-wrong (refused h) e k = h k ∙ cc
   walk-wrong (lasted h) e k = cc
   walk-wrong (went_on after q i h) e k = cc
 
-  walk-last : {w : Walk} {t : ℕ} → WalkOf limit table bound base beneath n T left gs ls w → w ≡ Ok (Last t) → (k : ℕ) → judge n (suc k) T ls ≡ Accepted t
+  walk-last : {w : Walk} {t : ℕ} → WalkOf limit table bound base beneath n T left gs ls w → w ≡ Ok (Last t) → (k : ℕ) → judge n (suc k) T ls ≡ Ok t
   walk-last (refused h) e k = cc
   walk-last (lasted h) e k = h k ∙ cc
   walk-last (went_on after q i h) e k = cc
@@ -171,7 +170,7 @@ module _ {table types : List ℕ} {depth limit n a : ℕ} {ws fs : List ℕ} {fo
       }
 
   -- no path may follow
-  pub turn-none : limit ≤ followed → Refused (TooManyPaths n) ≡ verdict n limit (leaves whole-verdict)
+  pub turn-none : limit ≤ followed → Err (TooManyPaths n) ≡ verdict n limit (leaves whole-verdict)
   unfolding judge
   turn-none l =
       let z : limit - followed ≡ 0 = omega arith in
@@ -190,10 +189,10 @@ module _ {table types : List ℕ} {depth limit n a : ℕ} {ws fs : List ℕ} {fo
     next-rest : verdict n limit (leaves whole-verdict) ≡ judge n (suc (limit - suc followed)) first u.to_come
     next-rest = let z : limit - followed ≡ suc (limit - suc followed) = omega arith in u.rest ∙ rw (z, u.type)
 
-    pub turn-wrong : {x : Refusal} → w ≡ Err x → Refused x ≡ verdict n limit (leaves whole-verdict)
+    pub turn-wrong : {x : Refusal} → w ≡ Err x → Err x ≡ verdict n limit (leaves whole-verdict)
     turn-wrong e = sym (next-rest ∙ walk-wrong walked e (limit - suc followed))
 
-    pub turn_last : {t : ℕ} → w ≡ Ok (Last t) → Accepted t ≡ verdict n limit (leaves whole-verdict)
+    pub turn_last : {t : ℕ} → w ≡ Ok (Last t) → Ok t ≡ verdict n limit (leaves whole-verdict)
     turn_last e = sym (next-rest ∙ walk-last walked e (limit - suc followed))
 
     pub turn_more : {t m : ℕ} → w ≡ Ok (More t m) → length left ≡ length ws → length gs ≡ length fs → Turn table types depth limit n a left gs (followed + 1) (Some t) m
