@@ -15,10 +15,8 @@ mod nodes;
 mod path;
 mod steps;
 
-use script::{Refusal};
 use nodes::check_node;
-
-
+use script::Refusal;
 use terms::VARIABLES;
 use tests::test_table;
 
@@ -31,10 +29,8 @@ fn entry_types(entries: &[u32], entry_count: usize, space: &mut [u32])
     requires entry_count_in_bounds_2 { 2 * entry_count ≤ length space.old }
     ensures { Placed entries.now space.old entry_count space.new }
 {
-    let mut i = 0;
-    while i < entry_count {
+    for i in 0..entry_count {
         space[2 * i] = entries[i];
-        i += 1;
     }
 }
 
@@ -64,14 +60,17 @@ fn check_within(
 ) -> Result<u32, Refusal>
     ensures { CheckedBy limit table.now nodes entries.now entry_count result }
 {
-    match test_table(table, nodes, entries, entry_count) {
-        Err(why) => Err(why),
-        Ok(()) => check_tested(table, nodes, entries, entry_count, limit),
-    }
+    test_table(table, nodes, entries, entry_count)?;
+    check_tested(table, nodes, entries, entry_count, limit)
 }
 
 // Checks a table that is known to pass its tests, as one that was read from a text.
-pub fn check_passed(table: &[u32], nodes: usize, entries: &[u32], entry_count: usize) -> Result<u32, Refusal>
+pub fn check_passed(
+    table: &[u32],
+    nodes: usize,
+    entries: &[u32],
+    entry_count: usize,
+) -> Result<u32, Refusal>
     requires { table_test (table_in table.now nodes entries.now entry_count) ≡ none }
     ensures { CheckedBy path_limit table.now nodes entries.now entry_count result }
 {
@@ -79,7 +78,12 @@ pub fn check_passed(table: &[u32], nodes: usize, entries: &[u32], entry_count: u
 }
 
 // Checks a table: accepted with its type, or why not. Nothing lent changes.
-pub fn check(table: &[u32], nodes: usize, entries: &[u32], entry_count: usize) -> Result<u32, Refusal>
+pub fn check(
+    table: &[u32],
+    nodes: usize,
+    entries: &[u32],
+    entry_count: usize,
+) -> Result<u32, Refusal>
     ensures { CheckedBy path_limit table.now nodes entries.now entry_count result }
 {
     check_within(table, nodes, entries, entry_count, PATHS)

@@ -1,7 +1,7 @@
 // The type rules: what node n gives in typed mode once its operands have given their types. A type is its code.
 #![tactic(auto)]
 
-ghost use Rattle.std.specs.Prelude.{◌||◌, ◌≡◌, ◌*◌, ◌<◌, ◌≤◌, eqb, length, Ok};
+ghost use Rattle.std.specs.Prelude.{◌≡◌, ◌*◌, ◌<◌, ◌≤◌, eqb, length, unwrap_or, Ok};
 ghost use Rattle.std.proofs.Math.ListN.{get_elem?};
 ghost use Rattle.script.specs.Code.Forms.{form_of};
 ghost use Rattle.script.specs.Rows.{set_op};
@@ -74,10 +74,8 @@ pub fn one_type(kind: u32, t: u32, n: u32) -> Result<u32, Refusal>
 fn set_type(t: u32, u: u32, n: u32) -> Result<u32, Refusal>
     ensures { result ≡ binary_type n set_op t u }
 {
-    if 2 <= t {
-        if t - 2 == u {
-            return Ok(u);
-        }
+    if 2 <= t && t - 2 == u {
+        return Ok(u);
     }
     Err(Refusal::WrongType(n))
 }
@@ -86,10 +84,8 @@ fn set_type(t: u32, u: u32, n: u32) -> Result<u32, Refusal>
 fn both_type(t: u32, u: u32, wanted: u32, n: u32) -> Result<u32, Refusal>
     ensures { result ≡ pick (eqb t wanted) (pick (eqb u wanted) (Ok wanted) (wrong n)) (wrong n) }
 {
-    if t == wanted {
-        if u == wanted {
-            return Ok(wanted);
-        }
+    if t == wanted && u == wanted {
+        return Ok(wanted);
     }
     Err(Refusal::WrongType(n))
 }
@@ -116,10 +112,8 @@ pub fn two_type(kind: u32, t: u32, u: u32, n: u32) -> Result<u32, Refusal>
 pub fn if_type(t: u32, u: u32, v: u32, n: u32) -> Result<u32, Refusal>
     ensures { result ≡ if_type n t u v }
 {
-    if t == 1 {
-        if u == v {
-            return Ok(u);
-        }
+    if t == 1 && u == v {
+        return Ok(u);
     }
     Err(Refusal::WrongType(n))
 }
@@ -137,12 +131,9 @@ pub fn bind_type(space: &mut [u32], depth: usize, node: Node, t: u32) -> usize
     depth
 }
 
-// The type t of a path is the first path's: that of this path, if it is the first.
-pub fn right_type(t: u32, first: bool, wanted: u32) -> bool
-    ensures { result ≡ (first || eqb t wanted) }
+// The type t of a path is the one wanted, the first path's: any is, while there is none yet.
+pub fn right_type(t: u32, wanted: Option<u32>) -> bool
+    ensures { result ≡ eqb t (unwrap_or wanted t) }
 {
-    if first {
-        return true;
-    }
-    t == wanted
+    t == wanted.unwrap_or(t)
 }
