@@ -8,26 +8,19 @@ use crate::references::{apart, symbol_of};
 use crate::{CONSTANT, COUNT, PAIR, Row, push, row_at};
 
 // The row has these operands, in this order.
+#[tactic(auto, unfolding(crate::specs::Atoms::holds))]
 fn holds(row: Row, a: u32, b: u32) -> bool
     ensures { result ≡ holds row a b }
 {
-    if row.a != a {
-        return false;
-    }
-    row.b == b
+    row.a == a && row.b == b
 }
 
 // The row has this operator and these operands, in either order.
+#[tactic(auto, unfolding(crate::specs::Atoms::is_atom))]
 fn is_atom(row: Row, op: u32, a: u32, b: u32) -> bool
     ensures { result ≡ is_atom op a b row }
 {
-    if row.op != op {
-        return false;
-    }
-    if holds(row, a, b) {
-        return true;
-    }
-    holds(row, b, a)
+    row.op == op && (holds(row, a, b) || holds(row, b, a))
 }
 
 // The row that has this operator and these operands, in either order.
@@ -56,6 +49,7 @@ pub fn symbols_atom(space: &mut [u32], op: u32, a: u32, b: u32) -> u32
 }
 
 // The row of the equality of two references, by their places.
+#[tactic(auto, unfolding(crate::specs::Atoms::references_row, crate::specs::Atoms::references_left))]
 pub fn equal_references(space: &mut [u32], r: u32, s: u32) -> u32
     requires { Space space.old 1 }
     ensures value { result ≡ references_row space.old r s }

@@ -1,6 +1,5 @@
 -- `terms::atoms::find_atom` meets its contract. The loop's invariant: no row passed is the atom. Assumes nothing.
 use mathlib.Core.Path.{sym, ap, ◌∙◌}
-use Prim.Native.Nat.{◌<◌}
 use native.Mathlib.Omega.{arith}
 use Rattle.script.specs.Tests.Loops.{look_on}
 use Rattle.terms.specs.Search.{first-here, first_end, below, not_below}

@@ -1,6 +1,5 @@
 -- `terms::atoms::symbols_atom` meets its contract: found, or pushed. Assumes nothing.
 use mathlib.Core.Path.{sym, ◌∙◌}
-use Rattle.std.proofs.Common.{Option}
 use native.Mathlib.Omega.{arith}
 use Rattle.terms.specs.Search.{first-most, below-some, below-none}
 use Rattle.terms.specs.Terms.{count_in}
