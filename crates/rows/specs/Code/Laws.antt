@@ -76,12 +76,6 @@ below-atom least op mark i h = rw (lt-ltb of_exclusion op h) (go (eqb mark 0) (l
     go false true = refl
     go false false = refl
 
--- both operands, one after the other
-pub mark_made : (ms mid last : List ℕ) (r : Row) (i f s : ℕ) → f ≡ operand_below of_negation r.op (get_or ms i 0) i → mid ≡ reached ms r.a f (get_or ms i 0)
-    → s ≡ operand_below of_conjunction r.op (get_or ms i 0) i → last ≡ reached mid r.b s (get_or ms i 0) → last ≡ mark_row ms r i
-unfolding mark_row
-mark_made ms mid last r i f s ef em es el = rw (el, em, ef, es)
-
 pub mark_row-length : (ms : List ℕ) (r : Row) (i : ℕ) → length (mark_row ms r i) ≡ length ms
 unfolding mark_row
 mark_row-length ms r i = reached-length _ r.b _ _ ∙ reached-length ms r.a _ _
