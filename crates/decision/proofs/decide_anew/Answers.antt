@@ -1,9 +1,9 @@
 -- `decision::decide_anew` meets its contract: the parts, one after the other. Assumes nothing.
-use mathlib.Core.Path.{refl}
+use mathlib.Core.Path.{refl, sym, ◌∙◌}
 use native.Mathlib.Omega.{arith}
 use Rattle.rows.specs.Code.{left-same, left-none}
 use Rattle.rows.specs.Known.{blocks_most}
-use Rattle.decision.specs.Whole.{Prepared, room-start, room-marked, room-guard, decided-many, decided-alone, decided_with, decided-without, decided-both, aside-alone, aside_with, aside-without, aside-not, keepable, left_after, left_alone}
+use Rattle.decision.specs.Whole.{Prepared, room-start, room-marked, room-guard, decided-many, decided-alone, decided-link, decided-both, aside-alone, aside-link, aside-not, keepable, left_after, left_alone}
 use Rattle.decision.proofs.decide_anew.Goals as goal
 
 pub above-n-requires : goal.above-n-requires
@@ -48,34 +48,22 @@ returns-then-counts-eq0 c =
       left_anew = left_alone (aside-alone a.space.now a.condition a.guard d c.if-counts-eq0.true) c.forget_after.ensures;
     }
 
-pub conjunct-link-requires : goal.conjunct-link-requires
-conjunct-link-requires c = let p = c.requires in (omega (arith, p.behind, p.lent), p.low)
+pub conjunct-requires : goal.conjunct-requires
+conjunct-requires c = let p = c.requires in (omega (arith, p.behind, p.lent), p.low)
 
 pub forget-requires : goal.forget-requires
 forget-requires c = omega (arith, c.requires.lent)
 
-pub returns-then-link-eq-CONJUNCTION : goal.returns-then-link-eq-CONJUNCTION
-returns-then-link-eq-CONJUNCTION c =
+pub returns-in-Some : goal.returns-in-Some
+returns-in-Some c =
     let a = c.args in
     let d : Prepared a.space.now a.condition a.guard c.above-n.result c.mark_all-counts.new.marks c.mark_all-counts.result =
     record { up = c.above-n.ensures; marks = c.mark_all-counts.ensures.marks_after; counts = c.mark_all-counts.ensures.value } in
+    let e = sym c.in-Some.is ∙ c.conjunct.ensures in
+    let k = aside-link a.space.now a.condition a.guard d c.in-Some.decision c.if-counts-eq0.false e in
     record {
-      value = decided_with a.space.now a.condition a.guard d c.conjunct-link.result c.if-counts-gt-ATOMS.false c.if-counts-eq0.false c.conjunct-link.ensures c.if-link-eq-CONJUNCTION.true;
-      left_anew = left-none refl (aside_with a.space.now a.condition a.guard d c.conjunct-link.result c.if-counts-eq0.false c.conjunct-link.ensures c.if-link-eq-CONJUNCTION.true) c.forget.ensures;
-    }
-
-pub forget-requires-then-link-eq-EXCLUSION : goal.forget-requires-then-link-eq-EXCLUSION
-forget-requires-then-link-eq-EXCLUSION c = omega (arith, c.requires.lent)
-
-pub returns-then-link-eq-EXCLUSION : goal.returns-then-link-eq-EXCLUSION
-returns-then-link-eq-EXCLUSION c =
-    let a = c.args in
-    let d : Prepared a.space.now a.condition a.guard c.above-n.result c.mark_all-counts.new.marks c.mark_all-counts.result =
-    record { up = c.above-n.ensures; marks = c.mark_all-counts.ensures.marks_after; counts = c.mark_all-counts.ensures.value } in
-    record {
-      value = decided-without a.space.now a.condition a.guard d c.conjunct-link.result c.if-counts-gt-ATOMS.false c.if-counts-eq0.false c.conjunct-link.ensures c.if-link-eq-EXCLUSION.true;
-      left_anew = left-none refl (aside-without a.space.now a.condition a.guard d c.conjunct-link.result c.if-counts-eq0.false
-          c.conjunct-link.ensures c.if-link-eq-EXCLUSION.true) c.forget-then-link-eq-EXCLUSION.ensures;
+      value = decided-link a.space.now a.condition a.guard d c.in-Some.decision c.if-counts-gt-ATOMS.false c.if-counts-eq0.false e;
+      left_anew = left-none k.0 k.1 c.forget.ensures;
     }
 
 pub search-decision-requires : goal.search-decision-requires
@@ -104,11 +92,11 @@ returns c =
     let a = c.args in
     let d : Prepared a.space.now a.condition a.guard c.above-n.result c.mark_all-counts.new.marks c.mark_all-counts.result =
     record { up = c.above-n.ensures; marks = c.mark_all-counts.ensures.marks_after; counts = c.mark_all-counts.ensures.value } in
+    let e = sym c.in_default.is ∙ c.conjunct.ensures in
     record {
-      value = decided-both a.space.now a.condition a.guard d c.conjunct-link.result c.blocks_of-blocks.result c.search-decision.result
-          c.if-counts-gt-ATOMS.false c.if-counts-eq0.false c.conjunct-link.ensures c.if-link-eq-CONJUNCTION.false c.if-link-eq-EXCLUSION.false
+      value = decided-both a.space.now a.condition a.guard d c.blocks_of-blocks.result c.search-decision.result
+          c.if-counts-gt-ATOMS.false c.if-counts-eq0.false e
           c.blocks_of-blocks.ensures c.search-decision.ensures.is;
-      left_anew = left_after a.space.now a.condition a.guard d (aside-not a.space.now a.condition a.guard d c.conjunct-link.result
-          c.if-counts-eq0.false c.conjunct-link.ensures c.if-link-eq-CONJUNCTION.false c.if-link-eq-EXCLUSION.false) c.if-counts-gt-ATOMS.false
+      left_anew = left_after a.space.now a.condition a.guard d (aside-not a.space.now a.condition a.guard d c.if-counts-eq0.false e) c.if-counts-gt-ATOMS.false
           c.blocks_of-blocks.ensures c.search-decision.ensures c.keep_after.ensures;
     }
