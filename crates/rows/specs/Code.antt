@@ -129,10 +129,9 @@ unfoldable pub rows_from : List ℕ → ℕ → ℕ → List ℕ
 rows_from ms least zero = []
 rows_from ms least (suc i) = pick (ltb (get_or ms i 0) least) (rows_from ms least i) (rows_from ms least i ++ (i ∷ []))
 
-pub record Listable (ms : List ℕ) (n : ℕ) (os : List ℕ) : Type 0 where
-  pub few : n ≤ row_limit
-  pub marks : n ≤ length ms
-  pub lent : n ≤ length os
+pub record Listable (ms os : List ℕ) : Type 0 where
+  pub few : length ms ≤ row_limit
+  pub lent : length ms ≤ length os
 
 pub record Lists (ms : List ℕ) (n least : ℕ) (os : List ℕ) (count : ℕ) (out : List ℕ) : Type 0 where
   pub same : length out ≡ length os

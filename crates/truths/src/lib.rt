@@ -13,30 +13,17 @@ use terms::{
 // The atoms with lower numbers have the same truths in every block.
 const STEADY: u8 = 6;
 
-// Row i comes next, if it has at least the mark. Answers how many rows there are then.
-#[tactic(auto, unfolding(rows::specs::Code::count_after, rows::specs::Code::listed_row))]
-fn list_row(marks: &[u8], least: u8, order: &mut [RowNumber], i: usize, count: usize) -> usize
-    requires i_in_bounds { i < length marks.now }
-    requires i_lt_row_limit { i < row_limit }
-    requires count_in_bounds { count < length order.old }
-    ensures value { result ≡ count_after marks.now least i count }
-    ensures order_after { order.new ≡ listed_row marks.now least order.old i count }
-{
-    if marks[i] < least {
-        return count;
-    }
-    order[count] = i as RowNumber;
-    count + 1
-}
-
-// The rows below n that have at least the mark. Answers how many.
-pub fn list_rows(marks: &[u8], n: usize, least: u8, order: &mut [RowNumber]) -> usize
-    requires { Listable marks.now n order.old }
-    ensures { Lists marks.now n least order.old result order.new }
+// The rows that have at least the mark. Answers how many.
+pub fn list_rows(marks: &[u8], least: u8, order: &mut [RowNumber]) -> usize
+    requires { Listable marks.now order.old }
+    ensures { Lists marks.now (length marks.now) least order.old result order.new }
 {
     let mut count = 0;
-    for i in 0..n {
-        count = list_row(marks, least, order, i, count);
+    for (i, mark) in marks.iter().enumerate() {
+        if least <= *mark {
+            order[count] = i as RowNumber;
+            count += 1;
+        }
     }
     count
 }
@@ -139,8 +126,10 @@ fn operand<T: Copy>(values: &[T], a: u32, i: usize, none: T) -> T
 fn row_word(row: Row, x: u64, y: u64, m: u32, block: u32) -> u64
     ensures { result ≡ row_word row x y m block }
 {
+    if FIRST_ATOM <= row.op {
+        return pattern(m, block);
+    }
     match row.op {
-        FIRST_ATOM.. => pattern(m, block),
         EXCLUSION => x & !y,
         EQUALITY => !(x ^ y),
         CONJUNCTION => x & y,
@@ -234,5 +223,5 @@ pub fn begin(
     evaluate(space, order, numbers, 0, words);
     let mut changes = [0u8; ROWS];
     mark_changes(space, order, numbers, &mut changes);
-    list_rows(&changes, n, 1, later)
+    list_rows(&changes[..n], 1, later)
 }

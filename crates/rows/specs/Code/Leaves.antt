@@ -1,7 +1,8 @@
 -- Laws of the rows in order, of their numbers and their words, and of what is kept: what holds in the loops, one turn at a time. Assumes nothing.
 use Rattle.std.specs.Prelude.{Bool, true, false, List, [], ◌∷◌, ◌++◌, ◌≡◌, ℕ, zero, suc, ◌+◌, ◌*◌, ◌/◌, ◌%◌, ◌≤◌, ◌<◌, ltb, length, get_or, take, set, replicate}
 use Rattle.std.proofs.Math.Path.{refl, sym}
-use Rattle.std.proofs.Common.{ap, ◌∙◌, add-one, arith, length-set, length-append, take-suc-set, get_or-set_other}
+use Rattle.std.proofs.Common.{ap, ◌∙◌, add-one, arith, length-set, length-append, take-suc-set, get_or-set_other, length-take}
+use lib.Seq.{get_or-take}
 use borrow.Author.Tests.{lt-ltb, le-ltb, eq-eqb, ne_eqb}
 use Rattle.std.proofs.Math.Decide.{le_ind}
 use Rattle.std.proofs.lemmas.List.{length-replicate}
@@ -83,6 +84,19 @@ listing_end {ms} {n} {least} {os} {ls} {count} {i} k h =
       rows = ended (λ (m : ℕ). take count ls ≡ rows_from ms least m) i n k.within h k.rows;
       rest = k.rest;
     }
+
+-- the rows of the first marks are those below so many
+rows_from-first : (ms : List ℕ) (least n : ℕ) (m : ℕ) → m ≤ n → rows_from (take n ms) least m ≡ rows_from ms least m
+unfolding rows_from
+rows_from-first ms least n zero h = refl
+rows_from-first ms least n (suc m) h = rw (get_or-take n ms m 0 (omega arith), rows_from-first ms least n m (omega arith)) refl
+
+pub lists-first : {ms os out : List ℕ} {n least count : ℕ} → n ≤ length ms → Lists (take n ms) (length (take n ms)) least os count out → Lists ms n least os count out
+lists-first {ms} {os} {out} {n} {least} {count} h l =
+    let k = length-take n ms in
+    let q : length (take n ms) ≡ n = omega arith in
+    let e = ap (rows_from (take n ms) least) q ∙ rows_from-first ms least n n (omega arith) in
+    record { same = l.same; many = l.many ∙ ap length e; rows = l.rows ∙ e; rest = l.rest }
 
 -- ---- the numbers of the atoms
 
