@@ -63,7 +63,7 @@ fn search(
     let mut order: [RowNumber; ROWS] = [0; ROWS];
     let mut numbers = [NONE; ROWS];
     let mut later: [RowNumber; ROWS] = [0; ROWS];
-    let count = list_rows(marks, n, least, &mut order);
+    let count = list_rows(&marks[..n], least, &mut order);
     number_atoms(space, &order[..count], &mut numbers);
     let more = begin(space, &order[..count], &numbers, n, &mut words, &mut later);
     let mut found = Found::NONE;
@@ -90,21 +90,14 @@ fn forget_after(space: &mut [u32], at: usize, decision: Decision)
 }
 
 // After a search with the condition: if one branch is impossible, its truths are kept.
-fn keep_after(
-    space: &mut [u32],
-    at: usize,
-    marks: &[u8],
-    n: usize,
-    blocks: u32,
-    truths: &[u64],
-    decision: Decision,
-)
-    requires keepable { Keepable space.old at marks.now n }
-    requires blocks_bound { (blocks ≤ 16) × (16 ≤ length truths.now) }
-    ensures { space.new ≡ pick (only_one decision) (kept space.old at marks.now n blocks truths.now) space.old }
+fn keep_after(space: &mut [u32], at: usize, marks: &[u8], truths: &[u64], decision: Decision)
+    requires keepable { Keepable space.old at marks.now (length marks.now) }
+    requires blocks_bound { length truths.now ≤ 16 }
+    ensures { space.new
+        ≡ pick (only_one decision) (kept space.old at marks.now (length marks.now) (length truths.now) truths.now) space.old }
 {
     if only_one(decision) {
-        keep(space, at, marks, n, blocks, truths);
+        keep(space, at, marks, truths);
     }
 }
 
@@ -145,7 +138,7 @@ fn decide_anew(space: &mut [u32], at: usize, condition: u32, guard: u32) -> Deci
     }
     let blocks = blocks_of(counts.all);
     let decision = search(space, c, g, &marks, CONDITION, blocks, &mut truths);
-    keep_after(space, at, &marks, n, blocks, &truths, decision);
+    keep_after(space, at, &marks[..n], &truths[..blocks as usize], decision);
     decision
 }
 

@@ -61,50 +61,50 @@ fn keep_row(space: &mut [u32], at: usize, mark: u8, i: usize, count: u32) -> u32
 }
 
 // The rows of the atoms with a mark are kept. Answers how many.
-fn keep_rows(space: &mut [u32], at: usize, marks: &[u8], n: usize) -> u32
-    requires { Keepable space.old at marks.now n }
-    ensures value { result ≡ rank space.old marks.now 1 n }
-    ensures space_after { space.new ≡ kept_rows space.old at marks.now n }
+fn keep_rows(space: &mut [u32], at: usize, marks: &[u8]) -> u32
+    requires { Keepable space.old at marks.now (length marks.now) }
+    ensures value { result ≡ rank space.old marks.now 1 (length marks.now) }
+    ensures space_after { space.new ≡ kept_rows space.old at marks.now (length marks.now) }
 {
     let mut count = 0;
-    for i in 0..n {
-        count = keep_row(space, at, marks[i], i, count);
+    for (i, mark) in marks.iter().enumerate() {
+        count = keep_row(space, at, *mark, i, count);
     }
     count
 }
 
 // The truths of a block are kept.
 #[tactic(auto, unfolding(rows::specs::Code::keep_word))]
-fn keep_word(space: &mut [u32], at: usize, block: u32, word: u64)
+fn keep_word(space: &mut [u32], at: usize, block: usize, word: u64)
     requires known_size_in_bounds { at + known_size ≤ length space.old }
     requires block_bound { block < 16 }
     ensures { space.new ≡ keep_word space.old at block word }
 {
-    let i = at + TRUTHS + 2 * (block as usize);
+    let i = at + TRUTHS + 2 * block;
     space[i] = (word % HALF) as u32;
     space[i + 1] = (word / HALF) as u32;
 }
 
 // The truths of the first blocks are kept.
-fn keep_words(space: &mut [u32], at: usize, blocks: u32, truths: &[u64])
+fn keep_words(space: &mut [u32], at: usize, truths: &[u64])
     requires known_size_in_bounds { at + known_size ≤ length space.old }
-    requires blocks_bound { (blocks ≤ 16) × (16 ≤ length truths.now) }
-    ensures { space.new ≡ kept_words space.old at truths.now blocks }
+    requires blocks_bound { length truths.now ≤ 16 }
+    ensures { space.new ≡ kept_words space.old at truths.now (length truths.now) }
 {
-    for block in 0..blocks {
-        keep_word(space, at, block, truths[block as usize]);
+    for (block, word) in truths.iter().enumerate() {
+        keep_word(space, at, block, *word);
     }
 }
 
 // The atoms with a mark and the truths of the blocks are known then.
 #[tactic(auto, unfolding(rows::specs::Code::kept))]
-pub fn keep(space: &mut [u32], at: usize, marks: &[u8], n: usize, blocks: u32, truths: &[u64])
-    requires keepable { Keepable space.old at marks.now n }
-    requires blocks_bound { (blocks ≤ 16) × (16 ≤ length truths.now) }
-    ensures { space.new ≡ kept space.old at marks.now n blocks truths.now }
+pub fn keep(space: &mut [u32], at: usize, marks: &[u8], truths: &[u64])
+    requires keepable { Keepable space.old at marks.now (length marks.now) }
+    requires blocks_bound { length truths.now ≤ 16 }
+    ensures { space.new ≡ kept space.old at marks.now (length marks.now) (length truths.now) truths.now }
 {
-    let count = keep_rows(space, at, marks, n);
-    keep_words(space, at, blocks, truths);
+    let count = keep_rows(space, at, marks);
+    keep_words(space, at, truths);
     space[at + COUNT] = count;
     space[at] = 1;
 }
@@ -118,7 +118,7 @@ pub fn list_guard(space: &[u32], guard: usize, order: &mut [RowNumber]) -> usize
     let mut marks = [0u8; ROWS];
     marks[guard] = CONDITION;
     mark_all(space, guard + 1, &mut marks);
-    list_rows(&marks, guard + 1, CONDITION, order)
+    list_rows(&marks[..guard + 1], CONDITION, order)
 }
 
 // The truths of the guard, where the condition has the truths c: 0 if that has none.

@@ -2,7 +2,8 @@
 -- Assumes nothing.
 use mathlib.Core.Path.{refl, sym, ap, ◌∙◌}
 use native.Mathlib.Omega.{arith}
-use lib.ListN.{length}
+use lib.ListN.{length, length-take}
+use Rattle.rows.specs.Code.Leaves.{lists-first}
 use Rattle.known.specs.Searching.{rows-listed, looking, looking_on, looking-both, looking_end}
 use Rattle.decision.proofs.search.Goals as goal
 
@@ -12,36 +13,40 @@ above-n-requires c = (c.requires.searchable.low, c.requires.searchable.high)
 pub list_rows-count-requires : goal.list_rows-count-requires
 list_rows-count-requires c =
     let r = c.requires.searchable.room in
-    record { few = omega (arith, r.few); marks = omega (arith, r.marks); lent = omega (arith, r.few) }
+    let l = length-take c.above-n.result c.args.marks.now in
+    record { few = omega (arith, r.few); lent = omega (arith, r.few) }
 
 pub slice_bounds-number_atoms-end : goal.slice_bounds-number_atoms-end
-slice_bounds-number_atoms-end c = let l = c.list_rows-count.ensures in l.many ∙ sym (ap length l.rows)
+slice_bounds-number_atoms-end c = let l = lists-first {ms = c.args.marks.now} {n = c.above-n.result} {least = c.args.least} (omega (arith, c.requires.searchable.room.marks)) c.list_rows-count.ensures in l.many ∙ sym (ap length l.rows)
 
 pub number_atoms-requires : goal.number_atoms-requires
 number_atoms-requires c =
     let a = c.args in
     let r = c.requires.searchable.room in
+    let l = lists-first {ms = c.args.marks.now} {n = c.above-n.result} {least = c.args.least} (omega (arith, c.requires.searchable.room.marks)) c.list_rows-count.ensures in
     record {
-      rows = rows-listed a.space.now a.marks.now a.least c.above-n.result _ r.lent (omega (arith, r.few)) c.list_rows-count.ensures.rows;
+      rows = rows-listed a.space.now a.marks.now a.least c.above-n.result _ r.lent (omega (arith, r.few)) l.rows;
       row_limit_in_bounds = omega arith;
     }
 
 pub slice_bounds-begin-end : goal.slice_bounds-begin-end
-slice_bounds-begin-end c = let l = c.list_rows-count.ensures in l.many ∙ sym (ap length l.rows)
+slice_bounds-begin-end c = let l = lists-first {ms = c.args.marks.now} {n = c.above-n.result} {least = c.args.least} (omega (arith, c.requires.searchable.room.marks)) c.list_rows-count.ensures in l.many ∙ sym (ap length l.rows)
 
 pub begin-more-requires : goal.begin-more-requires
 begin-more-requires c =
     let a = c.args in
     let r = c.requires.searchable.room in
+    let l = lists-first {ms = c.args.marks.now} {n = c.above-n.result} {least = c.args.least} (omega (arith, c.requires.searchable.room.marks)) c.list_rows-count.ensures in
     record {
-      rows = rows-listed a.space.now a.marks.now a.least c.above-n.result _ r.lent (omega (arith, r.few)) c.list_rows-count.ensures.rows;
+      rows = rows-listed a.space.now a.marks.now a.least c.above-n.result _ r.lent (omega (arith, r.few)) l.rows;
       row_limit_in_bounds = (omega (arith, c.number_atoms.auto.numbers), omega arith);
       n_le_row_limit = (omega (arith, r.few), omega (arith, r.few));
     }
 
 pub loop-block-init : goal.loop-block-init
 loop-block-init c =
-    looking (record { up = c.above-n.ensures; rows = c.list_rows-count.ensures.rows; numbers = c.number_atoms.ensures }) c.requires.searchable
+    let l = lists-first {ms = c.args.marks.now} {n = c.above-n.result} {least = c.args.least} (omega (arith, c.requires.searchable.room.marks)) c.list_rows-count.ensures in
+    looking (record { up = c.above-n.ensures; rows = l.rows; numbers = c.number_atoms.ensures }) c.requires.searchable
     c.args.truths.now _ c.begin-more.ensures.words_after
 
 pub slice_bounds-evaluate-end : goal.slice_bounds-evaluate-end
@@ -71,14 +76,16 @@ bounds-truths-block c = omega (arith, c.loop-block.invariant.same, c.requires.in
 
 pub returns-then-both : goal.returns-then-both
 returns-then-both c =
-    let k = looking_on (record { up = c.above-n.ensures; rows = c.list_rows-count.ensures.rows; numbers = c.number_atoms.ensures }) c.requires.searchable
+    let l = lists-first {ms = c.args.marks.now} {n = c.above-n.result} {least = c.args.least} (omega (arith, c.requires.searchable.room.marks)) c.list_rows-count.ensures in
+    let k = looking_on (record { up = c.above-n.ensures; rows = l.rows; numbers = c.number_atoms.ensures }) c.requires.searchable
     _ c.begin-more.ensures.lists.rows c.loop-block.invariant c.requires.in_bounds c.loop-block-test.true c.evaluate.ensures c.condition_word-c.ensures refl
     _ _ c.add.ensures.yes c.add.ensures.no in
     looking-both k c.both.result c.both.ensures c.if-both.true
 
 pub loop-block-preserved : goal.loop-block-preserved
 loop-block-preserved c =
-    looking_on (record { up = c.above-n.ensures; rows = c.list_rows-count.ensures.rows; numbers = c.number_atoms.ensures }) c.requires.searchable
+    let l = lists-first {ms = c.args.marks.now} {n = c.above-n.result} {least = c.args.least} (omega (arith, c.requires.searchable.room.marks)) c.list_rows-count.ensures in
+    looking_on (record { up = c.above-n.ensures; rows = l.rows; numbers = c.number_atoms.ensures }) c.requires.searchable
     _ c.begin-more.ensures.lists.rows c.loop-block.invariant c.requires.in_bounds c.loop-block-test.true c.evaluate.ensures c.condition_word-c.ensures refl
     _ _ c.add.ensures.yes c.add.ensures.no
 

@@ -418,6 +418,45 @@ module _ (ws : List ℕ) (at : ℕ) (ms : List ℕ) (n blocks : ℕ) (ts : List 
   unfolding kept
   kept-made count ec = rw (eo, er, ec)
 
+-- what is kept is of the first marks and truths
+rank-first : (ws ms : List ℕ) (least n m : ℕ) → m ≤ n → rank ws (take n ms) least m ≡ rank ws ms least m
+unfolding rank
+rank-first ws ms least n zero h = refl
+rank-first ws ms least n (suc m) h = rw (get_or-take n ms m 0 (omega arith), rank-first ws ms least n m (omega arith)) refl
+
+kept_rows-first : (ws : List ℕ) (at : ℕ) (ms : List ℕ) (n m : ℕ) → m ≤ n → kept_rows ws at (take n ms) m ≡ kept_rows ws at ms m
+unfolding kept_rows
+kept_rows-first ws at ms n zero h = refl
+kept_rows-first ws at ms n (suc m) h =
+    rw (get_or-take n ms m 0 (omega arith), rank-first ws ms 1 n m (omega arith), kept_rows-first ws at ms n m (omega arith)) refl
+
+kept_words-first : (ws : List ℕ) (at : ℕ) (ts : List ℕ) (n m : ℕ) → m ≤ n → kept_words ws at (take n ts) m ≡ kept_words ws at ts m
+unfolding kept_words
+kept_words-first ws at ts n zero h = refl
+kept_words-first ws at ts n (suc m) h = rw (get_or-take n ts m 0 (omega arith), kept_words-first ws at ts n m (omega arith)) refl
+
+pub taken : (xs : List ℕ) (n : ℕ) → n ≤ length xs → length (take n xs) ≡ n
+taken xs n h = let l = length-take n xs in omega arith
+
+pub keepable-first : {ws : List ℕ} {at : ℕ} {ms : List ℕ} {n : ℕ} → Keepable ws at ms n → Keepable ws at (take n ms) (length (take n ms))
+keepable-first {ws} {at} {ms} {n} k =
+    let f = k.few in
+    let e = rank-first ws ms 1 n n (omega arith) in
+    rw (taken ms n k.marks)
+    (record { behind = k.behind; lent = k.lent; rows = k.rows; marks = (let l = taken ms n k.marks in omega arith); few = omega arith })
+
+pub kept-first : (ws : List ℕ) (at : ℕ) (ms : List ℕ) (n blocks : ℕ) (ts : List ℕ) → n ≤ length ms → blocks ≤ length ts
+    → kept ws at (take n ms) (length (take n ms)) (length (take blocks ts)) (take blocks ts) ≡ kept ws at ms n blocks ts
+unfolding kept
+kept-first ws at ms n blocks ts h l =
+    rw (
+      taken ms n h,
+      taken ts blocks l,
+      kept_rows-first ws at ms n n (omega arith),
+      rank-first ws ms 1 n n (omega arith),
+      kept_words-first (kept_rows ws at ms n) at ts blocks blocks (omega arith),
+    ) refl
+
 -- ---- the guard
 
 -- its row has a mark at first
