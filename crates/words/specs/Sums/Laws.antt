@@ -198,9 +198,6 @@ pub record Passing (ws : List ℕ) (top : ℕ) (weights₀ numbers₀ : List ℕ
   pub reduced : Reduced numbers
   pub rest : passed ws i weights numbers ≡ passed ws top weights₀ numbers₀
 
-pub passing_start : (ws : List ℕ) (top : ℕ) (weights numbers : List ℕ) → Reduced numbers → Passing ws top weights numbers top weights numbers
-passing_start ws top weights numbers h = record { within = omega arith; weighted = refl; placed = refl; reduced = h; rest = refl }
-
 passed-next : (ws : List ℕ) (i j : ℕ) (weights numbers : List ℕ) → i ≡ suc j
     → passed ws i weights numbers
     ≡ passed ws j (spread weights (row_in ws j) j (slice_index weights j)) (gather numbers (row_in ws j) (slice_index weights j))
@@ -271,10 +268,6 @@ start-room {p = p} {q = q} t s = record {
   within = rw s.rows ((rows_reach p q).most row_limit t.first t.second);
   weighted = rw s.is (simp (length-set, length-replicate) (omega arith));
 }
-
-pub start-passed : {p q n : ℕ} {weights : List ℕ} (ws numbers ys : List ℕ) → Started p q n weights → ys ≡ passed ws n weights numbers
-    → ys ≡ subtracted ws p q numbers
-start-passed ws numbers ys s e = rw (s.rows, s.is) at e
 
 pub subtracted-length : (ws : List ℕ) (p q : ℕ) (numbers : List ℕ) → length (subtracted ws p q numbers) ≡ length numbers
 subtracted-length ws p q numbers = passed_length ws (rows_to p q) (start_weights p q) numbers
