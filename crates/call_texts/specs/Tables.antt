@@ -1,5 +1,6 @@
 -- What a program gets of a call over records that it makes on a table in flat form: the call is made on a table of records that holds the same nodes, in
 -- 130 places. Assumes nothing.
+use Rattle.script.specs.declared.table.LentTable.{LentTable}
 use Rattle.std.specs.Prelude.{List, ◌≡◌, ℕ, ◌/◌, min, length}
 use Rattle.script.specs.Flat.{node_width}
 use Rattle.script.specs.Table.{Table}
@@ -14,6 +15,9 @@ place_count = 130
 -- the table of the call
 abbrev pub table_as : List ℕ → ℕ → List ℕ → ℕ → Table
 table_as xs nodes es entries = table_of (places place_count xs) nodes es entries
+
+abbrev pub flat_by : LentTable ℕ → Table
+flat_by t = table_as t.table.now t.nodes t.entries.now t.entry_count
 
 -- after a reading: the places, as far as the numbers xs have room for them, and the m entries
 pub record ReadBack (text xs : List ℕ) (m : ℕ) (r : Reading) (left es : List ℕ) : Type 0 where

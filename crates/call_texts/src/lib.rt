@@ -4,10 +4,11 @@
 
 ghost use Rattle.std.specs.Prelude.{length};
 ghost use Rattle.record_texts.specs.Texts.{Writes};
-ghost use Rattle.call_texts.specs.Tables.{table_as, ReadBack};
+ghost use Rattle.call_texts.specs.Tables.{flat_by, ReadBack};
 
 use copies::{copy_in, copy_out};
-use script::{Node, Script, Refusal};
+use script::table::LentTable;
+use script::{Node, Refusal, Script};
 
 // Places of a table of records.
 pub const PLACES: usize = Script::NODES + 2;
@@ -21,18 +22,12 @@ pub const STALE: Node = Node {
 };
 
 // Writes a table.
-pub fn write(
-    flat: &[u32],
-    nodes: usize,
-    entries: &[u32],
-    entry_count: usize,
-    out: &mut [u8],
-) -> Result<usize, Refusal>
-    ensures { Writes (table_as flat.now nodes entries.now entry_count) out.old result out.new }
+pub fn write(lent: &LentTable<u32>, out: &mut [u8]) -> Result<usize, Refusal>
+    ensures { Writes (flat_by lent.now) out.old result out.new }
 {
     let mut table = [STALE; PLACES];
-    copy_in(&mut table, flat);
-    record_texts::write(&table, nodes, entries, entry_count, out)
+    copy_in(&mut table, lent.table);
+    record_texts::write(&lent.over(&table), out)
 }
 
 // Reads a text, and leaves the places of the table in flat form, as many as fit.

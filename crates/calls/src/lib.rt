@@ -3,34 +3,32 @@
 #![tactic(auto)]
 
 ghost use Rattle.records.specs.Records.{Checks, Runs};
-ghost use Rattle.call_texts.specs.Tables.{table_as};
+ghost use Rattle.call_texts.specs.Tables.{flat_by};
 
 use call_texts::{PLACES, STALE};
 use copies::copy_in;
+use script::table::LentTable;
 use script::{Ended, Refusal};
 
 // Checks a table.
-pub fn check(flat: &[u32], nodes: usize, entries: &[u32], entry_count: usize) -> Result<u32, Refusal>
-    ensures { Checks (table_as flat.now nodes entries.now entry_count) result }
+pub fn check(lent: &LentTable<u32>) -> Result<u32, Refusal>
+    ensures { Checks (flat_by lent.now) result }
 {
     let mut table = [STALE; PLACES];
-    copy_in(&mut table, flat);
-    records::check(&table, nodes, entries, entry_count)
+    copy_in(&mut table, lent.table);
+    records::check(&lent.over(&table))
 }
 
 // Runs a table.
 pub fn run(
-    flat: &[u32],
-    nodes: usize,
-    entries: &[u32],
-    entry_count: usize,
+    lent: &LentTable<u32>,
     values: &[u8],
     cells: &mut [u8],
     used: u32,
 ) -> Result<Ended, Refusal>
-    ensures { Runs (table_as flat.now nodes entries.now entry_count) values.now cells.old used result cells.new }
+    ensures { Runs (flat_by lent.now) values.now cells.old used result cells.new }
 {
     let mut table = [STALE; PLACES];
-    copy_in(&mut table, flat);
-    records::run(&table, nodes, entries, entry_count, values, cells, used)
+    copy_in(&mut table, lent.table);
+    records::run(&lent.over(&table), values, cells, used)
 }

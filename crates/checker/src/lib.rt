@@ -5,9 +5,9 @@
 
 ghost use Rattle.std.proofs.Math.Option.{none};
 ghost use Rattle.std.specs.Prelude.{◌≡◌, ◌*◌, ◌≤◌, length};
-ghost use Rattle.script.specs.Flat.{table_in};
+ghost use Rattle.script.specs.Flat.{table_by};
 ghost use Rattle.script.specs.Table.{table_test};
-ghost use Rattle.rules.specs.Checking.{path_limit, CheckedBy};
+ghost use Rattle.rules.specs.Checking.{path_limit, check_table};
 ghost use Rattle.checker.specs.Code.Whole.{Placed};
 
 mod forks;
@@ -17,6 +17,7 @@ mod steps;
 
 use nodes::check_node;
 use script::Refusal;
+use script::table::LentTable;
 use terms::VARIABLES;
 use tests::test_table;
 
@@ -36,55 +37,43 @@ fn entry_types(entries: &[u32], entry_count: usize, space: &mut [u32])
 
 // Checks a table that passes its tests.
 fn check_tested(
-    table: &[u32],
-    nodes: usize,
-    entries: &[u32],
-    entry_count: usize,
+    lent: &LentTable<u32>,
     limit: u32,
 ) -> Result<u32, Refusal>
-    requires { table_test (table_in table.now nodes entries.now entry_count) ≡ none }
-    ensures { CheckedBy limit table.now nodes entries.now entry_count result }
+    requires { table_test (table_by lent.now) ≡ none }
+    ensures { result ≡ check_table limit (table_by lent.now) }
 {
     let mut space = [0u32; 2 * VARIABLES];
-    entry_types(entries, entry_count, &mut space);
-    check_node(table, &mut space, entry_count, limit, (nodes - 1) as u32)
+    entry_types(lent.entries, lent.entry_count, &mut space);
+    check_node(lent.table, &mut space, lent.entry_count, limit, (lent.nodes - 1) as u32)
 }
 
 // Checks a table by the rules, where a `sym` may have so many paths.
 fn check_within(
-    table: &[u32],
-    nodes: usize,
-    entries: &[u32],
-    entry_count: usize,
+    lent: &LentTable<u32>,
     limit: u32,
 ) -> Result<u32, Refusal>
-    ensures { CheckedBy limit table.now nodes entries.now entry_count result }
+    ensures { result ≡ check_table limit (table_by lent.now) }
 {
-    test_table(table, nodes, entries, entry_count)?;
-    check_tested(table, nodes, entries, entry_count, limit)
+    test_table(lent)?;
+    check_tested(lent, limit)
 }
 
 // Checks a table that is known to pass its tests, as one that was read from a text.
 pub fn check_passed(
-    table: &[u32],
-    nodes: usize,
-    entries: &[u32],
-    entry_count: usize,
+    lent: &LentTable<u32>,
 ) -> Result<u32, Refusal>
-    requires { table_test (table_in table.now nodes entries.now entry_count) ≡ none }
-    ensures { CheckedBy path_limit table.now nodes entries.now entry_count result }
+    requires { table_test (table_by lent.now) ≡ none }
+    ensures { result ≡ check_table path_limit (table_by lent.now) }
 {
-    check_tested(table, nodes, entries, entry_count, PATHS)
+    check_tested(lent, PATHS)
 }
 
 // Checks a table: accepted with its type, or why not. Nothing lent changes.
 pub fn check(
-    table: &[u32],
-    nodes: usize,
-    entries: &[u32],
-    entry_count: usize,
+    lent: &LentTable<u32>,
 ) -> Result<u32, Refusal>
-    ensures { CheckedBy path_limit table.now nodes entries.now entry_count result }
+    ensures { result ≡ check_table path_limit (table_by lent.now) }
 {
-    check_within(table, nodes, entries, entry_count, PATHS)
+    check_within(lent, PATHS)
 }

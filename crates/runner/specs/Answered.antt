@@ -3,8 +3,13 @@
 use Rattle.std.specs.Prelude.{List, ◌≡◌, ℕ}
 use Rattle.script.specs.Flat.{table_in}
 use Rattle.script.specs.Answers.Named.{Ran}
+use Rattle.script.specs.declared.table.LentTable.{LentTable}
 use Rattle.rules.specs.Running.{Run, run_table}
 
 module _ (table : List ℕ) (nodes : ℕ) (entries : List ℕ) (entry_count : ℕ) (values cells : List ℕ) (used : ℕ) where
   abbrev pub Answered : Ran → List ℕ → Type 0
   Answered r left = ◌≡◌ {A = Run} (record { answer = r; cells = left }) (run_table (table_in table nodes entries entry_count) values cells used)
+
+-- for the table that a call lends
+abbrev pub AnsweredBy : LentTable ℕ → List ℕ → List ℕ → ℕ → Ran → List ℕ → Type 0
+AnsweredBy t values cells used r left = Answered t.table.now t.nodes t.entries.now t.entry_count values cells used r left

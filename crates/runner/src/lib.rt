@@ -4,13 +4,13 @@
 
 ghost use Rattle.std.proofs.Math.Option.{none};
 ghost use Rattle.std.specs.Prelude.{◌≡◌, ◌≤◌, ◌++◌, length, take, drop};
-ghost use Rattle.script.specs.Flat.{nodes_in, table_in};
+ghost use Rattle.script.specs.Flat.{nodes_in, table_by};
 ghost use Rattle.script.specs.Table.{table_test};
 ghost use Rattle.script.specs.Tree.{root};
 ghost use Rattle.rules.specs.Evaluation.{eval};
 ghost use Rattle.rules.specs.Running.{values_of};
 ghost use Rattle.operators.specs.Steps.{Does};
-ghost use Rattle.runner.specs.Answered.{Answered};
+ghost use Rattle.runner.specs.Answered.{AnsweredBy};
 ghost use Rattle.runner.specs.Code.Whole.{Runnable};
 
 mod steps;
@@ -18,6 +18,7 @@ mod steps;
 use cells::tests::{right_cells, right_values};
 use operators::Step;
 use operators::steps::whole;
+use script::table::LentTable;
 use script::{Ended, Refusal, Script};
 use steps::run_node;
 use tests::test_table;
@@ -59,24 +60,28 @@ fn run_tested(
 
 // Runs a table that is known to pass its tests, as one that was read from a text: 35, 34, and then the run.
 pub fn run_passed(
-    table: &[u32],
-    nodes: usize,
-    entries: &[u32],
-    entry_count: usize,
+    lent: &LentTable<u32>,
     values: &[u8],
     cells: &mut [u8],
     used: u32,
 ) -> Result<Ended, Refusal>
-    requires { table_test (table_in table.now nodes entries.now entry_count) ≡ none }
-    ensures { Answered table.now nodes entries.now entry_count values.now cells.old used result cells.new }
+    requires { table_test (table_by lent.now) ≡ none }
+    ensures { AnsweredBy lent.now values.now cells.old used result cells.new }
 {
     if !right_cells(cells, used) {
         return Err(Refusal::BadCells);
     }
-    if !right_values(entry_count, values, cells, used) {
+    if !right_values(lent.entry_count, values, cells, used) {
         return Err(Refusal::BadValues);
     }
-    match run_tested(table, nodes, entry_count, values, cells, used) {
+    match run_tested(
+        lent.table,
+        lent.nodes,
+        lent.entry_count,
+        values,
+        cells,
+        used,
+    ) {
         Ok((v, count)) => Ok(Ended::Gave(v, count)),
         Err((at, count)) => Ok(Ended::Failed(at, count)),
     }
@@ -85,16 +90,13 @@ pub fn run_passed(
 // Runs a table on entry values and cells in their 5-byte form, of which the first `used` cells are used: the value or the node of the error state, with
 // the used count; or why not. A run changes used cells and adds cells; a refusal changes nothing.
 pub fn run(
-    table: &[u32],
-    nodes: usize,
-    entries: &[u32],
-    entry_count: usize,
+    lent: &LentTable<u32>,
     values: &[u8],
     cells: &mut [u8],
     used: u32,
 ) -> Result<Ended, Refusal>
-    ensures { Answered table.now nodes entries.now entry_count values.now cells.old used result cells.new }
+    ensures { AnsweredBy lent.now values.now cells.old used result cells.new }
 {
-    test_table(table, nodes, entries, entry_count)?;
-    run_passed(table, nodes, entries, entry_count, values, cells, used)
+    test_table(lent)?;
+    run_passed(lent, values, cells, used)
 }

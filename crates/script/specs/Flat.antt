@@ -1,9 +1,10 @@
 -- The flat form of a table inside the code, `node_width` numbers a node: its kind and three operands; and what the code answers to a test. Assumes nothing.
-use Rattle.std.specs.Prelude.{true, List, [], ◌∷◌, ◌++◌, ◌≡◌, ℕ, suc, ◌*◌, ◌≤◌, ◌<◌, length, take, Err, Ok}
+use Rattle.std.specs.Prelude.{true, List, [], ◌∷◌, ◌++◌, ◌≡◌, refl, ℕ, suc, ◌*◌, ◌≤◌, ◌<◌, length, take, Err, Ok}
 use Rattle.std.proofs.Math.Option.{Option, none, some}
 use Rattle.script.specs.Limits.{node_limit}
 use Rattle.script.specs.Table.{Table, node_of, well_formed}
 use Rattle.script.specs.declared.Node.{Node}
+use Rattle.script.specs.declared.table.LentTable.{LentTable}
 use Rattle.script.specs.declared.Refusal.{Refusal}
 use Rattle.script.specs.Answers.Named.{Tested}
 pub mod Laws
@@ -35,6 +36,13 @@ HasNode xs i = node_width * suc i ≤ length xs
 -- the table that a call lends in this form, with its used counts
 abbrev pub table_in : List ℕ → ℕ → List ℕ → ℕ → Table
 table_in xs nodes es entries = record { lent_nodes = nodes_in xs; node_count = nodes; lent_entries = es; entry_count = entries }
+
+abbrev pub table_by : LentTable ℕ → Table
+table_by t = table_in t.table.now t.nodes t.entries.now t.entry_count
+
+-- by its parts
+pub table-over : (t : LentTable ℕ) {xs es : List ℕ} {n m : ℕ} → t.table.now ≡ xs → t.nodes ≡ n → t.entries.now ≡ es → t.entry_count ≡ m → table_by t ≡ table_in xs n es m
+table-over t a b c d = rw (a, b, c, d) refl
 
 -- the first n nodes are lent, within the limit and well formed
 pub record FormedNodes (xs : List ℕ) (n : ℕ) : Type 0 where

@@ -1,4 +1,5 @@
 // The kinds of the nodes of a table, how wide a node is, and what its functions hand to each other. The functions are in `table`.
+ghost use Rattle.std.specs.Prelude.{◌≡◌};
 
 // How many numbers a node has in the flat form of a table.
 pub const WIDTH: usize = 4;
@@ -45,4 +46,30 @@ pub const LEAVES: u32 = ADD;
 pub enum Takes {
     Number(u32),
     Nodes,
+}
+
+// A table as a call lends it: places for nodes and entries, and how many of each are used. In flat form a node is `WIDTH` numbers; else it is a record.
+#[derive(Clone, Copy)]
+pub struct LentTable<'a, T> {
+    pub table: &'a [T],
+    pub nodes: usize,
+    pub entries: &'a [u32],
+    pub entry_count: usize,
+}
+
+impl<'a, T> LentTable<'a, T> {
+    // The same entries and counts, over other places for the nodes.
+    pub fn over<'b, U>(&'b self, table: &'b [U]) -> LentTable<'b, U>
+        ensures table { result.table.now ≡ table.now }
+        ensures nodes { result.nodes ≡ self.now.nodes }
+        ensures entries { result.entries.now ≡ self.now.entries.now }
+        ensures entry_count { result.entry_count ≡ self.now.entry_count }
+    {
+        LentTable {
+            table,
+            nodes: self.nodes,
+            entries: self.entries,
+            entry_count: self.entry_count,
+        }
+    }
 }

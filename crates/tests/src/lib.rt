@@ -2,14 +2,14 @@
 #![tactic(auto)]
 
 ghost use Rattle.std.specs.Prelude.{◌≡◌, ◌+◌, ◌<◌, ◌≤◌, leb, length, take};
-ghost use Rattle.script.specs.Flat.{nodes_in, table_in};
+ghost use Rattle.script.specs.Flat.{nodes_in, table_by};
 ghost use Rattle.script.specs.Limits.{node_limit, type_limit, word_limit};
 ghost use Rattle.script.specs.Table.{is_sym_node, operands, tree_test, nodes_test, table_test};
 ghost use Rattle.script.specs.Code.TableTests.{uses_test, depths_test, used_test, Lent, operands_test, Zeros, Within, Small, Counted, Spread, UseCounts, Nestings, counts_test, syms_in, deep_at, nesting_test};
 ghost use Rattle.script.specs.Flat.{tested_by, FormedNodes};
 ghost use Rattle.script.specs.Tests.{all, pick};
 
-use script::table::WIDTH;
+use script::table::{LentTable, WIDTH};
 use script::{Node, Refusal, Script};
 use table::{is_sym, node_at, node_operands, operand_at, well_formed};
 
@@ -186,40 +186,30 @@ fn test_nodes(table: &[u32], nodes: usize) -> Result<(), Refusal>
 }
 
 // 3, 33, 4, 5 and 13 of a table whose counts are within the limits and the lent places.
-fn test_used(
-    table: &[u32],
-    nodes: usize,
-    entries: &[u32],
-    entry_count: usize,
-) -> Result<(), Refusal>
-    requires lent { Lent table.now nodes }
-    requires entry_count_in_bounds { entry_count ≤ length entries.now }
-    ensures { result ≡ tested_by (used_test (table_in table.now nodes entries.now entry_count)) }
+fn test_used(lent: &LentTable<u32>) -> Result<(), Refusal>
+    requires lent { Lent lent.now.table.now lent.now.nodes }
+    requires entry_count_in_bounds { lent.now.entry_count ≤ length lent.now.entries.now }
+    ensures { result ≡ tested_by (used_test (table_by lent.now)) }
 {
-    if nodes == 0 {
+    if lent.nodes == 0 {
         return Err(Refusal::NoNode);
     }
-    if right_codes(entries, entry_count) {
-        return test_nodes(table, nodes);
+    if right_codes(lent.entries, lent.entry_count) {
+        return test_nodes(lent.table, lent.nodes);
     }
     Err(Refusal::BadTypeCode)
 }
 
 // All tests of a table, in their order.
-pub fn test_table(
-    table: &[u32],
-    nodes: usize,
-    entries: &[u32],
-    entry_count: usize,
-) -> Result<(), Refusal>
-    ensures { result ≡ tested_by (table_test (table_in table.now nodes entries.now entry_count)) }
+pub fn test_table(lent: &LentTable<u32>) -> Result<(), Refusal>
+    ensures { result ≡ tested_by (table_test (table_by lent.now)) }
 {
-    if table.len() / WIDTH < Script::NODES {
+    if lent.table.len() / WIDTH < Script::NODES {
         return Err(Refusal::TableTooSmall);
     }
-    if entries.len() < Script::ENTRIES {
+    if lent.entries.len() < Script::ENTRIES {
         return Err(Refusal::TableTooSmall);
     }
-    Script::of(nodes, entry_count).ok_or(Refusal::TooMany)?;
-    test_used(table, nodes, entries, entry_count)
+    Script::of(lent.nodes, lent.entry_count).ok_or(Refusal::TooMany)?;
+    test_used(lent)
 }

@@ -3,7 +3,7 @@
 
 ghost use Rattle.std.proofs.Math.Option.{none};
 ghost use Rattle.std.specs.Prelude.{◌≡◌, ℕ, ◌+◌, ◌*◌, ◌^◌, ◌≤◌, ◌<◌, length, take};
-ghost use Rattle.script.specs.Flat.{node_width, nodes_in, table_in};
+ghost use Rattle.script.specs.Flat.{node_width, nodes_in, table_by};
 ghost use Rattle.script.specs.Rows.Kinds.{kind_count};
 ghost use Rattle.script.specs.Table.{node_at, table_test};
 ghost use Rattle.text.specs.Code.Output.{Put, operand_if, text_in};
@@ -11,6 +11,7 @@ ghost use Rattle.text.specs.Writing.{outcome, entry_text, node_text, entries_tex
 
 use fields::{LF, TAB};
 use output::{put, put_bytes, put_number, put_type, put_word};
+use script::table::LentTable;
 use script::{Node, Refusal, Script};
 use table::{node_at, operand_count};
 use tests::test_table;
@@ -83,61 +84,43 @@ fn put_nodes(out: &mut [u8], from: usize, table: &[u32], count: usize) -> usize
 }
 
 // The whole text of a table that passed its tests; its length is given also where it does not fit.
-fn put_text(
-    out: &mut [u8],
-    table: &[u32],
-    nodes: usize,
-    entries: &[u32],
-    entry_count: usize,
-) -> usize
-    requires { table_test (table_in table.now nodes entries.now entry_count) ≡ none }
-    ensures { Put (text_in (table_in table.now nodes entries.now entry_count)) 0 out.old result out.new }
+fn put_text(out: &mut [u8], lent: &LentTable<u32>) -> usize
+    requires { table_test (table_by lent.now) ≡ none }
+    ensures { Put (text_in (table_by lent.now)) 0 out.old result out.new }
 {
-    let after_entries = put_entries(out, entries, entry_count);
-    put_nodes(out, after_entries, table, nodes)
+    let after_entries = put_entries(out, lent.entries, lent.entry_count);
+    put_nodes(out, after_entries, lent.table, lent.nodes)
 }
 
 // Whether the text fits. No text is longer than the limit; in a shorter output it is measured, by writing it into no bytes.
-fn fits(out: &mut [u8], table: &[u32], nodes: usize, entries: &[u32], entry_count: usize) -> bool
-    requires { table_test (table_in table.now nodes entries.now entry_count) ≡ none }
-    ensures value { result ≡ long_enough out.old (text_in (table_in table.now nodes entries.now entry_count)) }
+fn fits(out: &mut [u8], lent: &LentTable<u32>) -> bool
+    requires { table_test (table_by lent.now) ≡ none }
+    ensures value { result ≡ long_enough out.old (text_in (table_by lent.now)) }
     ensures out_unchanged { out.new ≡ out.old }
 {
     if Script::BYTES <= out.len() {
         return true;
     }
-    let length = put_text(&mut out[..0], table, nodes, entries, entry_count);
+    let length = put_text(&mut out[..0], lent);
     length <= out.len()
 }
 
 // The text of a table that passed its tests, or 36.
-fn write_passed(
-    out: &mut [u8],
-    table: &[u32],
-    nodes: usize,
-    entries: &[u32],
-    entry_count: usize,
-) -> Result<usize, Refusal>
-    requires { table_test (table_in table.now nodes entries.now entry_count) ≡ none }
-    ensures { outcome result out.new ≡ writing (table_in table.now nodes entries.now entry_count) out.old }
+fn write_passed(out: &mut [u8], lent: &LentTable<u32>) -> Result<usize, Refusal>
+    requires { table_test (table_by lent.now) ≡ none }
+    ensures { outcome result out.new ≡ writing (table_by lent.now) out.old }
 {
-    if fits(out, table, nodes, entries, entry_count) {
-        let length = put_text(out, table, nodes, entries, entry_count);
+    if fits(out, lent) {
+        let length = put_text(out, lent);
         return Ok(length);
     }
     Err(Refusal::OutputTooShort)
 }
 
 // Writes the text of a table into lent bytes: the tests of the table, then 36. A refusal changes nothing lent.
-pub fn write(
-    table: &[u32],
-    nodes: usize,
-    entries: &[u32],
-    entry_count: usize,
-    out: &mut [u8],
-) -> Result<usize, Refusal>
-    ensures { outcome result out.new ≡ writing (table_in table.now nodes entries.now entry_count) out.old }
+pub fn write(lent: &LentTable<u32>, out: &mut [u8]) -> Result<usize, Refusal>
+    ensures { outcome result out.new ≡ writing (table_by lent.now) out.old }
 {
-    test_table(table, nodes, entries, entry_count)?;
-    write_passed(out, table, nodes, entries, entry_count)
+    test_table(lent)?;
+    write_passed(out, lent)
 }

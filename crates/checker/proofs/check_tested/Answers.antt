@@ -25,11 +25,11 @@ check_node-requires c =
     let a = c.args in
     let p = passes _ c.requires in
     let e = c.entry_types.ensures in
-    root_checkable a.table.now a.nodes a.entries.now a.entry_count c.requires _ (omega (arith, p.nodes_least)) _ (omega (arith, e.same))
+    root_checkable a.lent.now.table.now a.lent.now.nodes a.lent.now.entries.now a.lent.now.entry_count c.requires _ (omega (arith, p.nodes_least)) _ (omega (arith, e.same))
 
 pub returns : goal.returns
 returns c =
     let a = c.args in
     let p = passes _ c.requires in
     let e = c.entry_types.ensures in
-    root_judged a.table.now a.nodes a.entries.now a.entry_count c.requires _ (omega (arith, p.nodes_least)) _ a.limit e.types c.check_node.ensures
+    root_judged a.lent.now.table.now a.lent.now.nodes a.lent.now.entries.now a.lent.now.entry_count c.requires _ (omega (arith, p.nodes_least)) _ a.limit e.types c.check_node.ensures

@@ -12,4 +12,4 @@ pub returns-in_err-test_table : goal.returns-in_err-test_table
 returns-in_err-test_table c =
     let a = c.args in
     rw (handed_on c.from_residual.result c.from_residual.ensures.1)
-    (table-refused a.table.now a.nodes a.entries.now a.entry_count a.values.now a.cells.now a.used (refused-some _ _ (sym c.test_table.ensures ∙ c.in_err-test_table.was)))
+    (table-refused a.lent.now.table.now a.lent.now.nodes a.lent.now.entries.now a.lent.now.entry_count a.values.now a.cells.now a.used (refused-some _ _ (sym c.test_table.ensures ∙ c.in_err-test_table.was)))

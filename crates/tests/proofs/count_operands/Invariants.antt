@@ -6,4 +6,3 @@ use Rattle.tests.proofs.count_operands.Given as goal
 
 abbrev pub invariant-loop-k : goal.invariant-loop-k
 invariant-loop-k l = (l.k ≤ l.m) × Counted (take l.k (operands l.n)) l.initial.counts l.counts
-

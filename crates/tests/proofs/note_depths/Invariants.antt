@@ -6,4 +6,3 @@ use Rattle.tests.proofs.note_depths.Given as goal
 
 abbrev pub invariant-loop-j : goal.invariant-loop-j
 invariant-loop-j l = (l.j ≤ l.nodes) × NestedFrom (take l.nodes (nodes_in l.table)) l.j (length l.initial.depths) l.depths
-

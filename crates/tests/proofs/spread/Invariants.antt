@@ -6,4 +6,3 @@ use Rattle.tests.proofs.spread.Given as goal
 
 abbrev pub invariant-loop-k : goal.invariant-loop-k
 invariant-loop-k l = (l.k ≤ l.m) × Spread (take l.k (operands l.n)) l.v l.initial.depths l.depths
-

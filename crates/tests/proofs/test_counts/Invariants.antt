@@ -5,4 +5,3 @@ use Rattle.tests.proofs.test_counts.Given as goal
 
 abbrev pub invariant-loop-i : goal.invariant-loop-i
 invariant-loop-i l = (l.i ≤ l.nodes) × Looked (not_once l.counts) (pred l.nodes) l.i
-

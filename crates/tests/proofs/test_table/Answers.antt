@@ -6,18 +6,18 @@ use Rattle.script.specs.declared.Refusal.TheVariants.{TooMany}
 use Rattle.tests.specs.Whole.{table-few-nodes, table-few-entries, table_too_many, table-within, table-lent}
 use Rattle.tests.proofs.test_table.Goals as goal
 
-pub returns-then-table-lt-NODES : goal.returns-then-table-lt-NODES
-returns-then-table-lt-NODES c = let a = c.args in table-few-nodes a.table.now a.nodes a.entries.now a.entry_count c.if-table-lt-NODES.true
+pub returns-then-lent-lt-NODES : goal.returns-then-lent-lt-NODES
+returns-then-lent-lt-NODES c = let a = c.args in table-few-nodes a.lent.now.table.now a.lent.now.nodes a.lent.now.entries.now a.lent.now.entry_count c.if-lent-lt-NODES.true
 
-pub returns-then-entries-lt-ENTRIES : goal.returns-then-entries-lt-ENTRIES
-returns-then-entries-lt-ENTRIES c = let a = c.args in table-few-entries a.table.now a.nodes a.entries.now a.entry_count c.if-table-lt-NODES.false c.if-entries-lt-ENTRIES.true
+pub returns-then-lent-lt-ENTRIES : goal.returns-then-lent-lt-ENTRIES
+returns-then-lent-lt-ENTRIES c = let a = c.args in table-few-entries a.lent.now.table.now a.lent.now.nodes a.lent.now.entries.now a.lent.now.entry_count c.if-lent-lt-NODES.false c.if-lent-lt-ENTRIES.true
 
 pub test_used-requires : goal.test_used-requires
 test_used-requires c =
     let a = c.args in
     let s = c.of in
     let f = there_is s.result TooMany (sym c.ok_or.ensures.value ∙ c.in_ok-ok_or.was) in
-    let it = table-lent a.table.now a.nodes a.entries.now a.entry_count c.if-table-lt-NODES.false c.if-entries-lt-ENTRIES.false s.result s.ensures _ f in
+    let it = table-lent a.lent.now.table.now a.lent.now.nodes a.lent.now.entries.now a.lent.now.entry_count c.if-lent-lt-NODES.false c.if-lent-lt-ENTRIES.false s.result s.ensures _ f in
     record { lent = it.0; entry_count_in_bounds = it.1 }
 
 pub returns-in_err-ok_or : goal.returns-in_err-ok_or
@@ -27,7 +27,7 @@ returns-in_err-ok_or c =
     let n = lacking s.result TooMany (sym c.ok_or.ensures.value ∙ c.in_err-ok_or.was) in
     handed_on c.from_residual.result c.from_residual.ensures.1
     ∙ ap Err n.1
-    ∙ table_too_many a.table.now a.nodes a.entries.now a.entry_count c.if-table-lt-NODES.false c.if-entries-lt-ENTRIES.false s.result s.ensures n.0
+    ∙ table_too_many a.lent.now.table.now a.lent.now.nodes a.lent.now.entries.now a.lent.now.entry_count c.if-lent-lt-NODES.false c.if-lent-lt-ENTRIES.false s.result s.ensures n.0
 
 pub returns : goal.returns
 returns c =
@@ -35,4 +35,4 @@ returns c =
     let s = c.of in
     let f = there_is s.result TooMany (sym c.ok_or.ensures.value ∙ c.in_ok-ok_or.was) in
     c.test_used.ensures
-    ∙ table-within a.table.now a.nodes a.entries.now a.entry_count c.if-table-lt-NODES.false c.if-entries-lt-ENTRIES.false s.result s.ensures _ f
+    ∙ table-within a.lent.now.table.now a.lent.now.nodes a.lent.now.entries.now a.lent.now.entry_count c.if-lent-lt-NODES.false c.if-lent-lt-ENTRIES.false s.result s.ensures _ f

@@ -13,7 +13,7 @@ use Rattle.writer.proofs.fits.Goals as goal
 pub returns-then-out-ge-BYTES : goal.returns-then-out-ge-BYTES
 returns-then-out-ge-BYTES c =
     let a = c.args in
-    let t = table_in a.table.now a.nodes a.entries.now a.entry_count in
+    let t = table_in a.lent.now.table.now a.lent.now.nodes a.lent.now.entries.now a.lent.now.entry_count in
     let m = text-most t c.requires in
     record {
       value = sym (long-enough a.out.now (text_in t) (omega arith));

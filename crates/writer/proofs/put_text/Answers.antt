@@ -7,23 +7,23 @@ use Rattle.writer.proofs.put_text.Goals as goal
 pub put_entries-after_entries-requires : goal.put_entries-after_entries-requires
 put_entries-after_entries-requires c =
     let a = c.args in
-    let m = parts-most a.table.now a.nodes a.entries.now a.entry_count c.requires in
+    let m = parts-most a.lent.now.table.now a.lent.now.nodes a.lent.now.entries.now a.lent.now.entry_count c.requires in
     record {
-      count_in_bounds = entries-lent a.table.now a.nodes a.entries.now a.entry_count c.requires;
+      count_in_bounds = entries-lent a.lent.now.table.now a.lent.now.nodes a.lent.now.entries.now a.lent.now.entry_count c.requires;
       entries_len_bound = omega arith;
     }
 
 pub put_nodes-requires : goal.put_nodes-requires
 put_nodes-requires c =
     let a = c.args in
-    let m = parts-most a.table.now a.nodes a.entries.now a.entry_count c.requires in
+    let m = parts-most a.lent.now.table.now a.lent.now.nodes a.lent.now.entries.now a.lent.now.entry_count c.requires in
     record {
-      count_in_bounds = nodes-lent a.table.now a.nodes a.entries.now a.entry_count c.requires;
-      by_index = kinds_known a.table.now a.nodes a.entries.now a.entry_count c.requires;
+      count_in_bounds = nodes-lent a.lent.now.table.now a.lent.now.nodes a.lent.now.entries.now a.lent.now.entry_count c.requires;
+      by_index = kinds_known a.lent.now.table.now a.lent.now.nodes a.lent.now.entries.now a.lent.now.entry_count c.requires;
       table_bound = omega arith;
     }
 
 pub returns : goal.returns
 returns c =
     let a = c.args in
-    put_parts (table_in a.table.now a.nodes a.entries.now a.entry_count) c.put_entries-after_entries.ensures c.put_nodes.ensures
+    put_parts (table_in a.lent.now.table.now a.lent.now.nodes a.lent.now.entries.now a.lent.now.entry_count) c.put_entries-after_entries.ensures c.put_nodes.ensures

@@ -10,11 +10,11 @@ use Rattle.writer.proofs.write.Goals as goal
 pub write_passed-requires : goal.write_passed-requires
 write_passed-requires c =
     let a = c.args in
-    passed_none (table_test (table_in a.table.now a.nodes a.entries.now a.entry_count))
+    passed_none (table_test (table_in a.lent.now.table.now a.lent.now.nodes a.lent.now.entries.now a.lent.now.entry_count))
     (sym c.test_table.ensures ∙ c.in_ok-test_table.was)
 
 pub returns-in_err-test_table : goal.returns-in_err-test_table
 returns-in_err-test_table c =
     let a = c.args in
     rw (handed_on c.from_residual.result c.from_residual.ensures.1)
-    (turned_down (table_in a.table.now a.nodes a.entries.now a.entry_count) _ (sym c.test_table.ensures ∙ c.in_err-test_table.was))
+    (turned_down (table_in a.lent.now.table.now a.lent.now.nodes a.lent.now.entries.now a.lent.now.entry_count) _ (sym c.test_table.ensures ∙ c.in_err-test_table.was))

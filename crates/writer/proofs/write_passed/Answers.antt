@@ -8,11 +8,11 @@ pub returns-then-fits : goal.returns-then-fits
 returns-then-fits c =
     let a = c.args in
     let f = c.fits.ensures in
-    wrote (table_in a.table.now a.nodes a.entries.now a.entry_count) c.requires (sym f.value ∙ c.if-fits.true)
+    wrote (table_in a.lent.now.table.now a.lent.now.nodes a.lent.now.entries.now a.lent.now.entry_count) c.requires (sym f.value ∙ c.if-fits.true)
     (rw f.out_unchanged at c.put_text-length.ensures)
 
 pub returns : goal.returns
 returns c =
     let a = c.args in
     let f = c.fits.ensures in
-    rw f.out_unchanged (short (table_in a.table.now a.nodes a.entries.now a.entry_count) c.requires (sym f.value ∙ c.if-fits.false))
+    rw f.out_unchanged (short (table_in a.lent.now.table.now a.lent.now.nodes a.lent.now.entries.now a.lent.now.entry_count) c.requires (sym f.value ∙ c.if-fits.false))
