@@ -98,7 +98,7 @@ module _ {ws : List ℕ} {c g : ℕ} {ms : List ℕ} {least n : ℕ} {os ns : Li
 
   -- the rows of a later block
   module _ (ls : List ℕ) (later : ls ≡ rows_from (changes_of ws os ns (length os)) 1 n)
-      {start ts vs : List ℕ} {yes' no' block : ℕ} (k : Looking ws c g ms least blocks start ts vs yes' no' block) (long : 16 ≤ length start)
+      {start ts vs : List ℕ} {yes' no' block : ℕ} (k : Looking ws c g ms least blocks start ts vs yes' no' block) (long : blocks ≤ length start)
       (h : block < blocks) {out left : List ℕ} {w : ℕ} (is : out ≡ evaluated_to ws ls ns block vs (length ls)) (word : w ≡ condition_word out c least) (put : left ≡ set ts block w) where
     out-is : out ≡ evaluated_to ws ls numbers block vs (length ls)
     out-is = is ∙ ap (λ (x : List ℕ). evaluated_to ws ls x block vs (length ls)) numbers_are
@@ -144,7 +144,7 @@ module _ {ws : List ℕ} {c g : ℕ} {ms : List ℕ} {least n : ℕ} {os ns : Li
         })
       where
         go : (b : ℕ) → b < block + 1 → Dec (b ≡ block) → get_or (set ts block w) b 0 ≡ truths_of ws ms least c g b
-        go b m (yes e) = let t = k.same in let f = s.few in rw e (get_or-set_same ts block w 0 (omega arith) ∙ condition-is)
+        go b m (yes e) = let t = k.same in rw e (get_or-set_same ts block w 0 (omega arith) ∙ condition-is)
         go b m (no e) = get_or-set_other ts block b w 0 e ∙ k.truths b (omega arith)
 
 module _ {ws : List ℕ} {c g : ℕ} {ms : List ℕ} {least blocks : ℕ} {start ts vs : List ℕ} {yes' no' block : ℕ}
