@@ -43,20 +43,18 @@ fn condition_word(words: &[u64], condition: usize, least: u8) -> u64
     words[condition]
 }
 
-// The branches that some assignment of the blocks allows, by the rows that have at least a mark; and the truths of the condition, as far as it went. With the
-// guard's mark the row of the condition is not looked at, and any row may stand in its place.
+// The branches that some assignment of the blocks allows, one for each of the truths, by the rows that have at least a mark; and the truths of the condition,
+// as far as it went. With the guard's mark the row of the condition is not looked at, and any row may stand in its place.
 fn search(
     space: &[u32],
     condition: usize,
     guard: usize,
     marks: &[u8],
     least: u8,
-    blocks: u32,
     truths: &mut [u64],
 ) -> Decision
-    requires searchable { Searchable space.now condition guard marks.now least blocks }
-    requires in_bounds { 16 ≤ length truths.old }
-    ensures { Searched space.now marks.now least condition guard blocks truths.old result truths.new }
+    requires { Searchable space.now condition guard marks.now least (length truths.old) }
+    ensures { Searched space.now marks.now least condition guard (length truths.old) truths.old result truths.new }
 {
     let n = above(condition, guard);
     let mut words = [0u64; ROWS];
@@ -67,10 +65,10 @@ fn search(
     number_atoms(space, &order[..count], &mut numbers);
     let more = begin(space, &order[..count], &numbers, n, &mut words, &mut later);
     let mut found = Found::NONE;
-    for block in 0..blocks {
-        evaluate(space, &later[..more], &numbers, block, &mut words);
+    for block in 0..truths.len() {
+        evaluate(space, &later[..more], &numbers, block as u32, &mut words);
         let c = condition_word(&words, condition, least);
-        truths[block as usize] = c;
+        truths[block] = c;
         found.add(c, words[guard]);
         if found.both() {
             return Decision::Both;
@@ -120,15 +118,8 @@ fn decide_anew(space: &mut [u32], at: usize, condition: u32, guard: u32) -> Deci
         return Decision::TooMany;
     }
     if counts.shared == 0 {
-        let alone = search(
-            space,
-            g,
-            g,
-            &marks,
-            GUARD,
-            blocks_of(counts.own),
-            &mut truths,
-        );
+        let truths = &mut truths[..blocks_of(counts.own) as usize];
+        let alone = search(space, g, g, &marks, GUARD, truths);
         forget_after(space, at, alone);
         return alone;
     }
@@ -136,9 +127,9 @@ fn decide_anew(space: &mut [u32], at: usize, condition: u32, guard: u32) -> Deci
         forget(space, at);
         return decision;
     }
-    let blocks = blocks_of(counts.all);
-    let decision = search(space, c, g, &marks, CONDITION, blocks, &mut truths);
-    keep_after(space, at, &marks[..n], &truths[..blocks as usize], decision);
+    let truths = &mut truths[..blocks_of(counts.all) as usize];
+    let decision = search(space, c, g, &marks, CONDITION, truths);
+    keep_after(space, at, &marks[..n], truths, decision);
     decision
 }
 

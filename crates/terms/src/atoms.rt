@@ -2,25 +2,17 @@
 ghost use Rattle.std.specs.Prelude.{◌≡◌};
 ghost use Rattle.terms.specs.Search.{if_below};
 ghost use Rattle.terms.specs.Terms.{Space, count_in};
-ghost use Rattle.terms.specs.Atoms.{holds, is_atom, atom_row_of, atom_left, references_row, references_left};
+ghost use Rattle.terms.specs.Atoms.{is_atom, atom_row_of, atom_left, references_row, references_left};
 
 use crate::references::{apart, symbol_of};
 use crate::{CONSTANT, COUNT, PAIR, Row, push, row_at};
 
-// The row has these operands, in this order.
-#[tactic(auto, unfolding(crate::specs::Atoms::holds))]
-fn holds(row: Row, a: u32, b: u32) -> bool
-    ensures { result ≡ holds row a b }
-{
-    row.a == a && row.b == b
-}
-
 // The row has this operator and these operands, in either order.
-#[tactic(auto, unfolding(crate::specs::Atoms::is_atom))]
+#[tactic(auto, unfolding(crate::specs::Atoms::is_atom, crate::specs::Atoms::holds))]
 fn is_atom(row: Row, op: u32, a: u32, b: u32) -> bool
     ensures { result ≡ is_atom op a b row }
 {
-    row.op == op && (holds(row, a, b) || holds(row, b, a))
+    row == Row { op, a, b } || row == Row { op, a: b, b: a }
 }
 
 // The row that has this operator and these operands, in either order.

@@ -63,7 +63,7 @@ pub const DIFFERENCE: u32 = 10;
 pub const FIRST_ATOM: u32 = TRUTH;
 
 // A row: what it is, and its two operands.
-#[derive(Clone, Copy)]
+#[derive(Clone, Copy, PartialEq, Eq)]
 pub struct Row {
     pub op: u32,
     pub a: u32,

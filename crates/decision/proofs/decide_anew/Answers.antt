@@ -1,51 +1,38 @@
 -- `decision::decide_anew` meets its contract: the parts, one after the other. Assumes nothing.
 use mathlib.Core.Path.{refl, sym, ◌∙◌}
 use native.Mathlib.Omega.{arith}
-use Rattle.rows.specs.Code.{left-same, left-none}
-use Rattle.std.proofs.Common.{ap, List, ℕ}
+use Rattle.rows.specs.Code.{Room, blocks_of, kept, left-same, left-none}
+use Rattle.std.proofs.Common.{◌≡◌, ap, List, ℕ, take, replicate}
 use Rattle.script.specs.Tests.{pick}
 use lib.ListN.{length}
-use Prim.Native.Nat.{◌≤◌}
-use Rattle.terms.specs.Places.{row_limit}
-use Rattle.rows.specs.Code.Laws.{above_within}
 use Rattle.rows.specs.Code.Leaves.{keepable-first, kept-first, taken}
 use Rattle.rows.specs.Decision.{only_one}
 use Rattle.rows.specs.Known.{blocks_most}
 use Rattle.decision.specs.Whole.{Prepared, room-start, room-marked, room-guard, decided-many, decided-alone, decided-link, decided-both, aside-alone, aside-link, aside-not, keepable, left_after, left_alone}
-use Rattle.decision.proofs.decide_anew.Goals.{After-mark_all-counts, After-search-decision}
+use Rattle.decision.proofs.decide_anew.Goals.{After-mark_all-counts}
 use Rattle.decision.proofs.decide_anew.Goals as goal
 
 -- what the parts give
 prepared : (c : After-mark_all-counts) → Prepared c.args.space.now c.args.condition c.args.guard c.above-n.result c.mark_all-counts.new.marks c.mark_all-counts.result
 prepared c = record { up = c.above-n.ensures; marks = c.mark_all-counts.ensures.marks_after; counts = c.mark_all-counts.ensures.value }
 
--- as many rows as have marks, and as many blocks as have truths
-few-marks : (c : After-search-decision) → c.above-n.result ≤ length c.mark_all-counts.new.marks
-few-marks c =
+-- the marked rows have room
+marked-room : (c : After-mark_all-counts) → Room c.args.space.now c.above-n.result c.mark_all-counts.new.marks
+marked-room c =
+    let a = c.args in
     let p = c.requires in
-    let u = above_within c.args.condition c.args.guard row_limit p.low p.high in
-    let b = c.above-n.ensures in
-    omega arith
+    room-marked _ (room-start a.space.now a.condition a.guard c.above-n.result c.above-n.ensures (omega (arith, p.behind, p.lent)) p.low p.high)
+    c.mark_all-counts.ensures.marks_after
 
-few-truths : (c : After-search-decision) → c.blocks_of-blocks.result ≤ length c.search-decision.new.truths
-few-truths c =
-    let m = blocks_most c.mark_all-counts.result.all in
-    let b = c.blocks_of-blocks.ensures in
-    let s = c.search-decision.ensures.same in
-    omega arith
+-- as many blocks as so many atoms have
+lent-truths : (n b : ℕ) → b ≡ blocks_of n → length (take b (replicate {A = ℕ} 16 0)) ≡ blocks_of n
+lent-truths n b e = let m = blocks_most n in taken (replicate 16 0) b (omega arith) ∙ e
 
 pub slice_bounds-marks-end : goal.slice_bounds-marks-end
-slice_bounds-marks-end c = few-marks (goal.at.slice_bounds-marks-end c).After-search-decision
+slice_bounds-marks-end c = (marked-room (goal.at.slice_bounds-marks-end c).After-mark_all-counts).marks
 
 pub slice_bounds-keep_after-end : goal.slice_bounds-keep_after-end
-slice_bounds-keep_after-end c = sym (taken c.mark_all-counts.new.marks c.above-n.result (few-marks (goal.at.slice_bounds-keep_after-end c).After-search-decision))
-
-pub slice_bounds-truths-end : goal.slice_bounds-truths-end
-slice_bounds-truths-end c = few-truths (goal.at.slice_bounds-truths-end c).After-search-decision
-
-pub slice_bounds-keep_after-end-2 : goal.slice_bounds-keep_after-end-2
-slice_bounds-keep_after-end-2 c =
-    sym (taken c.search-decision.new.truths c.blocks_of-blocks.result (few-truths (goal.at.slice_bounds-keep_after-end-2 c).After-search-decision))
+slice_bounds-keep_after-end c = sym (taken c.mark_all-counts.new.marks c.above-n.result ((marked-room (goal.at.slice_bounds-keep_after-end c).After-mark_all-counts).marks))
 
 pub above-n-requires : goal.above-n-requires
 above-n-requires c = (c.requires.low, c.requires.high)
@@ -65,14 +52,27 @@ returns-then-counts-gt-ATOMS c =
       left_anew = left-same refl refl;
     }
 
+pub slice_bounds-truths-end : goal.slice_bounds-truths-end
+slice_bounds-truths-end c = rw c.blocks_of.ensures (blocks_most _)
+
+pub slice_bounds-truths-end-then-counts-eq0 : goal.slice_bounds-truths-end-then-counts-eq0
+slice_bounds-truths-end-then-counts-eq0 c = c.blocks_of.ensures ∙ sym (lent-truths _ _ c.blocks_of.ensures)
+
+pub slice_bounds-truths-end-2 : goal.slice_bounds-truths-end-2
+slice_bounds-truths-end-2 c = rw c.blocks_of-2.ensures (blocks_most _)
+
+pub slice_bounds-truths-end-3 : goal.slice_bounds-truths-end-3
+slice_bounds-truths-end-3 c = c.blocks_of-2.ensures ∙ sym (lent-truths _ _ c.blocks_of-2.ensures)
+
 pub search-alone-requires : goal.search-alone-requires
 search-alone-requires c =
     let a = c.args in
     let p = c.requires in
-    let r = room-marked _ (room-start a.space.now a.condition a.guard c.above-n.result c.above-n.ensures (omega (arith, p.behind, p.lent)) p.low p.high) c.mark_all-counts.ensures.marks_after in
     record {
-      searchable = record { low = p.high; high = p.high; room = room-guard a.condition a.guard r c.above-n.ensures; few = rw c.blocks_of.ensures (blocks_most _) };
-      in_bounds = omega arith;
+      low = p.high;
+      high = p.high;
+      room = room-guard a.condition a.guard (marked-room (goal.at.search-alone-requires c).After-mark_all-counts) c.above-n.ensures;
+      few = rw (lent-truths _ _ c.blocks_of.ensures) (blocks_most _);
     }
 
 pub forget_after-requires : goal.forget_after-requires
@@ -83,7 +83,8 @@ returns-then-counts-eq0 c =
     let a = c.args in
     let d = prepared (goal.at.returns-then-counts-eq0 c).After-mark_all-counts in
     record {
-      value = decided-alone a.space.now a.condition a.guard d c.blocks_of.result c.search-alone.result c.if-counts-gt-ATOMS.false c.if-counts-eq0.true c.blocks_of.ensures c.search-alone.ensures.is;
+      value = decided-alone a.space.now a.condition a.guard d _ c.search-alone.result c.if-counts-gt-ATOMS.false c.if-counts-eq0.true
+          (lent-truths _ _ c.blocks_of.ensures) c.search-alone.ensures.is;
       left_anew = left_alone (aside-alone a.space.now a.condition a.guard d c.if-counts-eq0.true) c.forget_after.ensures;
     }
 
@@ -107,11 +108,11 @@ returns-in-Some c =
 pub search-decision-requires : goal.search-decision-requires
 search-decision-requires c =
     let p = c.requires in
-    let a = c.args in
-    let r = room-marked _ (room-start a.space.now a.condition a.guard c.above-n.result c.above-n.ensures (omega (arith, p.behind, p.lent)) p.low p.high) c.mark_all-counts.ensures.marks_after in
     record {
-      searchable = record { low = p.low; high = p.high; room = rw c.above-n.ensures at r; few = rw c.blocks_of-blocks.ensures (blocks_most _) };
-      in_bounds = omega arith;
+      low = p.low;
+      high = p.high;
+      room = rw c.above-n.ensures at (marked-room (goal.at.search-decision-requires c).After-mark_all-counts);
+      few = rw (lent-truths _ _ c.blocks_of-2.ensures) (blocks_most _);
     }
 
 pub keep_after-requires : goal.keep_after-requires
@@ -121,7 +122,7 @@ keep_after-requires c =
     let d = prepared (goal.at.keep_after-requires c).After-mark_all-counts in
     record {
       keepable = keepable-first (keepable a.space.now a.condition a.guard d a.at p.behind p.lent p.low p.high c.if-counts-gt-ATOMS.false);
-      blocks_bound = rw (taken c.search-decision.new.truths c.blocks_of-blocks.result (few-truths (goal.at.keep_after-requires c).After-search-decision)) (rw c.blocks_of-blocks.ensures (blocks_most _));
+      blocks_bound = rw (c.search-decision.ensures.same, lent-truths _ _ c.blocks_of-2.ensures) (blocks_most _);
     }
 
 pub returns : goal.returns
@@ -129,12 +130,13 @@ returns c =
     let a = c.args in
     let d = prepared (goal.at.returns c).After-mark_all-counts in
     let e = sym c.in_default.is ∙ c.conjunct.ensures in
-    let k = kept-first a.space.now a.at c.mark_all-counts.new.marks c.above-n.result c.blocks_of-blocks.result c.search-decision.new.truths
-    (few-marks (goal.at.returns c).After-search-decision) (few-truths (goal.at.returns c).After-search-decision) in
+    let b = lent-truths _ _ c.blocks_of-2.ensures in
+    let s = c.search-decision.ensures in
+    let ts = c.search-decision.new.truths in
+    let k = kept-first a.space.now a.at c.mark_all-counts.new.marks c.above-n.result (length ts) ts ((marked-room (goal.at.returns c).After-mark_all-counts).marks)
+    ∙ ap (λ (n : ℕ). kept a.space.now a.at c.mark_all-counts.new.marks c.above-n.result n ts) s.same in
     record {
-      value = decided-both a.space.now a.condition a.guard d c.blocks_of-blocks.result c.search-decision.result
-          c.if-counts-gt-ATOMS.false c.if-counts-eq0.false e
-          c.blocks_of-blocks.ensures c.search-decision.ensures.is;
+      value = decided-both a.space.now a.condition a.guard d _ c.search-decision.result c.if-counts-gt-ATOMS.false c.if-counts-eq0.false e b s.is;
       left_anew = left_after a.space.now a.condition a.guard d (aside-not a.space.now a.condition a.guard d c.if-counts-eq0.false e) c.if-counts-gt-ATOMS.false
-          c.blocks_of-blocks.ensures c.search-decision.ensures (c.keep_after.ensures ∙ ap (λ (l : List ℕ). pick (only_one c.search-decision.result) l a.space.now) k);
+          b s (c.keep_after.ensures ∙ ap (λ (l : List ℕ). pick (only_one c.search-decision.result) l a.space.now) k);
     }

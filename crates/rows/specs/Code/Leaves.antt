@@ -300,7 +300,7 @@ unfolding kept_words
 kept_words-length ws at ts zero = refl
 kept_words-length ws at ts (suc block) = keep_word-length (kept_words ws at ts block) at block (get_or ts block 0) ∙ kept_words-length ws at ts block
 
--- what is kept is of the first marks and truths
+-- what is kept is of the first marks
 rank-first : (ws ms : List ℕ) (least n m : ℕ) → m ≤ n → rank ws (take n ms) least m ≡ rank ws ms least m
 unfolding rank
 rank-first ws ms least n zero h = refl
@@ -312,11 +312,6 @@ kept_rows-first ws at ms n zero h = refl
 kept_rows-first ws at ms n (suc m) h =
     rw (get_or-take n ms m 0 (omega arith), rank-first ws ms 1 n m (omega arith), kept_rows-first ws at ms n m (omega arith)) refl
 
-kept_words-first : (ws : List ℕ) (at : ℕ) (ts : List ℕ) (n m : ℕ) → m ≤ n → kept_words ws at (take n ts) m ≡ kept_words ws at ts m
-unfolding kept_words
-kept_words-first ws at ts n zero h = refl
-kept_words-first ws at ts n (suc m) h = rw (get_or-take n ts m 0 (omega arith), kept_words-first ws at ts n m (omega arith)) refl
-
 pub taken : (xs : List ℕ) (n : ℕ) → n ≤ length xs → length (take n xs) ≡ n
 taken xs n h = let l = length-take n xs in omega arith
 
@@ -327,17 +322,10 @@ keepable-first {ws} {at} {ms} {n} k =
     rw (taken ms n k.marks)
     (record { behind = k.behind; lent = k.lent; rows = k.rows; marks = (let l = taken ms n k.marks in omega arith); few = omega arith })
 
-pub kept-first : (ws : List ℕ) (at : ℕ) (ms : List ℕ) (n blocks : ℕ) (ts : List ℕ) → n ≤ length ms → blocks ≤ length ts
-    → kept ws at (take n ms) (length (take n ms)) (length (take blocks ts)) (take blocks ts) ≡ kept ws at ms n blocks ts
+pub kept-first : (ws : List ℕ) (at : ℕ) (ms : List ℕ) (n blocks : ℕ) (ts : List ℕ) → n ≤ length ms
+    → kept ws at (take n ms) (length (take n ms)) blocks ts ≡ kept ws at ms n blocks ts
 unfolding kept
-kept-first ws at ms n blocks ts h l =
-    rw (
-      taken ms n h,
-      taken ts blocks l,
-      kept_rows-first ws at ms n n (omega arith),
-      rank-first ws ms 1 n n (omega arith),
-      kept_words-first (kept_rows ws at ms n) at ts blocks blocks (omega arith),
-    ) refl
+kept-first ws at ms n blocks ts h = rw (taken ms n h, kept_rows-first ws at ms n n (omega arith), rank-first ws ms 1 n n (omega arith)) refl
 
 -- ---- the guard
 
