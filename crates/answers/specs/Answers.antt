@@ -2,7 +2,8 @@
 -- The numbers and places of refusals are those of `Answers` in `script`. Assumes nothing.
 use Rattle.std.specs.Prelude.{List, ◌≡◌, ℕ, suc, ◌+◌, ◌*◌, Err, None, Ok, Some}
 use Rattle.script.specs.Answers.{number_of, place_of, kind_of, bits_of}
-use Rattle.script.specs.declared.Ran.{Ran}
+use Rattle.script.specs.Answers.Named.{Ran}
+use Rattle.script.specs.declared.Ended.{Ended}
 use Rattle.script.specs.declared.Refusal.{Refusal}
 use Rattle.rules.specs.Running.{Run}
 use Rattle.script.specs.Answers.Named.{Checked}
@@ -36,9 +37,9 @@ answer_of_check (Err r) = answer_of_refusal r
 
 -- the value's kind as number and its 32 bits as value, or the node of the error state as value; the used count as place
 abbrev pub answer_of_run : Ran → ℕ
-answer_of_run (Ran.Gave v used) = packed done (kind_of v) used (bits_of v)
-answer_of_run (Ran.Failed n used) = packed failed 0 used n
-answer_of_run (Ran.Refused r) = answer_of_refusal r
+answer_of_run (Ok (Ended.Gave v used)) = packed done (kind_of v) used (bits_of v)
+answer_of_run (Ok (Ended.Failed n used)) = packed failed 0 used n
+answer_of_run (Err r) = answer_of_refusal r
 
 -- what a call of the runner gives and leaves in the lent cells
 abbrev pub AnswersRun : Run → ℕ → List ℕ → Type 0

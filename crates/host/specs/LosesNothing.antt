@@ -4,7 +4,7 @@ use Rattle.std.specs.Prelude.{List, ◌≡◌, refl, ℕ, zero, suc, ◌/◌, �
 use Rattle.std.proofs.Common.{ap, ap₂, ◌∙◌, arith}
 use Rattle.script.specs.Answers.{number_of, place_of, kind_of, bits_of, Report, type_is, value_is, error_at, refused_with, report_of_check, report_of_run}
 use Rattle.script.specs.Answers.Bounds.{PlaceBelow, no_place, place-below, number-most, kind-most}
-use Rattle.script.specs.declared.Ran.{Ran}
+use Rattle.script.specs.Answers.Named.{Ran}
 use Rattle.script.specs.declared.Refusal.{Refusal}
 use Rattle.rules.specs.Checking.Bounds.{Bounded, code, refusal}
 use Rattle.rules.specs.Running.{lent_limit}

@@ -3,7 +3,7 @@
 use Rattle.std.specs.Prelude.{List, ◌≡◌, ℕ, Err}
 use Rattle.script.specs.Answers.{Report, report_of_check, report_of_run}
 use Rattle.script.specs.Limits.{node_limit, entry_limit}
-use Rattle.script.specs.declared.Ran.{Ran}
+use Rattle.script.specs.Answers.Named.{Ran}
 use Rattle.rules.specs.Checking.{path_limit, check_table}
 use Rattle.rules.specs.Running.{Run, run_table}
 use Rattle.text.specs.Grammar.{Meaning, means, refused, meaning_of}
@@ -21,7 +21,7 @@ check_text text = check_meant (meaning_of text)
 
 abbrev pub run_meant : Meaning → List ℕ → List ℕ → ℕ → Run
 run_meant (means es ns) values cells used = run_table (table_read es ns node_limit entry_limit) values cells used
-run_meant (refused r) values cells used = record { answer = Ran.Refused r; cells = cells }
+run_meant (refused r) values cells used = record { answer = Err r; cells = cells }
 
 -- the runner's answer to a text, and what the lent cells then hold
 unfoldable pub run_text : List ℕ → List ℕ → List ℕ → ℕ → Run

@@ -7,8 +7,8 @@ ghost use Rattle.answers.specs.Answers.{answer_of_check, AnswersRun};
 ghost use Rattle.host.specs.Texts.{check_text, run_text, RanTo};
 
 use answers::{check_answer, run_answer};
-use script::table::{WIDTH};
-use script::{Ran, Script, Refusal};
+use script::table::WIDTH;
+use script::{Ended, Refusal, Script};
 
 // Reads a text and checks it: accepted with its type, or why not.
 pub fn check_text(text: &[u8]) -> Result<u32, Refusal>
@@ -16,30 +16,26 @@ pub fn check_text(text: &[u8]) -> Result<u32, Refusal>
 {
     let mut table = [0u32; WIDTH * Script::NODES];
     let mut entries = [0u32; Script::ENTRIES];
-    match reader::read(text, &mut table, &mut entries) {
-        Ok(script) => {
-            let nodes = script.nodes;
-            let count = script.entries;
-            checker::check_passed(&table, nodes, &entries, count)
-        }
-        Err(why) => Err(why),
-    }
+    let script = reader::read(text, &mut table, &mut entries)?;
+    checker::check_passed(&table, script.nodes, &entries, script.entries)
 }
 
 // Reads a text and runs it on entry values and cells, of which the first `used` are used: a value or the error state, or why not.
-pub fn run_text(text: &[u8], values: &[u8], cells: &mut [u8], used: u32) -> Ran
+pub fn run_text(text: &[u8], values: &[u8], cells: &mut [u8], used: u32) -> Result<Ended, Refusal>
     ensures { RanTo (run_text text.now values.now cells.old used) result cells.new }
 {
     let mut table = [0u32; WIDTH * Script::NODES];
     let mut entries = [0u32; Script::ENTRIES];
-    match reader::read(text, &mut table, &mut entries) {
-        Ok(script) => {
-            let nodes = script.nodes;
-            let count = script.entries;
-            runner::run_passed(&table, nodes, &entries, count, values, cells, used)
-        }
-        Err(why) => Ran::Refused(why),
-    }
+    let script = reader::read(text, &mut table, &mut entries)?;
+    runner::run_passed(
+        &table,
+        script.nodes,
+        &entries,
+        script.entries,
+        values,
+        cells,
+        used,
+    )
 }
 
 // Checks a script text. The answer is a number that include/teqharis.h takes apart.

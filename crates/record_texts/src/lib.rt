@@ -8,7 +8,7 @@ ghost use Rattle.script.specs.Limits.{node_limit};
 ghost use Rattle.copies.specs.Copies.{places, table_of};
 ghost use Rattle.record_texts.specs.Texts.{Writes, Reads};
 
-use copies::{copy_in, copy_out, lesser};
+use copies::{copy_in, copy_out};
 use script::table::{WIDTH};
 use script::{Node, Script, Refusal};
 
@@ -32,7 +32,7 @@ fn read_flat(text: &[u8], lent: usize, flat: &mut [u32], entries: &mut [u32]) ->
     requires { length flat.old ≡ node_width * node_limit }
     ensures { Reads text.now lent (length entries.old) result (places lent flat.new) entries.new }
 {
-    let n = lesser(lent, Script::NODES);
+    let n = lent.min(Script::NODES);
     reader::read(text, &mut flat[..WIDTH * n], entries)
 }
 

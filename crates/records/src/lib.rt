@@ -9,7 +9,7 @@ ghost use Rattle.records.specs.Records.{Checks, Runs};
 
 use copies::copy_out;
 use script::table::{WIDTH};
-use script::{Node, Ran, Script, Refusal};
+use script::{Ended, Node, Refusal, Script};
 
 // Checks a flat table of which the first `lent` nodes are lent.
 fn check_flat(
@@ -35,7 +35,7 @@ fn run_flat(
     values: &[u8],
     cells: &mut [u8],
     used: u32,
-) -> Ran
+) -> Result<Ended, Refusal>
     requires { node_width * lent ≤ length flat.now }
     ensures { Runs (table_in (take (node_width * lent) flat.now) nodes entries.now entry_count) values.now cells.old used result cells.new }
 {
@@ -69,7 +69,7 @@ pub fn run(
     values: &[u8],
     cells: &mut [u8],
     used: u32,
-) -> Ran
+) -> Result<Ended, Refusal>
     ensures { Runs (table_of table.now nodes entries.now entry_count) values.now cells.old used result cells.new }
 {
     let mut flat = [0u32; WIDTH * Script::NODES];

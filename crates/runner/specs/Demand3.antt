@@ -4,7 +4,7 @@ use Rattle.std.specs.Prelude.{true, List, ◌≡◌, ℕ, Ok}
 use Rattle.std.proofs.Common.{sym, subst}
 use Rattle.script.specs.Flat.{table_in}
 use Rattle.script.specs.Table.{entries_of}
-use Rattle.script.specs.declared.Ran.{Ran}
+use Rattle.script.specs.Answers.Named.{Ran}
 use Rattle.rules.specs.Checking.{check_table}
 use Rattle.rules.specs.Demand3.{EndsWithValue}
 use Rattle.rules.proofs.Demand3.{accepted_ends_with_value}

@@ -5,7 +5,7 @@ ghost use Rattle.call_texts.specs.Tables.{table_as};
 ghost use Rattle.runs.specs.Outcome.{cells_after};
 
 use script::table::{WIDTH};
-use script::{Ran, Refusal, Script};
+use script::{Ended, Refusal, Script};
 use std::io;
 use trial::{say, say_decimal, say_either, say_number, say_refusal};
 
@@ -70,20 +70,20 @@ fn say_after(rt: &impl Print, before: &[u8], cells: &[u8], used: u32) -> io::Res
 }
 
 // Prints what came of a run, on cells that held what `before` holds.
-fn say_ran(rt: &impl Print, before: &[u8], cells: &[u8], answer: Ran) -> io::Result<()> {
+fn say_ran(rt: &impl Print, before: &[u8], cells: &[u8], answer: Result<Ended, Refusal>) -> io::Result<()> {
     match answer {
-        Ran::Gave(v, now) => {
+        Ok(Ended::Gave(v, now)) => {
             say(rt, b"value")?;
             say_number(rt, v.kind() as u64)?;
             say_number(rt, v.bits() as u64)?;
             say_after(rt, before, cells, now)
         }
-        Ran::Failed(node, now) => {
+        Ok(Ended::Failed(node, now)) => {
             say(rt, b"error")?;
             say_number(rt, node as u64)?;
             say_after(rt, before, cells, now)
         }
-        Ran::Refused(r) => {
+        Err(r) => {
             say_refusal(rt, r)?;
             say_kept(rt, before, cells, 0)
         }

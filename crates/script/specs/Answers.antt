@@ -1,7 +1,8 @@
 -- What each answer says: the number and place of a refusal (docs/REFUSALS.md), the kind and the 32 bits of a value (docs/RUNS.md), and the
 -- report of each call's answer. Assumes nothing.
 use Rattle.std.specs.Prelude.{true, false, ℕ, Err, None, Ok, Some}
-use Rattle.script.specs.declared.Ran.{Ran}
+use Rattle.script.specs.Answers.Named.{Ran}
+use Rattle.script.specs.declared.Ended.{Ended}
 use Rattle.script.specs.declared.Refusal.{Refusal}
 use Rattle.script.specs.declared.Refusal.TheVariants.{BadLine, TooManyAt, TooMany, NoNode, BadOperand, NotUsedOnce, WrongType, UnknownVariable, TooManyReferences, InconsistentLog, PathTypesDiffer, TooManyPaths, TooManyAtoms, TooDeep, TextTooLong, TableTooSmall, BadTypeCode, BadValues, BadCells, OutputTooShort}
 use Rattle.script.specs.declared.Value.{Value}
@@ -85,9 +86,9 @@ report_of_check (Ok t) = type_is t
 report_of_check (Err r) = refused_with (number_of r) (place_of r)
 
 abbrev pub report_of_run : Ran → Report
-report_of_run (Ran.Gave v used) = value_is (kind_of v) (bits_of v) used
-report_of_run (Ran.Failed n used) = error_at n used
-report_of_run (Ran.Refused r) = refused_with (number_of r) (place_of r)
+report_of_run (Ok (Ended.Gave v used)) = value_is (kind_of v) (bits_of v) used
+report_of_run (Ok (Ended.Failed n used)) = error_at n used
+report_of_run (Err r) = refused_with (number_of r) (place_of r)
 
 abbrev pub report_of_reading : Reading → Report
 report_of_reading (Ok s) = table_of s.nodes s.entries

@@ -131,12 +131,11 @@ impl Refusal {
     }
 }
 
-// The runner's answer: a value and the used count; the node of the error state and the used count; or why not.
+// How a run ends: with a value and the used count, or at the node of the error state, with the used count.
 #[derive(Clone, Copy)]
-pub enum Ran {
+pub enum Ended {
     Gave(Value, u32),
     Failed(u32, u32),
-    Refused(Refusal),
 }
 
 // A script by its counts. Made by `empty`, `of`, `with_node` and `with_entry`, both are within the limits.

@@ -8,18 +8,18 @@ ghost use Rattle.text.specs.Reading.{reading_in};
 ghost use Rattle.text.specs.Writing.{writing};
 ghost use Rattle.timing.specs.Answers.{ReadTo, WroteTo, wrong_use};
 
-use script::table::{WIDTH};
-use script::{Script};
+use script::Script;
+use script::table::WIDTH;
 use uses::walk;
 
 // Reads a text into a lent table and lent entries: how many nodes it has; 0 if it is refused.
 pub fn timing_read(text: &[u8], table: &mut [u32], entries: &mut [u32]) -> u64
     ensures { ReadTo (reading_in text.now table.old entries.old) result table.new entries.new }
 {
-    match reader::read(text, table, entries) {
-        Ok(script) => script.nodes as u64,
-        Err(_) => 0,
-    }
+    let Ok(script) = reader::read(text, table, entries) else {
+        return 0;
+    };
+    script.nodes as u64
 }
 
 // Writes the text of a table into lent bytes: its length; 0 if the table is refused or the bytes are too few.
@@ -49,8 +49,7 @@ pub fn timing_uses(table: &[u32], nodes: usize) -> u64
         return 0;
     }
     let after = walk(table, nodes);
-    let wrong = after.wrong;
-    match wrong {
+    match after.wrong {
         Some(i) => i as u64 + 1,
         None => 0,
     }

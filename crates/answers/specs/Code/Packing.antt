@@ -2,18 +2,17 @@
 use Rattle.std.specs.Prelude.{◌≡◌, refl, ℕ, ◌+◌, ◌<◌, Err, None, Ok, Some}
 use Rattle.std.proofs.Common.{sym, ap, ◌∙◌, add-one}
 use Rattle.script.specs.Answers.{number_of, place_of, kind_of, bits_of}
-use Rattle.script.specs.declared.Ran.{Ran}
+use Rattle.script.specs.Answers.Named.{Checked, Place, Ran}
+use Rattle.script.specs.declared.Ended.{Ended}
 use Rattle.script.specs.declared.Refusal.{Refusal}
 use Rattle.script.specs.declared.Value.{Value}
 use Rattle.answers.specs.Answers.{packed, refused, answer_of_refusal, done, failed, answer_of_check, answer_of_run}
-use Rattle.script.specs.Answers.Named.{Checked}
-use Rattle.script.specs.Answers.Named.{Place}
 
 -- the used count that the answer of a run has
 abbrev pub used_in : Ran → ℕ
-used_in (Ran.Gave v used) = used
-used_in (Ran.Failed i used) = used
-used_in (Ran.Refused r) = 0
+used_in (Ok (Ended.Gave v used)) = used
+used_in (Ok (Ended.Failed i used)) = used
+used_in (Err r) = 0
 
 -- ---- a refusal
 
@@ -36,18 +35,18 @@ module _ {answer : Checked} {r : ℕ} where
 -- ---- the answer of a run
 
 module _ {answer : Ran} where
-  pub gave-few : {v : Value} {n : ℕ} → answer ≡ Ran.Gave v n → used_in answer < 65536 → n < 65536
+  pub gave-few : {v : Value} {n : ℕ} → answer ≡ Ok (Ended.Gave v n) → used_in answer < 65536 → n < 65536
   gave-few e l = rw e at l
 
-  pub failed-few : {at n : ℕ} → answer ≡ Ran.Failed at n → used_in answer < 65536 → n < 65536
+  pub failed-few : {at n : ℕ} → answer ≡ Ok (Ended.Failed at n) → used_in answer < 65536 → n < 65536
   failed-few e l = rw e at l
 
   module _ {r : ℕ} where
-    pub run_gave : {v : Value} {n kind bits : ℕ} → answer ≡ Ran.Gave v n → kind ≡ kind_of v → bits ≡ bits_of v → r ≡ packed done kind n bits → r ≡ answer_of_run answer
+    pub run_gave : {v : Value} {n kind bits : ℕ} → answer ≡ Ok (Ended.Gave v n) → kind ≡ kind_of v → bits ≡ bits_of v → r ≡ packed done kind n bits → r ≡ answer_of_run answer
     run_gave e k b h = h ∙ rw (k, b, e) refl
 
-    pub run_failed : {at n : ℕ} → answer ≡ Ran.Failed at n → r ≡ packed failed 0 n at → r ≡ answer_of_run answer
+    pub run_failed : {at n : ℕ} → answer ≡ Ok (Ended.Failed at n) → r ≡ packed failed 0 n at → r ≡ answer_of_run answer
     run_failed e h = h ∙ ap answer_of_run (sym e)
 
-    pub run_refused : {why : Refusal} → answer ≡ Ran.Refused why → r ≡ answer_of_refusal why → r ≡ answer_of_run answer
+    pub run_refused : {why : Refusal} → answer ≡ Err why → r ≡ answer_of_refusal why → r ≡ answer_of_run answer
     run_refused e h = h ∙ ap answer_of_run (sym e)

@@ -10,7 +10,7 @@ use Rattle.script.specs.Flat.Laws.{length-nodes_in, nodes_in-flat}
 use Rattle.script.specs.Limits.{node_limit, entry_limit, size_of}
 use Rattle.script.specs.Table.{unused, table_test}
 use Rattle.script.specs.declared.Node.{Node}
-use Rattle.script.specs.declared.Ran.{Ran}
+use Rattle.script.specs.Answers.Named.{Ran}
 use Rattle.script.specs.declared.Refusal.{Refusal}
 use Rattle.script.specs.declared.Script.{Script}
 use Rattle.rules.specs.Checking.{path_limit, CheckedBy}
@@ -81,7 +81,7 @@ unfolding check_text
 check_read q r c = c ∙ rw (q.meaning, q.table_is) refl
 
 module _ (values cells : List ℕ) (used : ℕ) where
-  pub run_refused : (text : List ℕ) (why : Refusal) → meaning_of text ≡ refused why → RanTo (run_text text values cells used) (Ran.Refused why) cells
+  pub run_refused : (text : List ℕ) (why : Refusal) → meaning_of text ≡ refused why → RanTo (run_text text values cells used) (Err why) cells
   unfolding run_text
   run_refused text why e = rw e refl
 

@@ -5,7 +5,7 @@ use Rattle.std.proofs.Common.{ap, ◌∙◌}
 use Rattle.script.specs.Flat.{node_width, table_in}
 use Rattle.script.specs.Tree.{root, tree_of}
 use Rattle.script.specs.declared.Node.{Node}
-use Rattle.script.specs.declared.Ran.{Ran}
+use Rattle.script.specs.Answers.Named.{Ran}
 use Rattle.rules.specs.Checking.{path_limit, check, answered, check_table}
 use Rattle.rules.specs.Evaluation.{eval}
 use Rattle.rules.specs.Running.{values_of, finished, ran_by, run_test, run_table}
