@@ -4,6 +4,7 @@
 ghost use Rattle.std.specs.Prelude.{◌≡◌, ◌≤◌, length, IfOk};
 ghost use Rattle.trial.specs.Numbers.{digit_of, number_at, header_at};
 ghost use Rattle.trial.specs.Places.{name_end, text_end};
+ghost use Rattle.trial.specs.Trials.{Trials};
 
 pub mod given;
 
@@ -110,16 +111,18 @@ pub fn read_full(from: &mut impl Read, into: &mut [u8]) -> io::Result<usize>
 }
 
 // Tries all in turn, each by `try_at` at its place, which answers where the next one starts. A malformed one, for which it answers none, ends it.
-pub fn try_all<F: FnMut(usize) -> io::Result<Option<usize>>>(
+pub fn try_all<S, F: Fn(&mut S, usize) -> io::Result<Option<usize>>>(
     rt: &impl Print,
     input: &[u8],
-    mut try_at: F,
+    state: &mut S,
+    try_at: F,
 ) -> io::Result<()>
     requires { F.IsAlwaysCallable try_at }
+    ensures { Trials F.Fn try_at (length input.now) state.old result state.new }
 {
     let mut at = 0;
     while at < input.len() {
-        match try_at(at)? {
+        match try_at(state, at)? {
             Some(next) if at < next => at = next,
             _ => return print!(rt; "malformed\n"),
         }

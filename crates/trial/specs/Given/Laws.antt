@@ -9,6 +9,8 @@ use Rattle.std.proofs.Math.Seq.{split_at, take_all}
 use borrow.Author.Tests.{eq-eqb, ne_eqb}
 use Rattle.trial.specs.declared.given.Byte.{Byte}
 use Rattle.trial.specs.Numbers.{Number}
+use Rattle.trial.specs.Numbers.Laws.{second-most}
+use Rattle.trial.specs.Places.Laws.{name_within, text_within}
 use Rattle.trial.specs.Given.{byte_at, Line, line, after, line_by, bytes_from, line_in, bytes_line}
 
 -- ---- a line: at its start
@@ -94,3 +96,6 @@ line-counted input at out = go (drop at input)
 pub count_most : (input : List ℕ) (at : ℕ) (out : List ℕ) {r : Number} {left : List ℕ} {v next : ℕ} → line r left ≡ bytes_line input at out
     → r ≡ Some (v, next) → v ≤ length out
 count_most input at out e f = rw (← e, f) at (line-counted input at out)
+
+-- what callers know of what was found
+pub ruleset found = (name_within, text_within, second-most)

@@ -2,7 +2,7 @@
 -- nothing.
 use Rattle.std.specs.Prelude.{Bool, true, false, cond, ◌&&◌, List, [], ◌∷◌, ◌≡◌, ℕ, suc, ◌+◌, ◌*◌, ◌-◌, ◌≤◌, ◌<◌, leb, eqb, length, drop, get_or, Option, Some, None, IfSome, option_and_then}
 use Rattle.std.proofs.Math.Path.{refl}
-use Rattle.std.proofs.Common.{sym, ◌∙◌, arith, drop-cons}
+use Rattle.std.proofs.Common.{◌∙◌, arith, drop-cons}
 use Rattle.std.proofs.Math.ListN.{drop_of_length-le}
 use borrow.Author.Tests.{le-leb, lt-leb, leb-true, eq-eqb, ne_eqb}
 use Rattle.trial.specs.declared.Header.{Header}
@@ -136,9 +136,9 @@ header_within input at = first (number_at 9 input at) (number-within 9 input at)
     first None w = tt
     first (Some (v, next)) w = second w.0 next w.1 (number_at 9 input next) (number-within 9 input next)
 
-pub second-most : (input : List ℕ) (at : ℕ) {o : Option Header} {h : Header} → o ≡ header_at input at → o ≡ Some h → h.second ≤ largest
-second-most input at {o} {h} e f =
-    let w : BothWithin largest at (Some h) = rw (sym e ∙ f) at (header_within input at) in
+pub second-most : (input : List ℕ) (at : ℕ) {h : Header} → header_at input at ≡ Some h → h.second ≤ largest
+second-most input at {h} e =
+    let w : BothWithin largest at (Some h) = rw e at (header_within input at) in
     w.1
 
 -- past the end there is none

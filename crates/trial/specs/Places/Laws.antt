@@ -1,7 +1,7 @@
 -- How a name and a text are walked, one byte at a time, and where they end. Assumes nothing.
 use Rattle.std.specs.Prelude.{Bool, true, false, cond, ◌&&◌, List, [], ◌∷◌, ◌≡◌, ℕ, suc, ◌+◌, ◌≤◌, ◌<◌, ltb, eqb, length, drop, get_or, Option, Some, None, IfSome}
 use Rattle.std.proofs.Math.Path.{refl}
-use Rattle.std.proofs.Common.{sym, ◌∙◌, arith, length-drop, drop-cons}
+use Rattle.std.proofs.Common.{arith, length-drop, drop-cons}
 use Rattle.std.proofs.Math.ListN.{drop_of_length-le}
 use borrow.Author.Tests.{lt-ltb, le-ltb, ltb-true, eq-eqb, ne_eqb}
 use Rattle.trial.specs.Places.{line_end, past, name_end, empty_line, text_end}
@@ -44,9 +44,9 @@ line-ends at n i (c ∷ cs) l h = go (eqb c 10) (ltb c 32) (line-ends at n (suc 
     go false false r = r
 
 -- a name that was found has a byte, and ends in the input
-pub name_within : (input : List ℕ) (at : ℕ) {o : Option ℕ} {k : ℕ} → o ≡ name_end input at → o ≡ Some k → (at < k) × (k < length input)
-name_within input at {o} {k} e f =
-    go (line_end at (drop at input)) (line-ends at (at + length (drop at input)) at (drop at input) (omega arith) (omega arith)) (sym e ∙ f)
+pub name_within : (input : List ℕ) (at : ℕ) {k : ℕ} → name_end input at ≡ Some k → (at < k) × (k < length input)
+name_within input at {k} e =
+    go (line_end at (drop at input)) (line-ends at (at + length (drop at input)) at (drop at input) (omega arith) (omega arith)) e
   where
     here : (m : ℕ) → m < at + length (drop at input) → (b : Bool) → ltb at m ≡ b → cond b (Some m) None ≡ Some k → (at < k) × (k < length input)
     here m h true t e = let d = length-drop at input in let l = ltb-true at m t in (grind arith, grind arith)
@@ -86,9 +86,9 @@ line-within at n starts i (c ∷ cs) l h = go (starts && eqb c 10) (line-within 
     go true r = (l, omega arith)
     go false r = r
 
-pub text_within : (input : List ℕ) (at : ℕ) {o : Option ℕ} {k : ℕ} → o ≡ text_end input at → o ≡ Some k → (at ≤ k) × (k < length input)
-text_within input at {o} {k} e f =
+pub text_within : (input : List ℕ) (at : ℕ) {k : ℕ} → text_end input at ≡ Some k → (at ≤ k) × (k < length input)
+text_within input at {k} e =
     let w : Ends at (at + length (drop at input)) (Some k) =
-    rw (sym e ∙ f) at (line-within at (at + length (drop at input)) true at (drop at input) (omega arith) (omega arith)) in
+    rw e at (line-within at (at + length (drop at input)) true at (drop at input) (omega arith) (omega arith)) in
     let d = length-drop at input in
     (w.0, omega arith)
