@@ -5,7 +5,7 @@ ghost use Rattle.std.specs.Prelude.{◌≡◌, ◌^◌, ◌<◌};
 ghost use Rattle.answers.specs.Answers.{packed, answer_of_refusal, answer_of_check, answer_of_run};
 ghost use Rattle.answers.specs.Code.Packing.{used_in};
 
-use script::{Checked, Place, Ran, Refusal};
+use script::{Ended, Refusal};
 
 // The four fields of an answer in one number.
 fn pack(status: u64, number: u64, place: u64, value: u64) -> u64
@@ -21,29 +21,29 @@ fn refusal_answer(why: Refusal) -> u64
 {
     let number = why.number() as u64;
     match why.place() {
-        Place::Nowhere => pack(1, number, 0, 0),
-        Place::At(i) => pack(1, number, i as u64 + 1, 0),
+        None => pack(1, number, 0, 0),
+        Some(i) => pack(1, number, i as u64 + 1, 0),
     }
 }
 
 // The answer of a check: the type's code, or the refusal.
-pub fn check_answer(answer: Checked) -> u64
+pub fn check_answer(answer: Result<u32, Refusal>) -> u64
     ensures { result ≡ answer_of_check answer }
 {
     match answer {
-        Checked::Accepted(code) => pack(0, 0, 0, code as u64),
-        Checked::Refused(why) => refusal_answer(why),
+        Ok(code) => pack(0, 0, 0, code as u64),
+        Err(why) => refusal_answer(why),
     }
 }
 
 // The answer of a run: the value or the node of the error state, with the used count; or the refusal.
-pub fn run_answer(answer: Ran) -> u64
+pub fn run_answer(answer: Result<Ended, Refusal>) -> u64
     requires { used_in answer < 65536 }
     ensures { result ≡ answer_of_run answer }
 {
     match answer {
-        Ran::Gave(v, count) => pack(0, v.kind() as u64, count as u64, v.bits() as u64),
-        Ran::Failed(at, count) => pack(2, 0, count as u64, at as u64),
-        Ran::Refused(why) => refusal_answer(why),
+        Ok(Ended::Gave(v, count)) => pack(0, v.kind() as u64, count as u64, v.bits() as u64),
+        Ok(Ended::Failed(at, count)) => pack(2, 0, count as u64, at as u64),
+        Err(why) => refusal_answer(why),
     }
 }

@@ -3,9 +3,9 @@
 use Rattle.std.specs.Prelude.{List, ◌≡◌, ℕ, ◌/◌, min, length}
 use Rattle.script.specs.Flat.{node_width}
 use Rattle.script.specs.Table.{Table}
-use Rattle.script.specs.declared.Reading.{Reading}
 use Rattle.text.specs.Reading.{reading}
 use Rattle.copies.specs.Copies.{copied, places, table_of}
+use Rattle.script.specs.Answers.Named.{Reading}
 
 -- two places more than a script can use
 abbrev pub place_count : ℕ

@@ -7,7 +7,7 @@ ghost use Rattle.record_texts.specs.Texts.{Writes};
 ghost use Rattle.call_texts.specs.Tables.{table_as, ReadBack};
 
 use copies::{copy_in, copy_out};
-use script::{Node, Reading, Script, Writing};
+use script::{Node, Script, Refusal};
 
 // Places of a table of records.
 pub const PLACES: usize = Script::NODES + 2;
@@ -27,7 +27,7 @@ pub fn write(
     entries: &[u32],
     entry_count: usize,
     out: &mut [u8],
-) -> Writing
+) -> Result<usize, Refusal>
     ensures { Writes (table_as flat.now nodes entries.now entry_count) out.old result out.new }
 {
     let mut table = [STALE; PLACES];
@@ -36,7 +36,7 @@ pub fn write(
 }
 
 // Reads a text, and leaves the places of the table in flat form, as many as fit.
-pub fn read(text: &[u8], flat: &mut [u32], entries: &mut [u32]) -> Reading
+pub fn read(text: &[u8], flat: &mut [u32], entries: &mut [u32]) -> Result<Script, Refusal>
     ensures { ReadBack text.now flat.old (length entries.old) result flat.new entries.new }
 {
     let mut table = [STALE; PLACES];

@@ -7,10 +7,10 @@ ghost use Rattle.call_texts.specs.Tables.{table_as};
 
 use call_texts::{PLACES, STALE};
 use copies::copy_in;
-use script::{Checked, Ran};
+use script::{Ended, Refusal};
 
 // Checks a table.
-pub fn check(flat: &[u32], nodes: usize, entries: &[u32], entry_count: usize) -> Checked
+pub fn check(flat: &[u32], nodes: usize, entries: &[u32], entry_count: usize) -> Result<u32, Refusal>
     ensures { Checks (table_as flat.now nodes entries.now entry_count) result }
 {
     let mut table = [STALE; PLACES];
@@ -27,7 +27,7 @@ pub fn run(
     values: &[u8],
     cells: &mut [u8],
     used: u32,
-) -> Ran
+) -> Result<Ended, Refusal>
     ensures { Runs (table_as flat.now nodes entries.now entry_count) values.now cells.old used result cells.new }
 {
     let mut table = [STALE; PLACES];

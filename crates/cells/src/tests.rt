@@ -30,12 +30,10 @@ fn all_valid(bytes: &[u8], count: usize, used: u32) -> bool
     requires { 5 * count ≤ length bytes.now }
     ensures { result ≡ all_valid used count bytes.now }
 {
-    let mut i = 0;
-    while i < count {
+    for i in 0..count {
         if !valid(bytes, i, used) {
             return false;
         }
-        i += 1;
     }
     true
 }
@@ -44,10 +42,7 @@ fn all_valid(bytes: &[u8], count: usize, used: u32) -> bool
 pub fn right_cells(cells: &[u8], used: u32) -> bool
     ensures { result ≡ right_cells cells.now used }
 {
-    if used <= USED {
-        return LENT <= cells.len() / 5;
-    }
-    false
+    used <= USED && LENT <= cells.len() / 5
 }
 
 // Not 34: as many values as entries, whole cells, all values and used cells valid.

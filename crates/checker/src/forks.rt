@@ -1,7 +1,7 @@
 // Going back to a fork of a path: its numbers are set again, the variables are read back from the frames, and the false branch is next.
 ghost use Rattle.checker.specs.Code.Going.{Restorable, Restores, Resumable, Resumes};
 
-use frames::forks::{restore_one, rewind, without_guard};
+use frames::forks::{assume, restore_one, rewind};
 use table::node_at;
 use workspace::{AWAITS, BASE, DEPTH, FRAME, GOAL};
 
@@ -26,6 +26,6 @@ pub fn resume(table: &[u32], space: &mut [u32], frames: &mut [u32]) -> u32
     rewind(space, frames);
     restore(space, frames);
     let at = FRAME * (frames[GOAL] as usize);
-    without_guard(space, frames[at + 3]);
+    assume(space, frames[at + 3], false);
     node_at(table, frames[at] as usize).c
 }

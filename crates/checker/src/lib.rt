@@ -16,8 +16,7 @@ mod path;
 mod steps;
 
 use nodes::check_node;
-use script::Checked;
-use script::table::Tested;
+use script::Refusal;
 use terms::VARIABLES;
 use tests::test_table;
 
@@ -30,10 +29,8 @@ fn entry_types(entries: &[u32], entry_count: usize, space: &mut [u32])
     requires entry_count_in_bounds_2 { 2 * entry_count ≤ length space.old }
     ensures { Placed entries.now space.old entry_count space.new }
 {
-    let mut i = 0;
-    while i < entry_count {
+    for i in 0..entry_count {
         space[2 * i] = entries[i];
-        i += 1;
     }
 }
 
@@ -44,7 +41,7 @@ fn check_tested(
     entries: &[u32],
     entry_count: usize,
     limit: u32,
-) -> Checked
+) -> Result<u32, Refusal>
     requires { table_test (table_in table.now nodes entries.now entry_count) ≡ none }
     ensures { CheckedBy limit table.now nodes entries.now entry_count result }
 {
@@ -60,17 +57,20 @@ fn check_within(
     entries: &[u32],
     entry_count: usize,
     limit: u32,
-) -> Checked
+) -> Result<u32, Refusal>
     ensures { CheckedBy limit table.now nodes entries.now entry_count result }
 {
-    match test_table(table, nodes, entries, entry_count) {
-        Tested::Refused(why) => Checked::Refused(why),
-        Tested::Passed => check_tested(table, nodes, entries, entry_count, limit),
-    }
+    test_table(table, nodes, entries, entry_count)?;
+    check_tested(table, nodes, entries, entry_count, limit)
 }
 
 // Checks a table that is known to pass its tests, as one that was read from a text.
-pub fn check_passed(table: &[u32], nodes: usize, entries: &[u32], entry_count: usize) -> Checked
+pub fn check_passed(
+    table: &[u32],
+    nodes: usize,
+    entries: &[u32],
+    entry_count: usize,
+) -> Result<u32, Refusal>
     requires { table_test (table_in table.now nodes entries.now entry_count) ≡ none }
     ensures { CheckedBy path_limit table.now nodes entries.now entry_count result }
 {
@@ -78,7 +78,12 @@ pub fn check_passed(table: &[u32], nodes: usize, entries: &[u32], entry_count: u
 }
 
 // Checks a table: accepted with its type, or why not. Nothing lent changes.
-pub fn check(table: &[u32], nodes: usize, entries: &[u32], entry_count: usize) -> Checked
+pub fn check(
+    table: &[u32],
+    nodes: usize,
+    entries: &[u32],
+    entry_count: usize,
+) -> Result<u32, Refusal>
     ensures { CheckedBy path_limit table.now nodes entries.now entry_count result }
 {
     check_within(table, nodes, entries, entry_count, PATHS)

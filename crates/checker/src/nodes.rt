@@ -21,18 +21,17 @@ use crate::steps::{Move, climb, leaf_up};
 use frames::descend;
 use frames::forks::none_left;
 use notes::{note, recall};
+use script::Refusal;
 use script::table::{IF, LEAVES, SYM, TYPED};
-use script::{Checked, Refusal};
 use symbolic::typed_result;
 use table::{has_one, node_at};
 use types::{bind_type, if_type, leaf_type, one_type, right_type, two_type};
-use workspace::{DEPTH, FRAMES, Known, SPACE, Step};
+use workspace::{DEPTH, FRAMES, SPACE};
 use write_log::consistent;
 
-// How a path ended: with a refusal of the `sym`, as the last path, or with another one after it, which goes on from a node; the type is the path's.
+// How a path ended: as the last path, or with another one after it, which goes on from a node; the type is the path's.
 #[derive(Clone, Copy)]
 pub enum Walked {
-    Wrong(Refusal),
     Last(u32),
     More(u32, u32),
 }
@@ -44,22 +43,21 @@ fn path_end(
     frames: &mut [u32],
     n: u32,
     t: u32,
-    first: bool,
-    wanted: u32,
-) -> Walked
+    wanted: Option<u32>,
+) -> Result<Walked, Refusal>
     requires { AtEnd table.now space.old frames.old t }
-    ensures { PathEnds table.now n t first wanted space.old frames.old result space.new frames.new }
+    ensures { PathEnds table.now n t wanted space.old frames.old result space.new frames.new }
 {
     if !consistent(space) {
-        return Walked::Wrong(Refusal::InconsistentLog(n));
+        return Err(Refusal::InconsistentLog(n));
     }
-    if !right_type(t, first, wanted) {
-        return Walked::Wrong(Refusal::PathTypesDiffer(n));
+    if !right_type(t, wanted) {
+        return Err(Refusal::PathTypesDiffer(n));
     }
     if none_left(frames) {
-        return Walked::Last(t);
+        return Ok(Walked::Last(t));
     }
-    Walked::More(t, resume(table, space, frames))
+    Ok(Walked::More(t, resume(table, space, frames)))
 }
 
 // Follows a path of the `sym` n from node m on to its end.
@@ -71,18 +69,16 @@ fn walk(
     limit: u32,
     n: u32,
     m: u32,
-    first: bool,
-    wanted: u32,
-) -> Walked
+    wanted: Option<u32>,
+) -> Result<Walked, Refusal>
     requires { Walkable limit table.now space.old frames.old n m }
-    ensures { Walks limit table.now n m first wanted space.old frames.old result space.new frames.new }
+    ensures { Walks limit table.now n m wanted space.old frames.old result space.new frames.new }
 {
     let mut next = m;
     loop {
         let inner = descend(table, frames, next);
-        match arrive(table, space, frames, limit, inner) {
-            Move::Stopped(why) => return Walked::Wrong(why),
-            Move::Value(u, _) => return path_end(table, space, frames, n, u, first, wanted),
+        match arrive(table, space, frames, limit, inner)? {
+            Move::Value(u, _) => return path_end(table, space, frames, n, u, wanted),
             Move::Operand(k) => next = k,
         }
     }
@@ -90,7 +86,14 @@ fn walk(
 
 // The `sym` n in typed mode: its paths in order, at most `limit`.
 #[cycle(arrive_block_type_block_up_check_node_check_several_operand_type_paths_walk)]
-fn paths(table: &[u32], types: &[u32], depth: usize, limit: u32, n: u32, a: u32) -> Checked
+fn paths(
+    table: &[u32],
+    types: &[u32],
+    depth: usize,
+    limit: u32,
+    n: u32,
+    a: u32,
+) -> Result<u32, Refusal>
     requires checkable { Checkable table.now types.now depth a }
     requires a_lt_n { a < n }
     ensures { result ≡ verdict n limit (leaves (exec limit (tree_in table.now a) (symbols 0 (types_on types.now depth)) (start depth))) }
@@ -98,45 +101,39 @@ fn paths(table: &[u32], types: &[u32], depth: usize, limit: u32, n: u32, a: u32)
     let mut space = [0u32; SPACE];
     let mut frames = [0u32; FRAMES];
     start(types, &mut space, depth);
-    let mut followed = 0;
-    let mut wanted = 0;
+    let mut wanted = None;
     let mut next = a;
-    while followed < limit {
-        match walk(
-            table,
-            &mut space,
-            &mut frames,
-            limit,
-            n,
-            next,
-            followed == 0,
-            wanted,
-        ) {
-            Walked::Wrong(why) => return Checked::Refused(why),
-            Walked::Last(t) => return Checked::Accepted(t),
+    for _followed in 0..limit {
+        match walk(table, &mut space, &mut frames, limit, n, next, wanted)? {
+            Walked::Last(t) => return Ok(t),
             Walked::More(t, m) => {
-                wanted = t;
+                wanted = Some(t);
                 next = m;
             }
         }
-        followed += 1;
     }
-    Checked::Refused(Refusal::TooManyPaths(n))
+    Err(Refusal::TooManyPaths(n))
 }
 
 // The answer, its numbers copied one by one: copied as they stand, they would be read in pieces that were not written as such, and a processor waits for that.
-fn copied(answer: Checked) -> Checked
+fn copied(answer: Result<u32, Refusal>) -> Result<u32, Refusal>
     ensures { result ≡ answer }
 {
     match answer {
-        Checked::Accepted(t) => Checked::Accepted(t),
-        Checked::Refused(why) => Checked::Refused(why),
+        Ok(t) => Ok(t),
+        Err(why) => Err(why),
     }
 }
 
 // The type of an operand m of a node with several.
 #[cycle(arrive_block_type_block_up_check_node_check_several_operand_type_paths_walk)]
-fn operand_type(table: &[u32], space: &mut [u32], depth: usize, limit: u32, m: u32) -> Checked
+fn operand_type(
+    table: &[u32],
+    space: &mut [u32],
+    depth: usize,
+    limit: u32,
+    m: u32,
+) -> Result<u32, Refusal>
     requires { Checkable table.now space.old depth m }
     ensures { Judged (check limit (tree_in table.now m) (types_on space.old depth)) depth space.old result space.new }
 {
@@ -152,35 +149,37 @@ fn operand_type(table: &[u32], space: &mut [u32], depth: usize, limit: u32, m: u
 
 // Checks node n in typed mode, which has two operands or three.
 #[cycle(arrive_block_type_block_up_check_node_check_several_operand_type_paths_walk)]
-fn check_several(table: &[u32], space: &mut [u32], depth: usize, limit: u32, n: u32) -> Checked
+fn check_several(
+    table: &[u32],
+    space: &mut [u32],
+    depth: usize,
+    limit: u32,
+    n: u32,
+) -> Result<u32, Refusal>
     requires checkable { Checkable table.now space.old depth n }
     requires bound { 2 ≤ node_operands (node_in table.now n).kind }
     ensures { Judged (check limit (tree_in table.now n) (types_on space.old depth)) depth space.old result space.new }
 {
     let node = node_at(table, n as usize);
-    match operand_type(table, space, depth, limit, node.a) {
-        Checked::Refused(why) => Checked::Refused(why),
-        Checked::Accepted(t) => {
-            let inner = bind_type(space, depth, node, t);
-            match operand_type(table, space, inner, limit, node.b) {
-                Checked::Refused(why) => Checked::Refused(why),
-                Checked::Accepted(u) => {
-                    if node.kind == IF {
-                        return match operand_type(table, space, depth, limit, node.c) {
-                            Checked::Refused(why) => Checked::Refused(why),
-                            Checked::Accepted(v) => if_type(t, u, v, n),
-                        };
-                    }
-                    two_type(node.kind, t, u, n)
-                }
-            }
-        }
+    let t = operand_type(table, space, depth, limit, node.a)?;
+    let inner = bind_type(space, depth, node, t);
+    let u = operand_type(table, space, inner, limit, node.b)?;
+    if node.kind == IF {
+        let v = operand_type(table, space, depth, limit, node.c)?;
+        return if_type(t, u, v, n);
     }
+    two_type(node.kind, t, u, n)
 }
 
 // Checks node n in typed mode: the environment is the types of the first `depth` variables.
 #[cycle(arrive_block_type_block_up_check_node_check_several_operand_type_paths_walk)]
-pub fn check_node(table: &[u32], space: &mut [u32], depth: usize, limit: u32, n: u32) -> Checked
+pub fn check_node(
+    table: &[u32],
+    space: &mut [u32],
+    depth: usize,
+    limit: u32,
+    n: u32,
+) -> Result<u32, Refusal>
     requires { Checkable table.now space.old depth n }
     ensures { Judged (check limit (tree_in table.now n) (types_on space.old depth)) depth space.old result space.new }
 {
@@ -192,54 +191,62 @@ pub fn check_node(table: &[u32], space: &mut [u32], depth: usize, limit: u32, n:
         return copied(paths(table, space, depth, limit, n, node.a));
     }
     if has_one(node.kind) {
-        return match check_node(table, space, depth, limit, node.a) {
-            Checked::Refused(why) => Checked::Refused(why),
-            Checked::Accepted(t) => one_type(node.kind, t, n),
-        };
+        let t = check_node(table, space, depth, limit, node.a)?;
+        return one_type(node.kind, t, n);
     }
     copied(check_several(table, space, depth, limit, n))
 }
 
 // The type of a typed block on a path, whose operand is node a: what the notes say, or else what the typed rules give, which is then noted.
 #[cycle(arrive_block_type_block_up_check_node_check_several_operand_type_paths_walk)]
-fn block_type(table: &[u32], space: &mut [u32], depth: usize, limit: u32, a: u32) -> Checked
+fn block_type(
+    table: &[u32],
+    space: &mut [u32],
+    depth: usize,
+    limit: u32,
+    a: u32,
+) -> Result<u32, Refusal>
     requires checkable { Checkable table.now space.old depth a }
     requires noting { Noting limit table.now space.old depth }
     ensures { Blocked limit table.now (check limit (tree_in table.now a) (types_on space.old depth)) depth space.old result space.new }
 {
-    match recall(space, depth, a) {
-        Known::Typed(t) => Checked::Accepted(t),
-        Known::Nothing => match check_node(table, space, depth, limit, a) {
-            Checked::Refused(why) => Checked::Refused(why),
-            Checked::Accepted(t) => {
-                note(table, space, depth, a, t);
-                Checked::Accepted(t)
-            }
-        },
+    if let Some(t) = recall(space, depth, a) {
+        return Ok(t);
     }
+    let t = check_node(table, space, depth, limit, a)?;
+    note(table, space, depth, a, t);
+    Ok(t)
 }
 
 // The typed block n on a path: a symbol of its type goes up.
 #[cycle(arrive_block_type_block_up_check_node_check_several_operand_type_paths_walk)]
-fn block_up(table: &[u32], space: &mut [u32], frames: &mut [u32], limit: u32, n: u32) -> Move
+fn block_up(
+    table: &[u32],
+    space: &mut [u32],
+    frames: &mut [u32],
+    limit: u32,
+    n: u32,
+) -> Result<Move, Refusal>
     requires enterable { Enterable limit table.now space.old frames.old n }
     requires n_value { (node_in table.now n).kind ≡ kind_for typed_form }
     ensures { Arrives limit table.now n space.old frames.old result space.new frames.new }
 {
     let a = node_at(table, n as usize).a;
     let depth = space[DEPTH] as usize;
-    match block_type(table, space, depth, limit, a) {
-        Checked::Refused(why) => Move::Stopped(why),
-        Checked::Accepted(t) => match typed_result(t, space, n) {
-            Step::Stopped(why) => Move::Stopped(why),
-            Step::Gave(u, q) => climb(table, space, frames, u, q),
-        },
-    }
+    let t = block_type(table, space, depth, limit, a)?;
+    let (u, q) = typed_result(t, space, n)?;
+    climb(table, space, frames, u, q)
 }
 
 // A node on a path that waits for no operand: a leaf or a typed block.
 #[cycle(arrive_block_type_block_up_check_node_check_several_operand_type_paths_walk)]
-fn arrive(table: &[u32], space: &mut [u32], frames: &mut [u32], limit: u32, n: u32) -> Move
+fn arrive(
+    table: &[u32],
+    space: &mut [u32],
+    frames: &mut [u32],
+    limit: u32,
+    n: u32,
+) -> Result<Move, Refusal>
     requires enterable { Enterable limit table.now space.old frames.old n }
     requires n_value { waits_for (node_in table.now n).kind ≡ false }
     ensures { Arrives limit table.now n space.old frames.old result space.new frames.new }

@@ -6,33 +6,33 @@ ghost use Rattle.workspace.specs.Rules.{Decidable, Chooses, Started};
 ghost use Rattle.workspace.specs.State.{types_on};
 
 use decision::decide;
-use frames::forks::{with_guard, without_guard};
+use frames::forks::assume;
 use rows::Decision;
 use script::Refusal;
 use symbolic::fresh;
-use terms::references::INITIAL;
+use terms::references::Origin;
 use terms::{CONSTANT, push};
 use workspace::{BASE, Branch, CONDITION, DEPTH, KNOWN};
 
 // The decision at an `if` whose condition has type t and place q.
-pub fn choose(space: &mut [u32], t: u32, q: u32, n: u32) -> Branch
+pub fn choose(space: &mut [u32], t: u32, q: u32, n: u32) -> Result<Branch, Refusal>
     requires { Decidable space.old t q }
     ensures { Chooses n t q space.old result space.new }
 {
     if t != 1 {
-        return Branch::Neither(Refusal::WrongType(n));
+        return Err(Refusal::WrongType(n));
     }
     let condition = space[CONDITION];
     match decide(space, KNOWN, condition, q) {
-        Decision::TooMany => Branch::Neither(Refusal::TooManyAtoms(n)),
-        Decision::Both => Branch::Both,
+        Decision::TooMany => Err(Refusal::TooManyAtoms(n)),
+        Decision::Both => Ok(Branch::Both),
         Decision::OnlyTrue => {
-            with_guard(space, q);
-            Branch::First
+            assume(space, q, true);
+            Ok(Branch::First)
         }
         Decision::OnlyFalse => {
-            without_guard(space, q);
-            Branch::Second
+            assume(space, q, false);
+            Ok(Branch::Second)
         }
     }
 }
@@ -45,10 +45,8 @@ pub fn start(types: &[u32], space: &mut [u32], depth: usize)
     ensures { Started depth (types_on types.now depth) space.new }
 {
     push(space, CONSTANT, 1, 0);
-    let mut i = 0;
-    while i < depth {
+    for i in 0..depth {
         start_variable(types, space, i);
-        i += 1;
     }
     space[BASE] = depth as u32;
     space[DEPTH] = depth as u32;
@@ -62,7 +60,7 @@ fn start_variable(types: &[u32], space: &mut [u32], i: usize)
     ensures { Starting types.now space.new (suc i) }
 {
     let t = types[2 * i];
-    let place = fresh(space, t, INITIAL);
+    let place = fresh(space, t, Origin::Initial);
     space[2 * i] = t;
     space[2 * i + 1] = place;
 }

@@ -9,7 +9,7 @@ ghost use Rattle.workspace.specs.State.{depth_in};
 ghost use Rattle.checker.specs.Code.Going.{bound_to, unbound, moved_by, Branched, Lastable, Lasts, Returnable, Backs, Climbs, Leafable, LeafArrives};
 
 use crate::path::choose;
-use frames::forks::{fork, with_guard};
+use frames::forks::{assume, fork};
 use frames::{leave, wait};
 use known::forget;
 use script::Refusal;
@@ -18,27 +18,32 @@ use symbolic::{leaf, one, two};
 use table::{has_one, node_at};
 use workspace::{Branch, DEPTH, FOR_BODY, FOR_FIRST, FOR_NEXT, GOAL, KNOWN, Step};
 
-// What comes next on a path: a value's type and place, an operand to execute, or a refusal.
+// What comes next on a path: a value's type and place, or an operand to execute.
 #[derive(Clone, Copy)]
 pub enum Move {
     Value(u32, u32),
     Operand(u32),
-    Stopped(Refusal),
 }
 
 // The step of a rule.
-fn moved(step: Step) -> Move
+fn moved(step: Step) -> Result<Move, Refusal>
     ensures { result ≡ moved_by step }
 {
-    match step {
-        Step::Gave(t, q) => Move::Value(t, q),
-        Step::Stopped(why) => Move::Stopped(why),
-    }
+    let (t, q) = step?;
+    Ok(Move::Value(t, q))
 }
 
 // An `if` whose condition gave a value of type t at place q: the branch that is taken. Where both can be, the
 // condition gets the guard, and what is known of it is forgotten.
-fn branch(space: &mut [u32], frames: &mut [u32], b: u32, c: u32, t: u32, q: u32, n: u32) -> Move
+fn branch(
+    space: &mut [u32],
+    frames: &mut [u32],
+    b: u32,
+    c: u32,
+    t: u32,
+    q: u32,
+    n: u32,
+) -> Result<Move, Refusal>
     requires decidable { Decidable space.old t q }
     requires waitable { Waitable frames.old }
     requires frames_size_in_bounds { frames_size ≤ length frames.old }
@@ -47,15 +52,14 @@ fn branch(space: &mut [u32], frames: &mut [u32], b: u32, c: u32, t: u32, q: u32,
     ensures { Branched b c n t q space.old frames.old space.new frames.new result }
 {
     wait(frames, n, FOR_NEXT, t, q);
-    match choose(space, t, q, n) {
-        Branch::First => Move::Operand(b),
-        Branch::Second => Move::Operand(c),
-        Branch::Neither(why) => Move::Stopped(why),
+    match choose(space, t, q, n)? {
+        Branch::First => Ok(Move::Operand(b)),
+        Branch::Second => Ok(Move::Operand(c)),
         Branch::Both => {
             fork(space, frames);
             forget(space, KNOWN);
-            with_guard(space, q);
-            Move::Operand(b)
+            assume(space, q, true);
+            Ok(Move::Operand(b))
         }
     }
 }
@@ -82,19 +86,34 @@ fn unbind(space: &mut [u32])
 }
 
 // Node n, whose last operand gave a value of type u at place s, and the first one of type t at place q.
-fn last(kind: u32, awaits: u32, t: u32, q: u32, u: u32, s: u32, space: &mut [u32], n: u32) -> Move
+fn last(
+    kind: u32,
+    awaits: u32,
+    t: u32,
+    q: u32,
+    u: u32,
+    s: u32,
+    space: &mut [u32],
+    n: u32,
+) -> Result<Move, Refusal>
     requires { Lastable awaits space.old t q u s }
     ensures { Lasts kind awaits n t q u s space.old result space.new }
 {
     if awaits == FOR_BODY {
         unbind(space);
-        return Move::Value(u, s);
+        return Ok(Move::Value(u, s));
     }
     moved(two(kind, t, q, u, s, space, n))
 }
 
 // The value of type t at place q goes to the frame that waits for it.
-fn back(table: &[u32], space: &mut [u32], frames: &mut [u32], t: u32, q: u32) -> Move
+fn back(
+    table: &[u32],
+    space: &mut [u32],
+    frames: &mut [u32],
+    t: u32,
+    q: u32,
+) -> Result<Move, Refusal>
     requires returnable { Returnable table.now space.old frames.old t q }
     requires bound { 1 ≤ frame_in frames.old }
     ensures { Backs table.now t q space.old frames.old result space.new frames.new }
@@ -114,41 +133,49 @@ fn back(table: &[u32], space: &mut [u32], frames: &mut [u32], t: u32, q: u32) ->
     if node.kind == LET {
         wait(frames, n, FOR_BODY, t, q);
         bind(space, t, q);
-        return Move::Operand(node.b);
+        return Ok(Move::Operand(node.b));
     }
     wait(frames, n, FOR_NEXT, t, q);
-    Move::Operand(node.b)
+    Ok(Move::Operand(node.b))
 }
 
 // The value of type t at place q goes up until an operand is next; a value that no frame waits for is the path's.
-pub fn climb(table: &[u32], space: &mut [u32], frames: &mut [u32], t: u32, q: u32) -> Move
+pub fn climb(
+    table: &[u32],
+    space: &mut [u32],
+    frames: &mut [u32],
+    t: u32,
+    q: u32,
+) -> Result<Move, Refusal>
     requires { Returnable table.now space.old frames.old t q }
     ensures { Climbs table.now t q space.old frames.old result space.new frames.new }
 {
     let mut u = t;
     let mut s = q;
     while frames[GOAL] != 0 {
-        match back(table, space, frames, u, s) {
+        match back(table, space, frames, u, s)? {
             Move::Value(w, r) => {
                 u = w;
                 s = r;
             }
-            Move::Operand(m) => return Move::Operand(m),
-            Move::Stopped(why) => return Move::Stopped(why),
+            Move::Operand(m) => return Ok(Move::Operand(m)),
         }
     }
-    Move::Value(u, s)
+    Ok(Move::Value(u, s))
 }
 
 // The leaf n on a path: its value goes up.
-pub fn leaf_up(table: &[u32], space: &mut [u32], frames: &mut [u32], n: u32) -> Move
+pub fn leaf_up(
+    table: &[u32],
+    space: &mut [u32],
+    frames: &mut [u32],
+    n: u32,
+) -> Result<Move, Refusal>
     requires { Leafable table.now space.old frames.old n }
     ensures { LeafArrives table.now n space.old frames.old result space.new frames.new }
 {
     let node = node_at(table, n as usize);
     let depth = space[DEPTH] as usize;
-    match leaf(node, space, depth, n) {
-        Step::Stopped(why) => Move::Stopped(why),
-        Step::Gave(t, q) => climb(table, space, frames, t, q),
-    }
+    let (t, q) = leaf(node, space, depth, n)?;
+    climb(table, space, frames, t, q)
 }

@@ -9,23 +9,22 @@
 // Its line has fields parted by tabs: the name, then `accepted` and the letters of the type, or `refused`, number, and place or `-`.
 #![tactic(auto)]
 
+use script::Script;
 use script::table::WIDTH;
-use script::{Reading, Script};
 use std::io;
-use trial::{name_end, read_full, say, say_checked, say_refusal, text_end, try_all};
+use trial::{name_end, read_full, say, say_checked, text_end, try_all};
 
 // Reads a text, checks it if it could be read, and prints what came of it. The line is left open.
 fn try_text(rt: &impl Print, text: &[u8]) -> io::Result<()> {
     let mut table = [0u32; WIDTH * Script::NODES];
     let mut entries = [0u32; Script::ENTRIES];
-    match call_texts::read(text, &mut table, &mut entries) {
-        Reading::Read(script) => {
-            let nodes = script.nodes;
-            let count = script.entries;
-            say_checked(rt, calls::check(&table, nodes, &entries, count))
-        }
-        Reading::Refused(r) => say_refusal(rt, r),
-    }
+    let checked = call_texts::read(text, &mut table, &mut entries).and_then(|script| calls::check(
+        &table,
+        script.nodes,
+        &entries,
+        script.entries,
+    ));
+    say_checked(rt, checked)
 }
 
 // Tries the script at `at`, and answers where the next one starts; none after a malformed one.

@@ -26,16 +26,6 @@ pub fn put_record(table: &mut [Node], i: usize, n: Node)
     table[i] = n;
 }
 
-// The smaller of two numbers.
-pub fn lesser(a: usize, b: usize) -> usize
-    ensures { result ≡ min a b }
-{
-    if a < b {
-        return a;
-    }
-    b
-}
-
 // The node at place i of a table in flat form, `false` where it has no such place.
 fn place_at(flat: &[u32], i: usize) -> Node
     ensures { result ≡ node_at (nodes_in flat.now) i }
@@ -50,11 +40,9 @@ fn place_at(flat: &[u32], i: usize) -> Node
 pub fn copy_out(table: &[Node], flat: &mut [u32]) -> usize
     ensures { CopiedOut table.now flat.old result flat.new }
 {
-    let n = lesser(table.len(), flat.len() / WIDTH);
-    let mut i = 0;
-    while i < n {
+    let n = table.len().min(flat.len() / WIDTH);
+    for i in 0..n {
         put_node(flat, i, record_at(table, i));
-        i += 1;
     }
     n
 }
@@ -63,9 +51,7 @@ pub fn copy_out(table: &[Node], flat: &mut [u32]) -> usize
 pub fn copy_in(table: &mut [Node], flat: &[u32])
     ensures { table.new ≡ places (length table.old) flat.now }
 {
-    let mut at = 0;
-    while at < table.len() {
+    for at in 0..table.len() {
         put_record(table, at, place_at(flat, at));
-        at += 1;
     }
 }

@@ -9,7 +9,6 @@ ghost use Rattle.text.specs.Code.Scan.{ends_field, field_in, starts_with, number
 pub mod words;
 
 use script::Script;
-use text::Said;
 
 pub const TAB: u8 = 9;
 
@@ -30,14 +29,12 @@ fn field_end(text: &[u8], from: usize) -> usize
     requires { from ≤ length text.now }
     ensures { result ≡ from + length (field_in (drop from text.now)) }
 {
-    let mut e = from;
-    while e < text.len() {
+    for e in from..text.len() {
         if ends_field(text[e]) {
             return e;
         }
-        e += 1;
     }
-    e
+    text.len()
 }
 
 // The field that starts at `from`, as that part of the text.
@@ -61,77 +58,69 @@ pub fn byte_is(text: &[u8], at: usize, b: u8) -> bool
 }
 
 // The number that the digits of a field make, at most `limit`.
-fn digits(f: &[u8], limit: u32) -> Said
+fn digits(f: &[u8], limit: u32) -> Option<u32>
     ensures { result ≡ said_by (number_after limit 0 f.now) }
 {
     let mut n: u64 = 0;
-    let mut i = 0;
-    while i < f.len() {
-        let c = f[i];
+    for &c in f {
         if c < b'0' {
-            return Said::Nothing;
+            return None;
         }
         if b'9' < c {
-            return Said::Nothing;
+            return None;
         }
         n = 10 * n + ((c - b'0') as u64);
         if (limit as u64) < n {
-            return Said::Nothing;
+            return None;
         }
-        i += 1;
     }
-    Said::Number(n as u32)
+    Some(n as u32)
 }
 
 // The number that a field says: decimal without leading zeros, at most `limit`.
-pub fn number(f: &[u8], limit: u32) -> Said
+pub fn number(f: &[u8], limit: u32) -> Option<u32>
     ensures { result ≡ said_by (decimal_up_to limit f.now) }
 {
     if f.len() == 0 {
-        return Said::Nothing;
+        return None;
     }
     if f.len() == 1 {
         return digits(f, limit);
     }
     if f[0] == b'0' {
-        return Said::Nothing;
+        return None;
     }
     digits(f, limit)
 }
 
 // The type's code that the last letter makes after the letters r.
-fn last_letter(t: u32, c: u8) -> Said
+fn last_letter(t: u32, c: u8) -> Option<u32>
     requires { t ≤ 30 }
     ensures { result ≡ said_by (type_up_to type_limit (last_letter t c [])) }
 {
     if c == b'i' {
-        return Said::Number(t);
+        return Some(t);
     }
     if c == b'b' {
-        return Said::Number(t + 1);
+        return Some(t + 1);
     }
-    Said::Nothing
+    None
 }
 
 // The code of the type that a field says: 0 to 15 letters r, then i or b.
-pub fn type_code(f: &[u8]) -> Said
+pub fn type_code(f: &[u8]) -> Option<u32>
     ensures { result ≡ said_by (type_of f.now) }
 {
-    let mut references: u32 = 0;
-    let mut i = 0;
-    while i < f.len() {
-        let c = f[i];
-        i += 1;
+    for (i, &c) in f.iter().enumerate() {
         if c != b'r' {
-            if i < f.len() {
-                return Said::Nothing;
+            if i + 1 < f.len() {
+                return None;
             }
-            return last_letter(2 * references, c);
+            return last_letter(2 * i as u32, c);
         }
-        if Script::REFERENCES <= references {
-            return Said::Nothing;
+        if Script::REFERENCES as usize <= i {
+            return None;
         }
-        references += 1;
     }
-    Said::Nothing
+    None
 }

@@ -4,7 +4,6 @@ ghost use Rattle.text.specs.Fields.{same_bytes, kind_named};
 ghost use Rattle.text.specs.Code.Scan.{said_by};
 
 use script::table::KINDS;
-use text::Said;
 
 // The words in the order of the kinds, each in five places.
 pub const WORDS: [u8; 5 * KINDS as usize] =
@@ -17,33 +16,21 @@ pub const LENGTHS: [usize; KINDS as usize] = [3, 4, 5, 3, 3, 2, 3, 3, 2, 3, 3, 3
 pub fn same(a: &[u8], b: &[u8]) -> bool
     ensures { result ≡ same_bytes a.now b.now }
 {
-    if a.len() != b.len() {
-        return false;
-    }
-    let mut i = 0;
-    while i < a.len() {
-        if a[i] != b[i] {
-            return false;
-        }
-        i += 1;
-    }
-    true
+    a == b
 }
 
 // The kind whose word the field is.
-pub fn kind_of(f: &[u8]) -> Said
+pub fn kind_of(f: &[u8]) -> Option<u32>
     ensures { result ≡ said_by (kind_named f.now) }
 {
     let words = WORDS;
     let lengths = LENGTHS;
-    let mut k: u32 = 0;
-    while k < KINDS {
+    for k in 0..KINDS {
         let from = 5 * (k as usize);
         let end = from + lengths[k as usize];
         if same(&words[from..end], f) {
-            return Said::Number(k);
+            return Some(k);
         }
-        k += 1;
     }
-    Said::Nothing
+    None
 }

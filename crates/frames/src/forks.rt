@@ -1,6 +1,7 @@
 // The forks of a path: what is kept where both branches of an `if` can be taken, what is set again there, and the condition on each branch. A fork has the
 // frame of the `if` and the path's own numbers, seven small ones in two.
 ghost use Rattle.std.specs.Prelude.{◌≡◌, ◌+◌, ◌*◌, ◌-◌, ◌≤◌, ◌<◌, eqb, length};
+ghost use Rattle.script.specs.Tests.{pick};
 ghost use Rattle.terms.specs.Terms.{Space, of_conjunction, of_exclusion};
 ghost use Rattle.workspace.specs.Forks.{forked_in, Forkable, Forks, Rewound, RestoredOne};
 ghost use Rattle.workspace.specs.Paths.{assumed};
@@ -74,31 +75,14 @@ pub fn none_left(frames: &[u32]) -> bool
     frames[FORKED] == 0
 }
 
-// The condition becomes a row of it and the guard.
-fn assume(space: &mut [u32], op: u32, guard: u32)
+// The condition becomes a row of it and the guard: where the guard holds their conjunction, where it does not the condition without the guard.
+pub fn assume(space: &mut [u32], guard: u32, holds: bool)
     requires space { Space space.old 1 }
     requires space_size_in_bounds { space_size ≤ length space.old }
-    ensures { space.new ≡ assumed space.old op guard }
+    ensures { space.new ≡ assumed space.old (pick holds of_conjunction of_exclusion) guard }
 {
     let condition = space[CONDITION];
+    let op = if holds { CONJUNCTION } else { EXCLUSION };
     let row = push(space, op, condition, guard);
     space[CONDITION] = row;
-}
-
-// The condition where the guard holds: their conjunction.
-pub fn with_guard(space: &mut [u32], guard: u32)
-    requires space { Space space.old 1 }
-    requires space_size_in_bounds { space_size ≤ length space.old }
-    ensures { space.new ≡ assumed space.old of_conjunction guard }
-{
-    assume(space, CONJUNCTION, guard);
-}
-
-// The condition where it does not: the condition without the guard.
-pub fn without_guard(space: &mut [u32], guard: u32)
-    requires space { Space space.old 1 }
-    requires space_size_in_bounds { space_size ≤ length space.old }
-    ensures { space.new ≡ assumed space.old of_exclusion guard }
-{
-    assume(space, EXCLUSION, guard);
 }

@@ -54,10 +54,7 @@ pub fn leave(frames: &mut [u32]) -> Frame
 fn waits(kind: u32) -> bool
     ensures { result ≡ waits_for kind }
 {
-    if kind < LEAVES {
-        return false;
-    }
-    kind != TYPED
+    LEAVES <= kind && kind != TYPED
 }
 
 // Node m, its first operand, that one's first and so on wait, down to one that need not. Answers that one.

@@ -1,13 +1,12 @@
 -- Demand 3 (docs/RUNS.md) read off the contracts of the two calls that a host in C makes: what `teqharis_check` accepts, `teqharis_run` takes to a value,
 -- within the limits, on all cells and entry values that some typing fits. Assumes nothing.
-use Rattle.std.specs.Prelude.{Bool, ◌&&◌, refl, ℕ, length}
+use Rattle.std.specs.Prelude.{Bool, ◌&&◌, refl, ℕ, length, Err, Ok}
 use Rattle.std.proofs.Math.Bool.{true}
 use mathlib.Core.List.{List}
 use Rattle.std.proofs.Math.Path.{◌≡◌}
 use Rattle.std.proofs.Common.{sym, ap, subst, ◌∙◌, arith, take_at}
 use Rattle.script.specs.Answers.{kind_of, bits_of}
 use Rattle.script.specs.Limits.{node_limit, entry_limit}
-use Rattle.script.specs.declared.Checked.{Checked}
 use Rattle.script.specs.declared.Value.{Value}
 use Rattle.rules.specs.Checking.{path_limit}
 use Rattle.rules.specs.Demand3.{EndsWithValue}
@@ -18,6 +17,7 @@ use Rattle.text.specs.Grammar.{Meaning, means, refused, meaning_of}
 use Rattle.text.specs.Reading.{table_read, entries_read}
 use Rattle.answers.specs.Answers.{packed, done, answer_of_check, answer_of_run, AnswersRun}
 use Rattle.host.specs.Texts.{check_meant, check_text, run_meant, run_text}
+use Rattle.script.specs.Answers.Named.{Checked}
 
 -- the types of a text's entries
 abbrev pub entries_in : List ℕ → List ℕ
@@ -41,7 +41,7 @@ pub record AnswersValue (typing : List ℕ) (type b : ℕ) (left : List ℕ) : T
 
 module _ (text values cells : List ℕ) (used type : ℕ) (typing : List ℕ) where
   pub accepted_text-ends_with_value :
-      check_text text ≡ Checked.Accepted type
+      check_text text ≡ Ok type
       → within_limits text values cells used ≡ true
       → Fits typing (values_of used cells)
       → HaveTypes typing (values_of (length (entries_in text)) values) (entries_in text)
@@ -49,7 +49,7 @@ module _ (text values cells : List ℕ) (used type : ℕ) (typing : List ℕ) wh
   unfolding check_text run_text
   accepted_text-ends_with_value = go (meaning_of text)
     where
-      go : (m : Meaning) → check_meant m ≡ Checked.Accepted type → (right_cells cells used && right_values (length (entries_read m)) values cells used) ≡ true
+      go : (m : Meaning) → check_meant m ≡ Ok type → (right_cells cells used && right_values (length (entries_read m)) values cells used) ≡ true
           → Fits typing (values_of used cells) → HaveTypes typing (values_of (length (entries_read m)) values) (entries_read m) → EndsWithValue typing type (run_meant m values cells used)
       go (means es ns) accepted within fits typed =
           accepted_ends_with_value path_limit (table_read es ns node_limit entry_limit) type values cells used typing accepted within fits
@@ -58,9 +58,9 @@ module _ (text values cells : List ℕ) (used type : ℕ) (typing : List ℕ) wh
 
   -- ---- over the answers' numbers
 
-  accepted_by : (c : Checked) → packed done 0 0 type ≡ answer_of_check c → c ≡ Checked.Accepted type
-  accepted_by (Checked.Accepted t) e = let q : t ≡ type = omega arith in ap Checked.Accepted q
-  accepted_by (Checked.Refused r) e = absurd (omega arith)
+  accepted_by : (c : Checked) → packed done 0 0 type ≡ answer_of_check c → c ≡ Ok type
+  accepted_by (Ok t) e = let q : t ≡ type = omega arith in ap Ok q
+  accepted_by (Err r) e = absurd (omega arith)
 
   -- `a` is what `teqharis_check` answers, `b` and `left` are what `teqharis_run` answers and leaves
   pub checked_answers_with_value : (a b : ℕ) (left : List ℕ)

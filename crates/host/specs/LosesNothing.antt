@@ -1,19 +1,18 @@
 -- An answer as a number loses nothing: what a host takes apart from the number is the report of the answer, for every text, all values and all
 -- cells. Assumes nothing.
-use Rattle.std.specs.Prelude.{List, ◌≡◌, refl, ℕ, zero, suc, ◌/◌, ◌%◌, ◌<◌}
+use Rattle.std.specs.Prelude.{List, ◌≡◌, refl, ℕ, zero, suc, ◌/◌, ◌%◌, ◌<◌, None, Some}
 use Rattle.std.proofs.Common.{ap, ap₂, ◌∙◌, arith}
 use Rattle.script.specs.Answers.{number_of, place_of, kind_of, bits_of, Report, type_is, value_is, error_at, refused_with, report_of_check, report_of_run}
 use Rattle.script.specs.Answers.Bounds.{PlaceBelow, no_place, place-below, number-most, kind-most}
-use Rattle.script.specs.declared.Checked.{Checked}
-use Rattle.script.specs.declared.Place.{Place}
-use Rattle.script.specs.declared.Place.TheVariants.{Nowhere, At}
-use Rattle.script.specs.declared.Ran.{Ran}
+use Rattle.script.specs.Answers.Named.{Ran}
 use Rattle.script.specs.declared.Refusal.{Refusal}
 use Rattle.rules.specs.Checking.Bounds.{Bounded, code, refusal}
 use Rattle.rules.specs.Running.{lent_limit}
 use Rattle.answers.specs.Answers.{packed, place_field, answer_of_refusal, answer_of_check, answer_of_run}
 use Rattle.host.specs.Texts.Bounds.{place_limit, check-bounded, RanWithin, gave-within, failed-within, refused-within, run_within}
 use Rattle.host.specs.Texts.{check_text, run_text, check_text_report, run_text_report}
+use Rattle.script.specs.Answers.Named.{Checked}
+use Rattle.script.specs.Answers.Named.{Place}
 
 -- ---- how a host takes an answer apart
 
@@ -30,8 +29,8 @@ abbrev pub value_in : ℕ → ℕ
 value_in a = a / 4294967296
 
 abbrev pub place_by : ℕ → Place
-place_by zero = Nowhere
-place_by (suc i) = At i
+place_by zero = None
+place_by (suc i) = Some i
 
 abbrev pub refused_in : ℕ → Report
 refused_in a = refused_with (number_in a) (place_by (place_in a))
@@ -69,8 +68,8 @@ module _ (s n p v : ℕ) (hs : s < 256) (hn : n < 256) (hp : p < 65536) where
 -- ---- refusals
 
 place_back : (p : Place) → place_by (place_field p) ≡ p
-place_back Nowhere = refl
-place_back (At i) = refl
+place_back None = refl
+place_back (Some i) = refl
 
 field-few : {p : Place} → PlaceBelow place_limit p → place_field p < 65536
 field-few no_place = omega arith

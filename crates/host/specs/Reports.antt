@@ -3,10 +3,10 @@
 use Rattle.std.specs.Prelude.{List, ◌≡◌, ℕ}
 use Rattle.std.proofs.Common.{ap}
 use Rattle.script.specs.Answers.{report_of_check, report_of_run}
-use Rattle.script.specs.declared.Checked.{Checked}
-use Rattle.script.specs.declared.Ran.{Ran}
+use Rattle.script.specs.Answers.Named.{Ran}
 use Rattle.rules.specs.Running.{Run}
 use Rattle.host.specs.Texts.{check_text, run_text, check_text_report, run_text_report, RanTo}
+use Rattle.script.specs.Answers.Named.{Checked}
 
 pub check_reports : (text : List ℕ) {r : Checked} → r ≡ check_text text → report_of_check r ≡ check_text_report text
 check_reports text p = ap report_of_check p

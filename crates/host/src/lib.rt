@@ -7,39 +7,27 @@ ghost use Rattle.answers.specs.Answers.{answer_of_check, AnswersRun};
 ghost use Rattle.host.specs.Texts.{check_text, run_text, RanTo};
 
 use answers::{check_answer, run_answer};
-use script::table::WIDTH;
-use script::{Checked, Ran, Reading, Script};
+use script::table::{WIDTH};
+use script::{Ended, Refusal, Script};
 
 // Reads a text and checks it: accepted with its type, or why not.
-pub fn check_text(text: &[u8]) -> Checked
+pub fn check_text(text: &[u8]) -> Result<u32, Refusal>
     ensures { result ≡ check_text text.now }
 {
     let mut table = [0u32; WIDTH * Script::NODES];
     let mut entries = [0u32; Script::ENTRIES];
-    match reader::read(text, &mut table, &mut entries) {
-        Reading::Read(script) => {
-            let nodes = script.nodes;
-            let count = script.entries;
-            checker::check_passed(&table, nodes, &entries, count)
-        }
-        Reading::Refused(why) => Checked::Refused(why),
-    }
+    let script = reader::read(text, &mut table, &mut entries)?;
+    checker::check_passed(&table, script.nodes, &entries, script.entries)
 }
 
 // Reads a text and runs it on entry values and cells, of which the first `used` are used: a value or the error state, or why not.
-pub fn run_text(text: &[u8], values: &[u8], cells: &mut [u8], used: u32) -> Ran
+pub fn run_text(text: &[u8], values: &[u8], cells: &mut [u8], used: u32) -> Result<Ended, Refusal>
     ensures { RanTo (run_text text.now values.now cells.old used) result cells.new }
 {
     let mut table = [0u32; WIDTH * Script::NODES];
     let mut entries = [0u32; Script::ENTRIES];
-    match reader::read(text, &mut table, &mut entries) {
-        Reading::Read(script) => {
-            let nodes = script.nodes;
-            let count = script.entries;
-            runner::run_passed(&table, nodes, &entries, count, values, cells, used)
-        }
-        Reading::Refused(why) => Ran::Refused(why),
-    }
+    let script = reader::read(text, &mut table, &mut entries)?;
+    runner::run_passed(&table, script.nodes, &entries, script.entries, values, cells, used)
 }
 
 // Checks a script text. The answer is a number that include/teqharis.h takes apart.

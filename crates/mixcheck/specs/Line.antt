@@ -1,12 +1,11 @@
 -- The line that the checking program prints (docs/CHECKS.md, 'The checking program'): `accepted` and the type, or `refused`, the number and the place or `-`; a tab
 -- between fields, LF at the end. Assumes nothing.
-use Rattle.std.specs.Prelude.{List, [], ◌∷◌, ◌++◌, ◌≡◌, ℕ, ◌≤◌, length, drop}
+use Rattle.std.specs.Prelude.{List, [], ◌∷◌, ◌++◌, ◌≡◌, ℕ, ◌≤◌, length, drop, Err, None, Ok, Some}
 use Rattle.script.specs.Answers.{number_of, place_of}
-use Rattle.script.specs.declared.Checked.{Checked}
-use Rattle.script.specs.declared.Place.{Place}
-use Rattle.script.specs.declared.Place.TheVariants.{Nowhere, At}
 use Rattle.text.specs.Bytes.{lf, tab}
 use Rattle.text.specs.Writing.{digits, type_text}
+use Rattle.script.specs.Answers.Named.{Checked}
+use Rattle.script.specs.Answers.Named.{Place}
 pub mod Laws
 
 -- accepted
@@ -22,12 +21,12 @@ abbrev pub dash : ℕ
 dash = 45
 
 abbrev pub place_text : Place → List ℕ
-place_text Nowhere = dash ∷ []
-place_text (At i) = digits i
+place_text None = dash ∷ []
+place_text (Some i) = digits i
 
 abbrev pub line_of : Checked → List ℕ
-line_of (Checked.Accepted t) = accepted_word ++ (tab ∷ type_text t) ++ (lf ∷ [])
-line_of (Checked.Refused r) = refused_word ++ (tab ∷ digits (number_of r)) ++ (tab ∷ place_text (place_of r)) ++ (lf ∷ [])
+line_of (Ok t) = accepted_word ++ (tab ∷ type_text t) ++ (lf ∷ [])
+line_of (Err r) = refused_word ++ (tab ∷ digits (number_of r)) ++ (tab ∷ place_text (place_of r)) ++ (lf ∷ [])
 
 -- no line is longer
 abbrev pub line_limit : ℕ

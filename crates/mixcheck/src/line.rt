@@ -1,20 +1,19 @@
 // The line that the program prints for a text.
-ghost use Rattle.std.specs.Prelude.{◌∷◌, ◌+◌, ◌^◌, ◌≤◌, ◌<◌, length};
-ghost use Rattle.script.specs.declared.Checked.TheVariants.{Accepted, Refused};
+ghost use Rattle.std.specs.Prelude.{◌∷◌, ◌+◌, ◌^◌, ◌≤◌, ◌<◌, length, Err, Ok};
 ghost use Rattle.text.specs.Bytes.{tab};
 ghost use Rattle.text.specs.Code.Output.{Put};
 ghost use Rattle.host.specs.Texts.{check_text};
 ghost use Rattle.mixcheck.specs.Line.{place_text, line_of, line_limit, PutLine};
 
 use output::{put, put_bytes, put_number, put_type};
-use script::{Checked, Place, Refusal};
+use script::Refusal;
 
 // No line is longer.
 pub const MOST: usize = 26;
 
 // `accepted` and the type.
 fn put_accepted(out: &mut [u8], code: u32) -> usize
-    ensures { Put (line_of (Accepted code)) 0 out.old result out.new }
+    ensures { Put (line_of (Ok code)) 0 out.old result out.new }
 {
     let after_word = put_bytes(out, 0, b"accepted\t");
     let after_type = put_type(out, after_word, code);
@@ -23,24 +22,24 @@ fn put_accepted(out: &mut [u8], code: u32) -> usize
 }
 
 // A place or `-`, after a tab.
-fn put_place(out: &mut [u8], at: usize, place: Place) -> usize
+fn put_place(out: &mut [u8], at: usize, place: Option<u32>) -> usize
     requires { at + length (tab ∷ place_text place) < 2 ^ 64 }
     ensures { Put (tab ∷ place_text place) at out.old result out.new }
 {
     put(out, at, b'\t');
     let next = at + 1;
     match place {
-        Place::Nowhere => {
+        None => {
             put(out, next, b'-');
             next + 1
         }
-        Place::At(i) => put_number(out, next, i),
+        Some(i) => put_number(out, next, i),
     }
 }
 
 // `refused`, the number and the place.
 fn put_refused(out: &mut [u8], why: Refusal) -> usize
-    ensures { Put (line_of (Refused why)) 0 out.old result out.new }
+    ensures { Put (line_of (Err why)) 0 out.old result out.new }
 {
     let after_word = put_bytes(out, 0, b"refused\t");
     let after_number = put_number(out, after_word, why.number());
@@ -55,7 +54,7 @@ pub fn put_line(text: &[u8], out: &mut [u8]) -> usize
     ensures { PutLine (line_of (check_text text.now)) out.old result out.new }
 {
     match host::check_text(text) {
-        Checked::Accepted(code) => put_accepted(out, code),
-        Checked::Refused(why) => put_refused(out, why),
+        Ok(code) => put_accepted(out, code),
+        Err(why) => put_refused(out, why),
     }
 }

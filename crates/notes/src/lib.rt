@@ -15,16 +15,13 @@ ghost use Rattle.workspace.specs.Places.{note_limit, space_size};
 use script::Node;
 use script::table::{IF, LEAVES, VAR};
 use table::{has_one, node_at};
-use workspace::{BASE, KEPT, Known, NAMES, NOTE, NOTES, TURN};
+use workspace::{BASE, KEPT, NAMES, NOTE, NOTES, TURN};
 
 // A node whose operands are no nodes is variable k.
 fn is_variable(node: Node, k: u32) -> bool
     ensures { result ≡ leaf_mentions (form_of node.kind) node k }
 {
-    if node.kind == VAR {
-        return node.a == k;
-    }
-    false
+    node.kind == VAR && node.a == k
 }
 
 // Whether node n mentions variable k.
@@ -57,13 +54,11 @@ fn agrees(space: &[u32], at: usize) -> bool
     ensures { result ≡ agrees_on space.now at }
 {
     let count = space[at + 3] as usize;
-    let mut i = 0;
-    while i < count {
+    for i in 0..count {
         let k = space[at + 4 + 2 * i] as usize;
         if space[2 * k] != space[at + 5 + 2 * i] {
             return false;
         }
-        i += 1;
     }
     true
 }
@@ -73,29 +68,21 @@ fn is_of(space: &[u32], at: usize, depth: usize, a: u32) -> bool
     requires { Recallable space.now at depth }
     ensures { result ≡ is_of space.now at depth a }
 {
-    if space[at] != a {
-        return false;
-    }
-    if space[at + 1] as usize != depth + 1 {
-        return false;
-    }
-    agrees(space, at)
+    space[at] == a && space[at + 1] as usize == depth + 1 && agrees(space, at)
 }
 
 // What the notes say of node a with so many variables.
-pub fn recall(space: &[u32], depth: usize, a: u32) -> Known
+pub fn recall(space: &[u32], depth: usize, a: u32) -> Option<u32>
     requires { Recallables space.now depth }
     ensures { result ≡ recalled_on space.now depth a 0 note_limit }
 {
-    let mut i = 0;
-    while i < KEPT {
+    for i in 0..KEPT {
         let at = NOTES + NOTE * i;
         if is_of(space, at, depth, a) {
-            return Known::Typed(space[at + 2]);
+            return Some(space[at + 2]);
         }
-        i += 1;
     }
-    Known::Nothing
+    None
 }
 
 // Names variable k and its type in the note at this place, behind `count` others.
@@ -107,25 +94,23 @@ fn name_type(space: &mut [u32], at: usize, count: usize, k: u32)
     space[at + 5 + 2 * count] = space[2 * (k as usize)];
 }
 
-// Names the variables bound on the path that node a mentions, with their types, in the note at this place. Answers how many, or one more than a note can name.
-fn name_types(table: &[u32], space: &mut [u32], depth: usize, a: u32, at: usize) -> usize
+// Names the variables bound on the path that node a mentions, with their types, in the note at this place. Answers how many, or nothing if they are too many.
+fn name_types(table: &[u32], space: &mut [u32], depth: usize, a: u32, at: usize) -> Option<usize>
     requires formed_nodes { FormedNodes table.now (suc a) }
     requires nameable { Nameable space.old depth at }
     ensures { Names (tree_in table.now a) depth at space.old result space.new }
 {
     let mut count = 0;
-    let mut k = space[BASE];
-    while (k as usize) < depth {
+    for k in space[BASE]..depth as u32 {
         if mentions(table, a, k) {
             if count == NAMES {
-                return NAMES + 1;
+                return None;
             }
             name_type(space, at, count, k);
             count += 1;
         }
-        k += 1;
     }
-    count
+    Some(count)
 }
 
 // Notes that node a has type t with so many variables, in place of the oldest note; not if it mentions too many.
@@ -138,13 +123,11 @@ pub fn note(table: &[u32], space: &mut [u32], depth: usize, a: u32, t: u32)
     let turn = space[TURN] as usize % KEPT;
     let at = NOTES + NOTE * turn;
     space[at + 1] = 0;
-    let count = name_types(table, space, depth, a, at);
-    if NAMES < count {
-        return;
+    if let Some(count) = name_types(table, space, depth, a, at) {
+        space[at] = a;
+        space[at + 1] = depth as u32 + 1;
+        space[at + 2] = t;
+        space[at + 3] = count as u32;
+        space[TURN] = turn as u32 + 1;
     }
-    space[at] = a;
-    space[at + 1] = depth as u32 + 1;
-    space[at + 2] = t;
-    space[at + 3] = count as u32;
-    space[TURN] = turn as u32 + 1;
 }

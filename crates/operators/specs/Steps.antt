@@ -1,6 +1,6 @@
 -- The steps of a run as the code makes them: values held in lent bytes, what a step answers and leaves in the cells, and evaluation by the form of a
 -- node: a leaf; the operand that comes after the first; the rule after the last. Assumes nothing.
-use Rattle.std.specs.Prelude.{◌≡◌, ℕ, suc, ◌+◌, ◌*◌, ◌%◌, ◌^◌, ◌≤◌, true, false, List, length, take}
+use Rattle.std.specs.Prelude.{◌≡◌, ℕ, suc, ◌+◌, ◌*◌, ◌%◌, ◌^◌, ◌≤◌, true, false, List, length, take, Some, None, Ok, Err}
 use Rattle.std.proofs.Math.ListN.{get_elem?}
 use Rattle.script.specs.Code.Forms.{form_of, node_in, tree_in, bound_on}
 use Rattle.script.specs.Flat.{FormedNodes}
@@ -13,11 +13,9 @@ use Rattle.rules.specs.Evaluation.{Outcome, gave, failed, after, found, unary_on
 use Rattle.rules.specs.Evaluation.Laws.{cells_of}
 use Rattle.rules.specs.Running.{all_bytes, values_of, stored, lent_limit}
 use Rattle.rules.specs.Running.Laws.{InRange, AllInRange}
-use Rattle.operators.specs.declared.Next.{Next}
-use Rattle.operators.specs.declared.Next.TheVariants.{Operand, Wrong}
+use Rattle.operators.specs.Named.{Next}
 use Rattle.operators.specs.declared.Parts.{Parts}
-use Rattle.operators.specs.declared.Step.{Step}
-use Rattle.operators.specs.declared.Step.TheVariants.{Gave, Failed}
+use Rattle.operators.specs.Named.{Step}
 pub mod Operators
 pub mod Values
 
@@ -42,14 +40,14 @@ pub record Variables (env : List ℕ) (depth more : ℕ) : Type 0 where
 -- ---- what a step answers, and what it leaves in the cells
 
 abbrev pub whole_of : Parts → Step
-whole_of (Parts.Word w used) = Gave (Word w) used
-whole_of (Parts.Truth b used) = Gave (Truth b) used
-whole_of (Parts.Location l used) = Gave (Location l) used
-whole_of (Parts.Failed n used) = Failed n used
+whole_of (Parts.Word w used) = Ok (Word w, used)
+whole_of (Parts.Truth b used) = Ok (Truth b, used)
+whole_of (Parts.Location l used) = Ok (Location l, used)
+whole_of (Parts.Failed n used) = Err (n, used)
 
 abbrev pub step_of : Outcome → Step
-step_of (gave v cs) = Gave v (length cs)
-step_of (failed n cs) = Failed n (length cs)
+step_of (gave v cs) = Ok (v, length cs)
+step_of (failed n cs) = Err (n, length cs)
 
 pub record Does (o : Outcome) (r : Step) (cells left : List ℕ) : Type 0 where
   pub answer : r ≡ step_of o
@@ -100,21 +98,21 @@ two_on (binary_form o) n v w cs = binary_on n o v w cs
 
 -- the operand that comes after the first, which gave v: `b`, or the branch that is taken; a condition that is no truth is wrong
 abbrev pub branch_of : Value → ℕ → ℕ → Next
-branch_of (Word w) b c = Wrong
-branch_of (Truth true) b c = Operand b
-branch_of (Truth false) b c = Operand c
-branch_of (Location l) b c = Wrong
+branch_of (Word w) b c = None
+branch_of (Truth true) b c = Some b
+branch_of (Truth false) b c = Some c
+branch_of (Location l) b c = None
 
 unfoldable pub next_on : Form → Value → Node → Next
-next_on int_form v m = Operand m.b
-next_on var_form v m = Operand m.b
+next_on int_form v m = Some m.b
+next_on var_form v m = Some m.b
 next_on if_form v m = branch_of v m.b m.c
-next_on let_form v m = Operand m.b
-next_on typed_form v m = Operand m.b
-next_on sym_form v m = Operand m.b
-next_on (truth_form t) v m = Operand m.b
-next_on (unary_form o) v m = Operand m.b
-next_on (binary_form o) v m = Operand m.b
+next_on let_form v m = Some m.b
+next_on typed_form v m = Some m.b
+next_on sym_form v m = Some m.b
+next_on (truth_form t) v m = Some m.b
+next_on (unary_form o) v m = Some m.b
+next_on (binary_form o) v m = Some m.b
 
 -- the bytes hold these variables, and the first ones as before
 pub record Bound (env : List ℕ) (depth : ℕ) (vs : List Value) (left : List ℕ) (count : ℕ) : Type 0 where
@@ -126,8 +124,8 @@ pub record Bound (env : List ℕ) (depth : ℕ) (vs : List Value) (left : List �
 
 -- what is left of node n once its first operand gave v, where env is the environment of the next one
 unfoldable pub rest_by : Next → List ℕ → Form → ℕ → Value → List Value → List Value → Outcome
-rest_by Wrong table f n v env cs = failed n cs
-rest_by (Operand k) table f n v env cs = after (eval (tree_in table k) env cs) λ w cs₁. two_on f n v w cs₁
+rest_by None table f n v env cs = failed n cs
+rest_by (Some k) table f n v env cs = after (eval (tree_in table k) env cs) λ w cs₁. two_on f n v w cs₁
 
 abbrev pub rest_on : List ℕ → ℕ → Node → Value → List Value → List Value → Outcome
 rest_on table n m v env cs = rest_by (next_on (form_of m.kind) v m) table (form_of m.kind) n v (bound_on m v env) cs

@@ -15,14 +15,9 @@ pub mod steps;
 use cells::{load, store};
 use script::table::{ADD, AND, EQ, GET, INT, NOT, REF, SET, TRUE, VAR};
 use script::{Node, Value};
-use std::num::wrapping_add_u32;
 
 // What a node comes to: a value and the used count, or the node of the error state and the used count.
-#[derive(Clone, Copy)]
-pub enum Step {
-    Gave(Value, u32),
-    Failed(u32, u32),
-}
+pub type Step = Result<(Value, u32), (u32, u32)>;
 
 // A step with its value's number beside the others. This is how a step is handed up: a value inside it would be written in two pieces and read as one, and
 // a processor waits where these meet.
@@ -34,13 +29,6 @@ pub enum Parts {
     Failed(u32, u32),
 }
 
-// The operand of a node that comes after its first, or a condition that is no truth.
-#[derive(Clone, Copy)]
-pub enum Next {
-    Operand(u32),
-    Wrong,
-}
-
 // `var`: the value at place k of the environment.
 fn variable(environment: &[u8], depth: usize, k: u32, used: u32, n: u32) -> Step
     requires { 5 * depth ≤ length environment.now }
@@ -48,9 +36,9 @@ fn variable(environment: &[u8], depth: usize, k: u32, used: u32, n: u32) -> Step
 {
     let i = k as usize;
     if i < depth {
-        return Step::Gave(load(environment, i), used);
+        return Ok((load(environment, i), used));
     }
-    Step::Failed(n, used)
+    Err((n, used))
 }
 
 // A node whose operands are no nodes: `int`, `true`, `false` and `var`.
@@ -60,10 +48,10 @@ pub fn leaf(node: Node, environment: &[u8], depth: usize, used: u32, n: u32) -> 
 {
     let kind = node.kind;
     match kind {
-        INT => Step::Gave(Value::Word(node.a), used),
-        TRUE => Step::Gave(Value::Truth(true), used),
+        INT => Ok((Value::Word(node.a), used)),
+        TRUE => Ok((Value::Truth(true), used)),
         VAR => variable(environment, depth, node.a, used, n),
-        _ => Step::Gave(Value::Truth(false), used),
+        _ => Ok((Value::Truth(false), used)),
     }
 }
 
@@ -72,9 +60,8 @@ fn negation(v: Value, used: u32, n: u32) -> Step
     ensures { Says (unary_on n not_op v) used result }
 {
     match v {
-        Value::Word(_) => Step::Failed(n, used),
-        Value::Truth(b) => Step::Gave(Value::Truth(!b), used),
-        Value::Location(_) => Step::Failed(n, used),
+        Value::Truth(b) => Ok((Value::Truth(!b), used)),
+        _ => Err((n, used)),
     }
 }
 
@@ -85,7 +72,7 @@ fn make_cell(v: Value, cells: &mut [u8], used: u32) -> Step
     ensures { (n : ℕ) → Does (unary_on n ref_op v (values_of used cells.old)) result cells.old cells.new }
 {
     store(cells, used as usize, v);
-    Step::Gave(Value::Location(used), used + 1)
+    Ok((Value::Location(used), used + 1))
 }
 
 // `get`.
@@ -93,16 +80,13 @@ fn read_cell(v: Value, cells: &[u8], used: u32, n: u32) -> Step
     requires { Cells cells.now used 0 }
     ensures { Does (unary_on n get_op v (values_of used cells.now)) result cells.now cells.now }
 {
-    match v {
-        Value::Word(_) => Step::Failed(n, used),
-        Value::Truth(_) => Step::Failed(n, used),
-        Value::Location(l) => {
-            if l < used {
-                return Step::Gave(load(cells, l as usize), used);
-            }
-            Step::Failed(n, used)
-        }
+    let Value::Location(l) = v else {
+        return Err((n, used));
+    };
+    if l < used {
+        return Ok((load(cells, l as usize), used));
     }
+    Err((n, used))
 }
 
 // A node with one operand, which gave v; a block is its operand.
@@ -115,7 +99,7 @@ pub fn one(kind: u32, v: Value, cells: &mut [u8], used: u32, n: u32) -> Step
         NOT => negation(v, used, n),
         REF => make_cell(v, cells, used),
         GET => read_cell(v, cells, used, n),
-        _ => Step::Gave(v, used),
+        _ => Ok((v, used)),
     }
 }
 
@@ -123,14 +107,9 @@ pub fn one(kind: u32, v: Value, cells: &mut [u8], used: u32, n: u32) -> Step
 fn sum(v: Value, w: Value, used: u32, n: u32) -> Step
     ensures { Says (binary_on n add_op v w) used result }
 {
-    match v {
-        Value::Word(a) => match w {
-            Value::Word(b) => Step::Gave(Value::Word(wrapping_add_u32(a, b)), used),
-            Value::Truth(_) => Step::Failed(n, used),
-            Value::Location(_) => Step::Failed(n, used),
-        },
-        Value::Truth(_) => Step::Failed(n, used),
-        Value::Location(_) => Step::Failed(n, used),
+    match (v, w) {
+        (Value::Word(a), Value::Word(b)) => Ok((Value::Word(a.wrapping_add(b)), used)),
+        _ => Err((n, used)),
     }
 }
 
@@ -139,23 +118,18 @@ fn equality(v: Value, w: Value, used: u32, n: u32) -> Step
     ensures { Says (binary_on n eq_op v w) used result }
 {
     if v.kind() == w.kind() {
-        return Step::Gave(Value::Truth(v.bits() == w.bits()), used);
+        return Ok((Value::Truth(v.bits() == w.bits()), used));
     }
-    Step::Failed(n, used)
+    Err((n, used))
 }
 
 // `and`.
 fn conjunction(v: Value, w: Value, used: u32, n: u32) -> Step
     ensures { Says (binary_on n and_op v w) used result }
 {
-    match v {
-        Value::Word(_) => Step::Failed(n, used),
-        Value::Truth(a) => match w {
-            Value::Word(_) => Step::Failed(n, used),
-            Value::Truth(b) => Step::Gave(Value::Truth(a && b), used),
-            Value::Location(_) => Step::Failed(n, used),
-        },
-        Value::Location(_) => Step::Failed(n, used),
+    match (v, w) {
+        (Value::Truth(a), Value::Truth(b)) => Ok((Value::Truth(a && b), used)),
+        _ => Err((n, used)),
     }
 }
 
@@ -165,17 +139,14 @@ fn write_cell(v: Value, w: Value, cells: &mut [u8], used: u32, n: u32) -> Step
     requires in_range { InRange w }
     ensures { Does (binary_on n set_op v w (values_of used cells.old)) result cells.old cells.new }
 {
-    match v {
-        Value::Word(_) => Step::Failed(n, used),
-        Value::Truth(_) => Step::Failed(n, used),
-        Value::Location(l) => {
-            if l < used {
-                store(cells, l as usize, w);
-                return Step::Gave(w, used);
-            }
-            Step::Failed(n, used)
-        }
+    let Value::Location(l) = v else {
+        return Err((n, used));
+    };
+    if l < used {
+        store(cells, l as usize, w);
+        return Ok((w, used));
     }
+    Err((n, used))
 }
 
 // A node whose first operand gave v and the next one w; a `let` is its second operand, an `if` the branch that ran.
@@ -189,6 +160,6 @@ pub fn two(kind: u32, v: Value, w: Value, cells: &mut [u8], used: u32, n: u32) -
         EQ => equality(v, w, used, n),
         AND => conjunction(v, w, used, n),
         SET => write_cell(v, w, cells, used, n),
-        _ => Step::Gave(w, used),
+        _ => Ok((w, used)),
     }
 }

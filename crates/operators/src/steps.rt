@@ -3,7 +3,7 @@ ghost use Rattle.std.specs.Prelude.{◌≡◌};
 ghost use Rattle.script.specs.Code.Forms.{form_of};
 ghost use Rattle.operators.specs.Steps.{whole_of, next_on};
 
-use crate::{Next, Parts, Step};
+use crate::{Parts, Step};
 use script::table::IF;
 use script::{Node, Value};
 
@@ -12,12 +12,12 @@ pub fn parts_of(step: Step) -> Parts
     ensures { whole_of result ≡ step }
 {
     match step {
-        Step::Gave(v, used) => match v {
+        Ok((v, used)) => match v {
             Value::Word(w) => Parts::Word(w, used),
             Value::Truth(b) => Parts::Truth(b, used),
             Value::Location(l) => Parts::Location(l, used),
         },
-        Step::Failed(at, used) => Parts::Failed(at, used),
+        Err((at, used)) => Parts::Failed(at, used),
     }
 }
 
@@ -26,28 +26,27 @@ pub fn whole(parts: Parts) -> Step
     ensures { result ≡ whole_of parts }
 {
     match parts {
-        Parts::Word(w, used) => Step::Gave(Value::Word(w), used),
-        Parts::Truth(b, used) => Step::Gave(Value::Truth(b), used),
-        Parts::Location(l, used) => Step::Gave(Value::Location(l), used),
-        Parts::Failed(at, used) => Step::Failed(at, used),
+        Parts::Word(w, used) => Ok((Value::Word(w), used)),
+        Parts::Truth(b, used) => Ok((Value::Truth(b), used)),
+        Parts::Location(l, used) => Ok((Value::Location(l), used)),
+        Parts::Failed(at, used) => Err((at, used)),
     }
 }
 
 // The operand of a node that comes after the first, which gave v: of an `if` the branch that is taken.
-pub fn next_operand(node: Node, v: Value) -> Next
+pub fn next_operand(node: Node, v: Value) -> Option<u32>
     ensures { result ≡ next_on (form_of node.kind) v node }
 {
     if node.kind == IF {
         return match v {
-            Value::Word(_) => Next::Wrong,
             Value::Truth(t) => {
                 if t {
-                    return Next::Operand(node.b);
+                    return Some(node.b);
                 }
-                Next::Operand(node.c)
+                Some(node.c)
             }
-            Value::Location(_) => Next::Wrong,
+            _ => None,
         };
     }
-    Next::Operand(node.b)
+    Some(node.b)
 }

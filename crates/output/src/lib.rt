@@ -23,10 +23,8 @@ pub fn put_bytes(out: &mut [u8], at: usize, bytes: &[u8]) -> usize
     requires { at + length bytes.now < 2 ^ 64 }
     ensures { Put bytes.now at out.old result out.new }
 {
-    let mut i = 0;
-    while i < bytes.len() {
-        put(out, at + i, bytes[i]);
-        i += 1;
+    for (i, &b) in bytes.iter().enumerate() {
+        put(out, at + i, b);
     }
     at + bytes.len()
 }
@@ -63,14 +61,12 @@ pub fn put_type(out: &mut [u8], at: usize, code: u32) -> usize
     requires { at + length (type_text code) < 2 ^ 64 }
     ensures { Put (type_text code) at out.old result out.new }
 {
-    let mut t = code;
-    let mut last = at;
-    while 1 < t {
-        put(out, last, b'r');
-        last += 1;
-        t -= 2;
+    let references = (code / 2) as usize;
+    for k in 0..references {
+        put(out, at + k, b'r');
     }
-    if t == 0 {
+    let last = at + references;
+    if code % 2 == 0 {
         put(out, last, b'i');
         return last + 1;
     }

@@ -3,8 +3,8 @@ use Rattle.std.specs.Prelude.{List, ◌≡◌, ℕ, length}
 use Rattle.std.proofs.Common.{ap}
 use Rattle.script.specs.Answers.{report_of_reading}
 use Rattle.script.specs.Flat.{nodes_in}
-use Rattle.script.specs.declared.Reading.{Reading}
 use Rattle.text.specs.Reading.{Left, leaves, reading_in, reading_report}
+use Rattle.script.specs.Answers.Named.{Reading}
 
 pub read_reports : (text table entries : List ℕ) {r : Reading} {left es : List ℕ} → leaves r left es ≡ reading_in text table entries
     → report_of_reading r ≡ reading_report text (length (nodes_in table)) (length entries)

@@ -9,25 +9,23 @@ use fields::{LF, TAB, byte_is, field, number, type_code};
 use script::table::Takes;
 use script::{Node, Script};
 use table::{kind_takes, operand_count};
-use text::{Operand, Said, Scanned};
+use text::Scanned;
 
 // The operand after a tab, at most `limit`; 0 without looking where none is wanted.
-fn operand_at(text: &[u8], at: usize, limit: u32, wanted: bool) -> Operand
+fn operand_at(text: &[u8], at: usize, limit: u32, wanted: bool) -> Option<(u32, usize)>
     requires { at ≤ length text.now }
     ensures { result ≡ operand_at wanted limit at (drop at text.now) }
 {
     if !wanted {
-        return Operand::Is(0, at);
+        return Some((0, at));
     }
     if !byte_is(text, at, TAB) {
-        return Operand::Bad;
+        return None;
     }
     let from = at + 1;
     let f = field(text, from);
-    match number(f, limit) {
-        Said::Number(n) => Operand::Is(n, from + f.len()),
-        Said::Nothing => Operand::Bad,
-    }
+    let n = number(f, limit)?;
+    Some((n, from + f.len()))
 }
 
 // The largest number that an operand of this kind may be.
@@ -41,7 +39,7 @@ fn largest(kind: u32) -> u32
 }
 
 // The rest of a node line after its word.
-fn node_line(text: &[u8], at: usize, kind: u32) -> Scanned
+fn node_line(text: &[u8], at: usize, kind: u32) -> Option<(Scanned, usize)>
     requires at_in_bounds { at ≤ length text.now }
     requires text_value { field_ends (drop at text.now) ≡ true }
     requires kind_lt_kind_count { kind < kind_count }
@@ -49,44 +47,36 @@ fn node_line(text: &[u8], at: usize, kind: u32) -> Scanned
 {
     let count = operand_count(kind);
     let limit = largest(kind);
-    let Operand::Is(a, after_a) = operand_at(text, at, limit, 0 < count) else {
-        return Scanned::Bad;
-    };
-    let Operand::Is(b, after_b) = operand_at(text, after_a, limit, 1 < count) else {
-        return Scanned::Bad;
-    };
-    let Operand::Is(c, after_c) = operand_at(text, after_b, limit, 2 < count) else {
-        return Scanned::Bad;
-    };
+    let (a, after_a) = operand_at(text, at, limit, 0 < count)?;
+    let (b, after_b) = operand_at(text, after_a, limit, 1 < count)?;
+    let (c, after_c) = operand_at(text, after_b, limit, 2 < count)?;
     if !byte_is(text, after_c, LF) {
-        return Scanned::Bad;
+        return None;
     }
-    Scanned::Node(Node { kind, a, b, c }, after_c + 1)
+    Some((Scanned::Node(Node { kind, a, b, c }), after_c + 1))
 }
 
 // The rest of an entry line after its word.
-fn entry_line(text: &[u8], at: usize) -> Scanned
+fn entry_line(text: &[u8], at: usize) -> Option<(Scanned, usize)>
     requires at_in_bounds { at ≤ length text.now }
     requires text_value { field_ends (drop at text.now) ≡ true }
     ensures { result ≡ entry_after at (drop at text.now) }
 {
     if !byte_is(text, at, TAB) {
-        return Scanned::Bad;
+        return None;
     }
     let from = at + 1;
     let f = field(text, from);
     let end = from + f.len();
     if !byte_is(text, end, LF) {
-        return Scanned::Bad;
+        return None;
     }
-    match type_code(f) {
-        Said::Number(t) => Scanned::Entry(t, end + 1),
-        Said::Nothing => Scanned::Bad,
-    }
+    let t = type_code(f)?;
+    Some((Scanned::Entry(t), end + 1))
 }
 
 // The line that starts at `at`.
-pub fn line_at(text: &[u8], at: usize) -> Scanned
+pub fn line_at(text: &[u8], at: usize) -> Option<(Scanned, usize)>
     requires { at ≤ length text.now }
     ensures { result ≡ line_at at (drop at text.now) }
 {
@@ -95,8 +85,6 @@ pub fn line_at(text: &[u8], at: usize) -> Scanned
     if same(b"entry", w) {
         return entry_line(text, end);
     }
-    match kind_of(w) {
-        Said::Number(kind) => node_line(text, end, kind),
-        Said::Nothing => Scanned::Bad,
-    }
+    let kind = kind_of(w)?;
+    node_line(text, end, kind)
 }

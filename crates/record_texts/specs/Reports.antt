@@ -4,13 +4,13 @@ use Rattle.std.proofs.Common.{ap}
 use Rattle.script.specs.Answers.{report_of_reading, report_of_writing}
 use Rattle.script.specs.Table.{Table}
 use Rattle.script.specs.declared.Node.{Node}
-use Rattle.script.specs.declared.Reading.{Reading}
-use Rattle.script.specs.declared.Writing.{Writing}
 use Rattle.text.specs.Reading.{reading_report}
 use Rattle.text.specs.Reading as Read
 use Rattle.text.specs.Writing.{writing_report}
 use Rattle.text.specs.Writing as Write
 use Rattle.record_texts.specs.Texts.{Writes, Reads}
+use Rattle.script.specs.Answers.Named.{Reading}
+use Rattle.script.specs.Answers.Named.{Writing}
 
 pub write_reports : (t : Table) (out : List ℕ) {r : Writing} {left : List ℕ} → Writes t out r left → report_of_writing r ≡ writing_report t out
 write_reports t out p = ap (λ (x : Write.Outcome). report_of_writing x.answer) p

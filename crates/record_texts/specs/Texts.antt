@@ -2,11 +2,11 @@
 use Rattle.std.specs.Prelude.{List, ◌≡◌, ℕ}
 use Rattle.script.specs.Table.{Table}
 use Rattle.script.specs.declared.Node.{Node}
-use Rattle.script.specs.declared.Reading.{Reading}
-use Rattle.script.specs.declared.Writing.{Writing}
 use Rattle.text.specs.Reading.{reading}
 use Rattle.text.specs.Reading as Read
 use Rattle.text.specs.Writing.{outcome, writing}
+use Rattle.script.specs.Answers.Named.{Reading}
+use Rattle.script.specs.Answers.Named.{Writing}
 
 -- the answer of a writing, and what the lent bytes then hold
 abbrev pub Writes : Table → List ℕ → Writing → List ℕ → Type 0

@@ -8,9 +8,9 @@ ghost use Rattle.script.specs.Limits.{node_limit};
 ghost use Rattle.copies.specs.Copies.{places, table_of};
 ghost use Rattle.record_texts.specs.Texts.{Writes, Reads};
 
-use copies::{copy_in, copy_out, lesser};
-use script::table::WIDTH;
-use script::{Node, Reading, Script, Writing};
+use copies::{copy_in, copy_out};
+use script::table::{WIDTH};
+use script::{Node, Script, Refusal};
 
 // Writes a flat table of which the first `lent` nodes are lent.
 fn write_flat(
@@ -20,7 +20,7 @@ fn write_flat(
     entries: &[u32],
     entry_count: usize,
     out: &mut [u8],
-) -> Writing
+) -> Result<usize, Refusal>
     requires { node_width * lent ≤ length flat.now }
     ensures { Writes (table_in (take (node_width * lent) flat.now) nodes entries.now entry_count) out.old result out.new }
 {
@@ -28,11 +28,11 @@ fn write_flat(
 }
 
 // Reads a text for `lent` places into a flat table, which has the nodes that a script can have.
-fn read_flat(text: &[u8], lent: usize, flat: &mut [u32], entries: &mut [u32]) -> Reading
+fn read_flat(text: &[u8], lent: usize, flat: &mut [u32], entries: &mut [u32]) -> Result<Script, Refusal>
     requires { length flat.old ≡ node_width * node_limit }
     ensures { Reads text.now lent (length entries.old) result (places lent flat.new) entries.new }
 {
-    let n = lesser(lent, Script::NODES);
+    let n = lent.min(Script::NODES);
     reader::read(text, &mut flat[..WIDTH * n], entries)
 }
 
@@ -43,7 +43,7 @@ pub fn write(
     entries: &[u32],
     entry_count: usize,
     out: &mut [u8],
-) -> Writing
+) -> Result<usize, Refusal>
     ensures { Writes (table_of table.now nodes entries.now entry_count) out.old result out.new }
 {
     let mut flat = [0u32; WIDTH * Script::NODES];
@@ -52,7 +52,7 @@ pub fn write(
 }
 
 // Reads a text into a lent table and a lent list of entries. Places that the script does not use, and all of them after a refusal, hold `false` and 0.
-pub fn read(text: &[u8], table: &mut [Node], entries: &mut [u32]) -> Reading
+pub fn read(text: &[u8], table: &mut [Node], entries: &mut [u32]) -> Result<Script, Refusal>
     ensures { Reads text.now (length table.old) (length entries.old) result table.new entries.new }
 {
     let mut flat = [0u32; WIDTH * Script::NODES];

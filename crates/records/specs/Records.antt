@@ -1,10 +1,10 @@
 -- What a check and a run of a lent table of records promise. Assumes nothing.
 use Rattle.std.specs.Prelude.{List, ◌≡◌, ℕ}
 use Rattle.script.specs.Table.{Table}
-use Rattle.script.specs.declared.Checked.{Checked}
-use Rattle.script.specs.declared.Ran.{Ran}
+use Rattle.script.specs.Answers.Named.{Ran}
 use Rattle.rules.specs.Checking.{path_limit, check_table}
 use Rattle.rules.specs.Running.{Run, run_table}
+use Rattle.script.specs.Answers.Named.{Checked}
 
 -- the answer of a check; nothing lent changes
 abbrev pub Checks : Table → Checked → Type 0

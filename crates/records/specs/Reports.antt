@@ -3,11 +3,11 @@ use Rattle.std.specs.Prelude.{List, ◌≡◌, ℕ}
 use Rattle.std.proofs.Common.{ap}
 use Rattle.script.specs.Answers.{report_of_check, report_of_run}
 use Rattle.script.specs.Table.{Table}
-use Rattle.script.specs.declared.Checked.{Checked}
-use Rattle.script.specs.declared.Ran.{Ran}
+use Rattle.script.specs.Answers.Named.{Ran}
 use Rattle.rules.specs.Checking.{path_limit, check_report}
 use Rattle.rules.specs.Running.{Run, run_report}
 use Rattle.records.specs.Records.{Checks, Runs}
+use Rattle.script.specs.Answers.Named.{Checked}
 
 pub check_reports : (t : Table) {r : Checked} → Checks t r → report_of_check r ≡ check_report path_limit t
 check_reports t p = ap report_of_check p

@@ -8,8 +8,8 @@ ghost use Rattle.copies.specs.Copies.{table_of};
 ghost use Rattle.records.specs.Records.{Checks, Runs};
 
 use copies::copy_out;
-use script::table::WIDTH;
-use script::{Checked, Node, Ran, Script};
+use script::table::{WIDTH};
+use script::{Ended, Node, Refusal, Script};
 
 // Checks a flat table of which the first `lent` nodes are lent.
 fn check_flat(
@@ -18,7 +18,7 @@ fn check_flat(
     nodes: usize,
     entries: &[u32],
     entry_count: usize,
-) -> Checked
+) -> Result<u32, Refusal>
     requires { node_width * lent ≤ length flat.now }
     ensures { Checks (table_in (take (node_width * lent) flat.now) nodes entries.now entry_count) result }
 {
@@ -35,7 +35,7 @@ fn run_flat(
     values: &[u8],
     cells: &mut [u8],
     used: u32,
-) -> Ran
+) -> Result<Ended, Refusal>
     requires { node_width * lent ≤ length flat.now }
     ensures { Runs (table_in (take (node_width * lent) flat.now) nodes entries.now entry_count) values.now cells.old used result cells.new }
 {
@@ -51,7 +51,7 @@ fn run_flat(
 }
 
 // Checks a table: accepted with its type, or why not. Nothing lent changes.
-pub fn check(table: &[Node], nodes: usize, entries: &[u32], entry_count: usize) -> Checked
+pub fn check(table: &[Node], nodes: usize, entries: &[u32], entry_count: usize) -> Result<u32, Refusal>
     ensures { Checks (table_of table.now nodes entries.now entry_count) result }
 {
     let mut flat = [0u32; WIDTH * Script::NODES];
@@ -69,7 +69,7 @@ pub fn run(
     values: &[u8],
     cells: &mut [u8],
     used: u32,
-) -> Ran
+) -> Result<Ended, Refusal>
     ensures { Runs (table_of table.now nodes entries.now entry_count) values.now cells.old used result cells.new }
 {
     let mut flat = [0u32; WIDTH * Script::NODES];

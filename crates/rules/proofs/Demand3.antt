@@ -1,14 +1,13 @@
 -- Demand 3 (docs/RUNS.md): an accepted script, run within the limits on any cells and entry values that some typing fits, ends with a value, never in
 -- the error state, never with a refusal; every such typing has an extension that fits the end cells and gives the value the reported type.
 -- Proved over the rules and evaluation, for every path limit. Assumes nothing.
-use Rattle.std.specs.Prelude.{◌≡◌, refl, Bool, true, List, ℕ, ◌*◌, ◌≤◌, length, drop}
+use Rattle.std.specs.Prelude.{◌≡◌, refl, Bool, true, List, ℕ, ◌*◌, ◌≤◌, length, drop, Ok}
 use Rattle.std.proofs.Common.{sym, ap, ◌∙◌, subst, arith}
 use Rattle.std.proofs.Math.Option.{Option, none, some}
 use Rattle.script.specs.Table.{Table, entries_of, table_test}
 use Rattle.script.specs.Tests.{need}
 use Rattle.script.specs.Tests.Laws.{both_true}
 use Rattle.script.specs.Tree.{tree_of}
-use Rattle.script.specs.declared.Checked.{Checked}
 use Rattle.script.specs.declared.Refusal.{Refusal}
 use Rattle.script.specs.declared.Refusal.TheVariants.{BadCells, BadValues}
 use Rattle.script.specs.declared.Value.{Value}
@@ -26,6 +25,7 @@ use Rattle.rules.proofs.Typings.Laws.{at-below, each-length}
 use Induction.{typed-promise}
 use Rattle.rules.specs.Demand3.Promises.{Promise, kept}
 use Rattle.rules.specs.Demand3.{EndsWithValue}
+use Rattle.script.specs.Answers.Named.{Checked}
 pub mod Congruence
 pub mod Induction
 pub mod Meaning
@@ -47,7 +47,7 @@ all_in_range : {typing : List ℕ} {vs : List Value} {ts : List ℕ} → length 
 all_in_range h empty = no_value
 all_in_range h (also k ks) = one_value (in_range h k) (all_in_range h ks)
 
-ended : {typing : List ℕ} {type : ℕ} (cells : List ℕ) {o : Outcome} → length (cells_of o) ≤ lent_limit → Promise typing (Checked.Accepted type) o
+ended : {typing : List ℕ} {type : ℕ} (cells : List ℕ) {o : Outcome} → length (cells_of o) ≤ lent_limit → Promise typing (Ok type) o
     → EndsWithValue typing type (finished cells o)
 ended cells few (kept {v = v} {cs = cs} q) =
     record {
@@ -77,20 +77,20 @@ run_finishes t values cells used e h =
     ∙ ap (λ (r : Option Refusal). ran_by r cells (finished cells (outcome t values cells used))) (run_passes t values cells used h)
 
 -- an accepted table passes the tests, and its tree is accepted
-accepted_passes : (limit : ℕ) (t : Table) (type : ℕ) → check_table limit t ≡ Checked.Accepted type
-    → (table_test t ≡ none) × (check limit (tree_of t) (entries_of t) ≡ Checked.Accepted type)
+accepted_passes : (limit : ℕ) (t : Table) (type : ℕ) → check_table limit t ≡ Ok type
+    → (table_test t ≡ none) × (check limit (tree_of t) (entries_of t) ≡ Ok type)
 unfolding check_table
 accepted_passes limit t type e = go (table_test t) refl e
   where
-    go : (r : Option Refusal) → table_test t ≡ r → answered r (check limit (tree_of t) (entries_of t)) ≡ Checked.Accepted type
-        → (table_test t ≡ none) × (check limit (tree_of t) (entries_of t) ≡ Checked.Accepted type)
+    go : (r : Option Refusal) → table_test t ≡ r → answered r (check limit (tree_of t) (entries_of t)) ≡ Ok type
+        → (table_test t ≡ none) × (check limit (tree_of t) (entries_of t) ≡ Ok type)
     go none p q = (p, q)
     go (some r) p q = let z : ◌≡◌ {A = ℕ} 0 1 = cc in absurd (omega arith)
 
 -- ---- demand 3
 
 pub accepted_ends_with_value : (limit : ℕ) (t : Table) (type : ℕ) (values cells : List ℕ) (used : ℕ) (typing : List ℕ)
-    → check_table limit t ≡ Checked.Accepted type
+    → check_table limit t ≡ Ok type
     → within_limits t values cells used ≡ true
     → Fits typing (values_of used cells)
     → HaveTypes typing (values_of t.entry_count values) (entries_of t)

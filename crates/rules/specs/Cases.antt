@@ -1,7 +1,7 @@
 -- The proved cases P1 to P9 (docs/CHECKS.md, 'Worked cases') as one table. Each row is a script, a question and its answer, and the table is proved whole, by
 -- computation. The tables below are of the same form: `Traps` tells the rules from the traps, `NewCells` new cells from old ones, `ScratchCells` what `get`
 -- finds from what it doesn't, `Refusals` has the tests of tables, values and cells. Assumes nothing.
-use Rattle.std.specs.Prelude.{◌≡◌, refl, List, [], ◌∷◌, map, ℕ, replicate, take}
+use Rattle.std.specs.Prelude.{◌≡◌, refl, List, [], ◌∷◌, map, ℕ, replicate, take, None, Some}
 use Rattle.script.specs.Answers.{Report, type_is, value_is, refused_with, report_of_run}
 use Rattle.script.specs.Rows.{rows, row_of}
 use Rattle.script.specs.Table.{Table, well_formed, operands, times_in, uses, syms_around, too_deep, tree_test, nodes_test, table_test}
@@ -9,8 +9,6 @@ use Rattle.script.specs.Table.Cases.{lend, int', true', var', add', if', let', r
 use Rattle.script.specs.Tests.{lowest_from}
 use Rattle.script.specs.Tree.{shape, tree_by, trees_from, trees, root, tree_of}
 use Rattle.script.specs.declared.Node.{Node}
-use Rattle.script.specs.declared.Place.{Place}
-use Rattle.script.specs.declared.Place.TheVariants.{Nowhere, At}
 use Rattle.rules.specs.Checking.{check_table, check_report, path_limit, check}
 use Rattle.rules.specs.Evaluation.{unary_on, binary_on, eval}
 use Rattle.rules.specs.Paths.{has, consistent_after, lookup, bind, leaves}
@@ -19,6 +17,7 @@ use Rattle.rules.specs.Satisfiable.{holds, atoms_of, among, different, some_choi
 use Rattle.rules.specs.Symbolic.{plus_each, opposite_each, same_each, same_sum, same_atom, symbol, symbols, apart, equal_references}
 use Rattle.rules.specs.SymbolicRules.{unary_exec, binary_exec, branches, decide, typed_result, variable, judge}
 use Rattle.rules.specs.TypedRules.{unary_type, binary_type, if_type}
+use Rattle.script.specs.Answers.Named.{Place}
 pub mod NewCells
 pub mod Refusals
 pub mod ScratchCells
@@ -75,19 +74,19 @@ cases =
     -- P1
     accepts [] (true' ∷ int' 5 ∷ true' ∷ int' 3 ∷ add' 2 3 ∷ if' 0 1 4 ∷ sym' 5 ∷ []) 0
     -- P2
-    ∷ refuses [] (true' ∷ int' 5 ∷ true' ∷ int' 3 ∷ add' 2 3 ∷ if' 0 1 4 ∷ []) 6 (At 4)
+    ∷ refuses [] (true' ∷ int' 5 ∷ true' ∷ int' 3 ∷ add' 2 3 ∷ if' 0 1 4 ∷ []) 6 (Some 4)
     -- P3
-    ∷ refuses (1 ∷ []) (var' 0 ∷ int' 1 ∷ true' ∷ if' 0 1 2 ∷ sym' 3 ∷ []) 10 (At 4)
+    ∷ refuses (1 ∷ []) (var' 0 ∷ int' 1 ∷ true' ∷ if' 0 1 2 ∷ sym' 3 ∷ []) 10 (Some 4)
     -- P4
     ∷ accepts (1 ∷ []) (var' 0 ∷ var' 0 ∷ int' 1 ∷ true' ∷ int' 1 ∷ add' 3 4 ∷ if' 1 2 5 ∷ int' 2 ∷ if' 0 6 7 ∷ sym' 8 ∷ []) 0
     -- P5
     ∷ accepts (2 ∷ []) (var' 0 ∷ true' ∷ set' 0 1 ∷ var' 0 ∷ int' 7 ∷ set' 3 4 ∷ let' 2 5 ∷ sym' 6 ∷ []) 0
     -- P6
-    ∷ refuses (2 ∷ 2 ∷ []) (var' 0 ∷ true' ∷ set' 0 1 ∷ var' 1 ∷ int' 7 ∷ set' 3 4 ∷ let' 2 5 ∷ sym' 6 ∷ []) 9 (At 7)
+    ∷ refuses (2 ∷ 2 ∷ []) (var' 0 ∷ true' ∷ set' 0 1 ∷ var' 1 ∷ int' 7 ∷ set' 3 4 ∷ let' 2 5 ∷ sym' 6 ∷ []) 9 (Some 7)
     -- P7
-    ∷ refuses (30 ∷ []) (var' 0 ∷ ref' 0 ∷ []) 8 (At 1)
+    ∷ refuses (30 ∷ []) (var' 0 ∷ ref' 0 ∷ []) 8 (Some 1)
     -- P8
-    ∷ refuses [] [] 3 Nowhere
+    ∷ refuses [] [] 3 None
     -- P9
     ∷ ends (int' 4294967295 ∷ int' 1 ∷ add' 0 1 ∷ []) (value_is 0 0 0) (replicate 10 0)
     ∷ []

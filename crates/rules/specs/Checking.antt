@@ -1,20 +1,19 @@
 -- Typed rules and symbolic rules over trees, each handing over to the other at a block, and the checker's whole answer for a table (docs/CHECKS.md). The
 -- path limit is a parameter: certification has 64. Assumes nothing.
-use Rattle.std.specs.Prelude.{List, [], ◌∷◌, ◌++◌, map, ◌≡◌, ℕ, length}
+use Rattle.std.specs.Prelude.{List, [], ◌∷◌, ◌++◌, map, ◌≡◌, ℕ, length, Err, Ok}
 use Rattle.std.proofs.Math.Option.{Option, none, some}
 use Rattle.std.proofs.Math.ListN.{get_elem?}
 use Rattle.script.specs.Answers.{Report, report_of_check}
 use Rattle.script.specs.Flat.{table_in}
 use Rattle.script.specs.Table.{Table, entries_of, table_test}
 use Rattle.script.specs.Tree.{Expr, int, truth, var, unary, binary, if_else, let_in, typed_block, sym_block, tree_of}
-use Rattle.script.specs.declared.Checked.{Checked}
-use Rattle.script.specs.declared.Checked.TheVariants.{Accepted, Refused}
 use Rattle.script.specs.declared.Refusal.{Refusal}
 use Rattle.script.specs.declared.Refusal.TheVariants.{UnknownVariable}
 use Rattle.rules.specs.Paths.{Path, Paths, ends, start, bind, leaves}
 use Rattle.rules.specs.Symbolic.{Symbolic, a_word, a_truth, number, constantly, type_of, symbols}
 use Rattle.rules.specs.SymbolicRules.{unary_exec, binary_exec, decide, typed_result, variable, verdict}
 use Rattle.rules.specs.TypedRules.{and_then, unary_type, binary_type, if_type}
+use Rattle.script.specs.Answers.Named.{Checked}
 pub mod Bounds
 pub mod Laws
 pub mod Mentions
@@ -23,14 +22,14 @@ abbrev pub path_limit : ℕ
 path_limit = 64
 
 abbrev pub known : ℕ → Option ℕ → Checked
-known n none = Refused (UnknownVariable n)
-known n (some t) = Accepted t
+known n none = Err (UnknownVariable n)
+known n (some t) = Ok t
 
 unfoldable mutual
   -- the type of a tree, given the types of the variables
   pub check : ℕ → Expr → List ℕ → Checked
-  check limit (int n w) env = Accepted 0
-  check limit (truth n b) env = Accepted 1
+  check limit (int n w) env = Ok 0
+  check limit (truth n b) env = Ok 1
   check limit (var n k) env = known n (get_elem? env k)
   check limit (unary n o e) env = and_then (check limit e env) (unary_type n o)
   check limit (binary n o e f) env = and_then (check limit e env) λ t. and_then (check limit f env) (binary_type n o t)
@@ -55,7 +54,7 @@ unfoldable mutual
 -- the rules' answer, where no test turns the table down
 abbrev pub answered : Option Refusal → Checked → Checked
 answered none c = c
-answered (some r) c = Refused r
+answered (some r) c = Err r
 
 -- the checker's whole answer
 unfoldable pub check_table : ℕ → Table → Checked

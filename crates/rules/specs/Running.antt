@@ -3,14 +3,14 @@
 pub mod Laws
 pub mod Ranges
 pub mod Room
-use Rattle.std.specs.Prelude.{Bool, true, false, ◌&&◌, List, [], ◌∷◌, ◌++◌, ℕ, zero, suc, ◌+◌, ◌*◌, ◌/◌, ◌%◌, leb, ltb, eqb, length, get_or, drop}
+use Rattle.std.specs.Prelude.{Bool, true, false, ◌&&◌, List, [], ◌∷◌, ◌++◌, ℕ, zero, suc, ◌+◌, ◌*◌, ◌/◌, ◌%◌, leb, ltb, eqb, length, get_or, drop, Ok, Err}
 use Rattle.std.proofs.Math.Option.{Option, none, some}
 use Rattle.script.specs.Answers.{kind_of, bits_of, Report, report_of_run}
 use Rattle.script.specs.Table.{Table, table_test}
 use Rattle.script.specs.Tests.{need}
 use Rattle.script.specs.Tree.{tree_of}
-use Rattle.script.specs.declared.Ran.{Ran}
-use Rattle.script.specs.declared.Ran.TheVariants.{Gave, Failed, Refused}
+use Rattle.script.specs.Answers.Named.{Ran}
+use Rattle.script.specs.declared.Ended.{Ended}
 use Rattle.script.specs.declared.Refusal.{Refusal}
 use Rattle.script.specs.declared.Refusal.TheVariants.{BadCells, BadValues}
 use Rattle.script.specs.declared.Value.{Value}
@@ -87,12 +87,12 @@ abbrev pub stored : List ℕ → List Value → List ℕ
 stored lent cs = all_bytes cs ++ drop (5 * length cs) lent
 
 abbrev pub finished : List ℕ → Outcome → Run
-finished lent (gave v cs) = record { answer = Gave v (length cs); cells = stored lent cs }
-finished lent (failed n cs) = record { answer = Failed n (length cs); cells = stored lent cs }
+finished lent (gave v cs) = record { answer = Ok (Ended.Gave v (length cs)); cells = stored lent cs }
+finished lent (failed n cs) = record { answer = Ok (Ended.Failed n (length cs)); cells = stored lent cs }
 
 abbrev pub ran_by : Option Refusal → List ℕ → Run → Run
 ran_by none lent r = r
-ran_by (some e) lent r = record { answer = Refused e; cells = lent }
+ran_by (some e) lent r = record { answer = Err e; cells = lent }
 
 unfoldable pub run_test : Table → List ℕ → List ℕ → ℕ → Option Refusal
 run_test t values cells used =

@@ -1,15 +1,14 @@
 -- The rules of the operators on symbolic values (docs/CHECKS.md, 'Nodes on a path'). Assumes nothing.
-use Rattle.std.specs.Prelude.{Bool, true, false, List, [], ◌∷◌, ℕ, zero, suc, leb, eqb, length}
+use Rattle.std.specs.Prelude.{Bool, true, false, List, [], ◌∷◌, ℕ, zero, suc, leb, eqb, length, Err, Ok}
 use Rattle.std.proofs.Math.Option.{Option, none, some}
 use Rattle.script.specs.Rows.{UnaryOp, not_op, ref_op, get_op, BinaryOp, add_op, eq_op, and_op, set_op}
 use Rattle.script.specs.Tests.{pick}
-use Rattle.script.specs.declared.Checked.{Checked}
-use Rattle.script.specs.declared.Checked.TheVariants.{Accepted, Refused}
 use Rattle.script.specs.declared.Refusal.TheVariants.{WrongType, UnknownVariable, TooManyReferences, InconsistentLog, TooManyAtoms, PathTypesDiffer, TooManyPaths}
 use Rattle.rules.specs.Paths.{Path, Paths, Leaf, ends, stops, forks, ended, stopped, assume, write_of, write, taken, forget, consistent, lookup, fresh}
 use Rattle.rules.specs.Satisfiable.{satisfiable, different_atoms}
 use Rattle.rules.specs.Symbolic.{Formula, negation, conjunction, equality, Origin, made, Sum, plus, Symbolic, a_word, a_truth, a_reference, type_of, equal_sums, equal_references}
 use Rattle.rules.specs.TypedRules.{is_type}
+use Rattle.script.specs.Answers.Named.{Checked}
 
 -- a value of the type wanted, or else the other answer
 abbrev pub word_of : Symbolic → Paths → (Sum → Paths) → Paths
@@ -76,8 +75,8 @@ decide n v p e f =
 
 -- after a typed block: the log must be consistent and is then empty, and the value is a fresh symbol
 unfoldable pub typed_result : ℕ → Path → Checked → Paths
-typed_result n p (Accepted t) = pick (consistent p) (fresh t (forget p)) (stops (InconsistentLog n))
-typed_result n p (Refused r) = stops r
+typed_result n p (Ok t) = pick (consistent p) (fresh t (forget p)) (stops (InconsistentLog n))
+typed_result n p (Err r) = stops r
 
 unfoldable pub variable : ℕ → Path → Option Symbolic → Paths
 variable n p none = stops (UnknownVariable n)
@@ -93,11 +92,11 @@ first_type (stopped r ∷ ls) = 0
 
 -- at most `left` more paths; at a path's end the log is looked at first, then the type
 unfoldable pub judge : ℕ → ℕ → ℕ → List Leaf → Checked
-judge n left t [] = Accepted t
-judge n zero t (l ∷ ls) = Refused (TooManyPaths n)
-judge n (suc left) t (stopped r ∷ ls) = Refused r
+judge n left t [] = Ok t
+judge n zero t (l ∷ ls) = Err (TooManyPaths n)
+judge n (suc left) t (stopped r ∷ ls) = Err r
 judge n (suc left) t (ended v p ∷ ls) =
-    pick (consistent p) (pick (eqb (type_of v) t) (judge n left t ls) (Refused (PathTypesDiffer n))) (Refused (InconsistentLog n))
+    pick (consistent p) (pick (eqb (type_of v) t) (judge n left t ls) (Err (PathTypesDiffer n))) (Err (InconsistentLog n))
 
 abbrev pub verdict : ℕ → ℕ → List Leaf → Checked
 verdict n limit ls = judge n limit (first_type ls) ls

@@ -2,7 +2,7 @@
 -- Assumes nothing.
 use Rattle.std.specs.Prelude.{List, ◌≡◌, ℕ}
 use Rattle.script.specs.Flat.{table_in}
-use Rattle.script.specs.declared.Ran.{Ran}
+use Rattle.script.specs.Answers.Named.{Ran}
 use Rattle.rules.specs.Running.{Run, run_table}
 
 module _ (table : List ℕ) (nodes : ℕ) (entries : List ℕ) (entry_count : ℕ) (values cells : List ℕ) (used : ℕ) where

@@ -4,7 +4,7 @@ use Rattle.std.specs.Prelude.{List, ◌≡◌, ℕ}
 use Rattle.std.proofs.Common.{ap}
 use Rattle.script.specs.Answers.{report_of_run}
 use Rattle.script.specs.Flat.{table_in}
-use Rattle.script.specs.declared.Ran.{Ran}
+use Rattle.script.specs.Answers.Named.{Ran}
 use Rattle.rules.specs.Running.{Run, run_report}
 use Rattle.runner.specs.Answered.{Answered}
 

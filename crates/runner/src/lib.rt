@@ -18,8 +18,7 @@ mod steps;
 use cells::tests::{right_cells, right_values};
 use operators::Step;
 use operators::steps::whole;
-use script::table::Tested;
-use script::{Ran, Refusal, Script};
+use script::{Ended, Refusal, Script};
 use steps::run_node;
 use tests::test_table;
 
@@ -67,19 +66,19 @@ pub fn run_passed(
     values: &[u8],
     cells: &mut [u8],
     used: u32,
-) -> Ran
+) -> Result<Ended, Refusal>
     requires { table_test (table_in table.now nodes entries.now entry_count) ≡ none }
     ensures { Answered table.now nodes entries.now entry_count values.now cells.old used result cells.new }
 {
     if !right_cells(cells, used) {
-        return Ran::Refused(Refusal::BadCells);
+        return Err(Refusal::BadCells);
     }
     if !right_values(entry_count, values, cells, used) {
-        return Ran::Refused(Refusal::BadValues);
+        return Err(Refusal::BadValues);
     }
     match run_tested(table, nodes, entry_count, values, cells, used) {
-        Step::Gave(v, count) => Ran::Gave(v, count),
-        Step::Failed(at, count) => Ran::Failed(at, count),
+        Ok((v, count)) => Ok(Ended::Gave(v, count)),
+        Err((at, count)) => Ok(Ended::Failed(at, count)),
     }
 }
 
@@ -93,11 +92,9 @@ pub fn run(
     values: &[u8],
     cells: &mut [u8],
     used: u32,
-) -> Ran
+) -> Result<Ended, Refusal>
     ensures { Answered table.now nodes entries.now entry_count values.now cells.old used result cells.new }
 {
-    match test_table(table, nodes, entries, entry_count) {
-        Tested::Refused(why) => Ran::Refused(why),
-        Tested::Passed => run_passed(table, nodes, entries, entry_count, values, cells, used),
-    }
+    test_table(table, nodes, entries, entry_count)?;
+    run_passed(table, nodes, entries, entry_count, values, cells, used)
 }

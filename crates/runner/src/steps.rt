@@ -7,7 +7,7 @@ ghost use Rattle.operators.specs.Steps.{whole_of, Variables, Bound, rest_on, Rea
 
 use cells::store;
 use operators::steps::{next_operand, parts_of, whole};
-use operators::{Next, Parts, Step, leaf, one, two};
+use operators::{Parts, Step, leaf, one, two};
 use script::table::{LEAVES, LET};
 use script::{Node, Value};
 use table::{has_one, node_at};
@@ -40,16 +40,10 @@ fn rest(
     ensures { Runs (rest_on table.now n (node_in table.now n) v (values_of depth environment.old) (values_of used cells.old)) depth environment.old environment.new result cells.old cells.new }
 {
     let node = node_at(table, n as usize);
-    match next_operand(node, v) {
-        Next::Wrong => Step::Failed(n, used),
-        Next::Operand(m) => {
-            let inner = bind(environment, depth, node, v);
-            match whole(run_node(table, environment, inner, cells, used, m)) {
-                Step::Gave(w, count) => two(node.kind, v, w, cells, count, n),
-                Step::Failed(at, count) => Step::Failed(at, count),
-            }
-        }
-    }
+    let m = next_operand(node, v).ok_or((n, used))?;
+    let inner = bind(environment, depth, node, v);
+    let (w, count) = whole(run_node(table, environment, inner, cells, used, m))?;
+    two(node.kind, v, w, cells, count, n)
 }
 
 // Runs node n: the environment is its first `depth` values, the cells their first `used`.
@@ -70,8 +64,8 @@ pub fn run_node(
         return parts_of(leaf(node, environment, depth, used, n));
     }
     match whole(run_node(table, environment, depth, cells, used, node.a)) {
-        Step::Failed(at, count) => Parts::Failed(at, count),
-        Step::Gave(v, count) => {
+        Err((at, count)) => Parts::Failed(at, count),
+        Ok((v, count)) => {
             if has_one(node.kind) {
                 return parts_of(one(node.kind, v, cells, count, n));
             }

@@ -5,7 +5,7 @@ ghost use Rattle.call_texts.specs.Tables.{table_as};
 ghost use Rattle.runs.specs.Outcome.{cells_after};
 
 use script::table::WIDTH;
-use script::{Ran, Reading, Refusal, Script};
+use script::{Ended, Refusal, Script};
 use std::io;
 use trial::{say_either, say_refusal};
 
@@ -51,17 +51,22 @@ fn say_after(rt: &impl Print, before: &[u8], cells: &[u8], used: u32) -> io::Res
 }
 
 // Prints what came of a run, on cells that held what `before` holds.
-fn say_ran(rt: &impl Print, before: &[u8], cells: &[u8], answer: Ran) -> io::Result<()> {
+fn say_ran(
+    rt: &impl Print,
+    before: &[u8],
+    cells: &[u8],
+    answer: Result<Ended, Refusal>,
+) -> io::Result<()> {
     match answer {
-        Ran::Gave(v, now) => {
+        Ok(Ended::Gave(v, now)) => {
             print!(rt; "value\t{}\t{}", v.kind(), v.bits())?;
             say_after(rt, before, cells, now)
         }
-        Ran::Failed(node, now) => {
+        Ok(Ended::Failed(node, now)) => {
             print!(rt; "error\t{node}")?;
             say_after(rt, before, cells, now)
         }
-        Ran::Refused(r) => {
+        Err(r) => {
             say_refusal(rt, r)?;
             say_kept(rt, before, cells, 0)
         }
@@ -106,13 +111,13 @@ pub fn try_text(
     let mut table = [0u32; WIDTH * Script::NODES];
     let mut entries = [0u32; 16];
     match call_texts::read(text, &mut table, &mut entries) {
-        Reading::Read(script) => {
+        Ok(script) => {
             let nodes = script.nodes;
             let count = script.entries;
             try_script(
                 rt, &table, nodes, &entries, count, values, before, cells, used,
             )
         }
-        Reading::Refused(why) => say_unread(rt, why),
+        Err(why) => say_unread(rt, why),
     }
 }

@@ -1,17 +1,18 @@
 -- What each answer says: the number and place of a refusal (docs/REFUSALS.md), the kind and the 32 bits of a value (docs/RUNS.md), and the
 -- report of each call's answer. Assumes nothing.
-use Rattle.std.specs.Prelude.{true, false, ℕ}
-use Rattle.script.specs.declared.Checked.{Checked}
-use Rattle.script.specs.declared.Place.{Place}
-use Rattle.script.specs.declared.Place.TheVariants.{Nowhere, At}
-use Rattle.script.specs.declared.Ran.{Ran}
-use Rattle.script.specs.declared.Reading.{Reading}
+use Rattle.std.specs.Prelude.{true, false, ℕ, Err, None, Ok, Some}
+use Rattle.script.specs.Answers.Named.{Ran}
+use Rattle.script.specs.declared.Ended.{Ended}
 use Rattle.script.specs.declared.Refusal.{Refusal}
 use Rattle.script.specs.declared.Refusal.TheVariants.{BadLine, TooManyAt, TooMany, NoNode, BadOperand, NotUsedOnce, WrongType, UnknownVariable, TooManyReferences, InconsistentLog, PathTypesDiffer, TooManyPaths, TooManyAtoms, TooDeep, TextTooLong, TableTooSmall, BadTypeCode, BadValues, BadCells, OutputTooShort}
 use Rattle.script.specs.declared.Value.{Value}
 use Rattle.script.specs.declared.Value.TheVariants.{Word, Truth, Location}
-use Rattle.script.specs.declared.Writing.{Writing}
+use Rattle.script.specs.Answers.Named.{Checked}
+use Rattle.script.specs.Answers.Named.{Place}
+use Rattle.script.specs.Answers.Named.{Reading}
+use Rattle.script.specs.Answers.Named.{Writing}
 pub mod Bounds
+pub mod Named
 
 abbrev pub number_of : Refusal → ℕ
 number_of (BadLine i) = 1
@@ -37,26 +38,26 @@ number_of OutputTooShort = 36
 
 -- a line for 1, 2 and 4 in text, a node for 4 in a table and for 5 to 13
 abbrev pub place_of : Refusal → Place
-place_of (BadLine i) = At i
-place_of (TooManyAt i) = At i
-place_of TooMany = Nowhere
-place_of NoNode = Nowhere
-place_of (BadOperand i) = At i
-place_of (NotUsedOnce i) = At i
-place_of (WrongType i) = At i
-place_of (UnknownVariable i) = At i
-place_of (TooManyReferences i) = At i
-place_of (InconsistentLog i) = At i
-place_of (PathTypesDiffer i) = At i
-place_of (TooManyPaths i) = At i
-place_of (TooManyAtoms i) = At i
-place_of (TooDeep i) = At i
-place_of TextTooLong = Nowhere
-place_of TableTooSmall = Nowhere
-place_of BadTypeCode = Nowhere
-place_of BadValues = Nowhere
-place_of BadCells = Nowhere
-place_of OutputTooShort = Nowhere
+place_of (BadLine i) = Some i
+place_of (TooManyAt i) = Some i
+place_of TooMany = None
+place_of NoNode = None
+place_of (BadOperand i) = Some i
+place_of (NotUsedOnce i) = Some i
+place_of (WrongType i) = Some i
+place_of (UnknownVariable i) = Some i
+place_of (TooManyReferences i) = Some i
+place_of (InconsistentLog i) = Some i
+place_of (PathTypesDiffer i) = Some i
+place_of (TooManyPaths i) = Some i
+place_of (TooManyAtoms i) = Some i
+place_of (TooDeep i) = Some i
+place_of TextTooLong = None
+place_of TableTooSmall = None
+place_of BadTypeCode = None
+place_of BadValues = None
+place_of BadCells = None
+place_of OutputTooShort = None
 
 -- 0 word, 1 truth, 2 location
 abbrev pub kind_of : Value → ℕ
@@ -81,18 +82,18 @@ pub data Report : Type 0 where
   refused_with : ℕ → Place → Report
 
 abbrev pub report_of_check : Checked → Report
-report_of_check (Checked.Accepted t) = type_is t
-report_of_check (Checked.Refused r) = refused_with (number_of r) (place_of r)
+report_of_check (Ok t) = type_is t
+report_of_check (Err r) = refused_with (number_of r) (place_of r)
 
 abbrev pub report_of_run : Ran → Report
-report_of_run (Ran.Gave v used) = value_is (kind_of v) (bits_of v) used
-report_of_run (Ran.Failed n used) = error_at n used
-report_of_run (Ran.Refused r) = refused_with (number_of r) (place_of r)
+report_of_run (Ok (Ended.Gave v used)) = value_is (kind_of v) (bits_of v) used
+report_of_run (Ok (Ended.Failed n used)) = error_at n used
+report_of_run (Err r) = refused_with (number_of r) (place_of r)
 
 abbrev pub report_of_reading : Reading → Report
-report_of_reading (Reading.Read s) = table_of s.nodes s.entries
-report_of_reading (Reading.Refused r) = refused_with (number_of r) (place_of r)
+report_of_reading (Ok s) = table_of s.nodes s.entries
+report_of_reading (Err r) = refused_with (number_of r) (place_of r)
 
 abbrev pub report_of_writing : Writing → Report
-report_of_writing (Writing.Wrote n) = bytes_of n
-report_of_writing (Writing.Refused r) = refused_with (number_of r) (place_of r)
+report_of_writing (Ok n) = bytes_of n
+report_of_writing (Err r) = refused_with (number_of r) (place_of r)

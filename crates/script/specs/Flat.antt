@@ -1,12 +1,11 @@
 -- The flat form of a table inside the code, `node_width` numbers a node: its kind and three operands; and what the code answers to a test. Assumes nothing.
-use Rattle.std.specs.Prelude.{true, List, [], ◌∷◌, ◌++◌, ◌≡◌, ℕ, suc, ◌*◌, ◌≤◌, ◌<◌, length, take}
+use Rattle.std.specs.Prelude.{true, List, [], ◌∷◌, ◌++◌, ◌≡◌, ℕ, suc, ◌*◌, ◌≤◌, ◌<◌, length, take, Err, Ok}
 use Rattle.std.proofs.Math.Option.{Option, none, some}
 use Rattle.script.specs.Limits.{node_limit}
 use Rattle.script.specs.Table.{Table, node_of, well_formed}
 use Rattle.script.specs.declared.Node.{Node}
 use Rattle.script.specs.declared.Refusal.{Refusal}
-use Rattle.script.specs.declared.table.Tested.{Tested}
-use Rattle.script.specs.declared.table.Tested.TheVariants.{Passed, Refused}
+use Rattle.script.specs.Answers.Named.{Tested}
 pub mod Laws
 
 -- the numbers of one node
@@ -45,5 +44,5 @@ pub record FormedNodes (xs : List ℕ) (n : ℕ) : Type 0 where
 
 -- the answer of a test
 abbrev pub tested_by : Option Refusal → Tested
-tested_by none = Passed
-tested_by (some r) = Refused r
+tested_by none = Ok tt
+tested_by (some r) = Err r

@@ -1,9 +1,8 @@
 -- The limits of a script, and a script by its counts (docs/SCRIPTS.md, 'Limits'). The code's names for the limits are the constants of
 -- `Script`. Assumes nothing.
-use Rattle.std.specs.Prelude.{Bool, true, false, ◌&&◌, ℕ, ◌+◌, leb, ltb}
+use Rattle.std.specs.Prelude.{Bool, true, false, ◌&&◌, ℕ, ◌+◌, leb, ltb, None, Some}
 use Rattle.script.specs.declared.Script.{Script}
-use Rattle.script.specs.declared.Sized.{Sized}
-use Rattle.script.specs.declared.Sized.TheVariants.{Fits, TooLarge}
+use Rattle.script.specs.Answers.Named.{Sized}
 
 abbrev pub node_limit : ℕ
 node_limit = 128
@@ -33,16 +32,16 @@ size_of n m = record { nodes = n; entries = m }
 
 abbrev pub pick_sized : Bool → Sized → Sized
 pick_sized true s = s
-pick_sized false s = TooLarge
+pick_sized false s = None
 
 abbrev pub counts_fit : ℕ → ℕ → Bool
 counts_fit n m = leb n node_limit && leb m entry_limit
 
 abbrev pub script_of : ℕ → ℕ → Sized
-script_of n m = pick_sized (counts_fit n m) (Fits (size_of n m))
+script_of n m = pick_sized (counts_fit n m) (Some (size_of n m))
 
 abbrev pub with_node : Script → Sized
-with_node s = pick_sized (ltb s.nodes node_limit) (Fits (size_of (s.nodes + 1) s.entries))
+with_node s = pick_sized (ltb s.nodes node_limit) (Some (size_of (s.nodes + 1) s.entries))
 
 abbrev pub with_entry : Script → Sized
-with_entry s = pick_sized (ltb s.entries entry_limit) (Fits (size_of s.nodes (s.entries + 1)))
+with_entry s = pick_sized (ltb s.entries entry_limit) (Some (size_of s.nodes (s.entries + 1)))

@@ -1,6 +1,7 @@
 -- Tests, first refusals and lowest places: the few general functions that the definitions are written with. Assumes nothing.
 use Rattle.std.specs.Prelude.{Bool, true, false, ◌&&◌, List, [], ◌∷◌, ℕ, zero, suc}
 use Rattle.std.proofs.Math.Option.{Option, none, some}
+use Rattle.std.specs.List.{list_all}
 pub mod Bits
 pub mod Laws
 pub mod Loops
@@ -11,10 +12,9 @@ module _ {A : Type 0} where
   pick true a b = a
   pick false a b = b
 
-  -- every element passes the test
+  -- every element passes the test: the library's word for it
   abbrev pub all : (A → Bool) → List A → Bool
-  all p [] = true
-  all p (x ∷ xs) = p x && all p xs
+  all = list_all
 
 -- the lowest of the k numbers from i on that passes the test
 unfoldable pub lowest_from : (ℕ → Bool) → ℕ → ℕ → Option ℕ

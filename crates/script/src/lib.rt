@@ -8,7 +8,7 @@ ghost use Rattle.script.specs.Limits.{script_of, size_of, with_node, with_entry}
 pub mod table;
 
 // A node of a script: its kind, 0 to 14, and three operands, of which the unused ones are 0.
-#[derive(Clone, Copy)]
+#[derive(Clone, Copy, PartialEq, Eq)]
 pub struct Node {
     pub kind: u32,
     pub a: u32,
@@ -42,12 +42,7 @@ impl Value {
     {
         match self {
             Value::Word(w) => w,
-            Value::Truth(b) => {
-                if b {
-                    return 1;
-                }
-                0
-            }
+            Value::Truth(b) => b as u32,
             Value::Location(l) => l,
         }
     }
@@ -76,13 +71,6 @@ pub enum Refusal {
     BadValues,
     BadCells,
     OutputTooShort,
-}
-
-// Where a refusal is: at a line or a node, or nowhere.
-#[derive(Clone, Copy)]
-pub enum Place {
-    Nowhere,
-    At(u32),
 }
 
 impl Refusal {
@@ -115,61 +103,39 @@ impl Refusal {
     }
 
     // The line or the node of this refusal, if it has one.
-    pub fn place(self) -> Place
+    pub fn place(self) -> Option<u32>
         ensures { result ≡ place_of self }
     {
         match self {
-            Refusal::BadLine(i) => Place::At(i),
-            Refusal::TooManyAt(i) => Place::At(i),
-            Refusal::TooMany => Place::Nowhere,
-            Refusal::NoNode => Place::Nowhere,
-            Refusal::BadOperand(i) => Place::At(i),
-            Refusal::NotUsedOnce(i) => Place::At(i),
-            Refusal::WrongType(i) => Place::At(i),
-            Refusal::UnknownVariable(i) => Place::At(i),
-            Refusal::TooManyReferences(i) => Place::At(i),
-            Refusal::InconsistentLog(i) => Place::At(i),
-            Refusal::PathTypesDiffer(i) => Place::At(i),
-            Refusal::TooManyPaths(i) => Place::At(i),
-            Refusal::TooManyAtoms(i) => Place::At(i),
-            Refusal::TooDeep(i) => Place::At(i),
-            Refusal::TextTooLong => Place::Nowhere,
-            Refusal::TableTooSmall => Place::Nowhere,
-            Refusal::BadTypeCode => Place::Nowhere,
-            Refusal::BadValues => Place::Nowhere,
-            Refusal::BadCells => Place::Nowhere,
-            Refusal::OutputTooShort => Place::Nowhere,
+            Refusal::BadLine(i) => Some(i),
+            Refusal::TooManyAt(i) => Some(i),
+            Refusal::TooMany => None,
+            Refusal::NoNode => None,
+            Refusal::BadOperand(i) => Some(i),
+            Refusal::NotUsedOnce(i) => Some(i),
+            Refusal::WrongType(i) => Some(i),
+            Refusal::UnknownVariable(i) => Some(i),
+            Refusal::TooManyReferences(i) => Some(i),
+            Refusal::InconsistentLog(i) => Some(i),
+            Refusal::PathTypesDiffer(i) => Some(i),
+            Refusal::TooManyPaths(i) => Some(i),
+            Refusal::TooManyAtoms(i) => Some(i),
+            Refusal::TooDeep(i) => Some(i),
+            Refusal::TextTooLong => None,
+            Refusal::TableTooSmall => None,
+            Refusal::BadTypeCode => None,
+            Refusal::BadValues => None,
+            Refusal::BadCells => None,
+            Refusal::OutputTooShort => None,
         }
     }
 }
 
-// The checker's answer: the type's code, or why not.
+// How a run ends: with a value and the used count, or at the node of the error state, with the used count.
 #[derive(Clone, Copy)]
-pub enum Checked {
-    Accepted(u32),
-    Refused(Refusal),
-}
-
-// The runner's answer: a value and the used count; the node of the error state and the used count; or why not.
-#[derive(Clone, Copy)]
-pub enum Ran {
+pub enum Ended {
     Gave(Value, u32),
     Failed(u32, u32),
-    Refused(Refusal),
-}
-
-// The reader's answer: the script's counts, or why not.
-#[derive(Clone, Copy)]
-pub enum Reading {
-    Read(Script),
-    Refused(Refusal),
-}
-
-// The writer's answer: the length of the text, or why not.
-#[derive(Clone, Copy)]
-pub enum Writing {
-    Wrote(usize),
-    Refused(Refusal),
 }
 
 // A script by its counts. Made by `empty`, `of`, `with_node` and `with_entry`, both are within the limits.
@@ -177,13 +143,6 @@ pub enum Writing {
 pub struct Script {
     pub nodes: usize,
     pub entries: usize,
-}
-
-// A script's counts where they are within the limits.
-#[derive(Clone, Copy)]
-pub enum Sized {
-    Fits(Script),
-    TooLarge,
 }
 
 impl Script {
@@ -215,42 +174,38 @@ impl Script {
     }
 
     // The script with these counts, if they are within the limits.
-    pub fn of(nodes: usize, entries: usize) -> Sized
+    pub fn of(nodes: usize, entries: usize) -> Option<Script>
         ensures { result ≡ script_of nodes entries }
     {
-        if nodes <= Script::NODES {
-            if entries <= Script::ENTRIES {
-                return Sized::Fits(Script { nodes, entries });
-            }
+        if nodes <= Script::NODES && entries <= Script::ENTRIES {
+            return Some(Script { nodes, entries });
         }
-        Sized::TooLarge
+        None
     }
 
     // One node more.
-    pub fn with_node(self) -> Sized
+    pub fn with_node(self) -> Option<Script>
         ensures { result ≡ with_node self }
     {
-        let nodes = self.nodes;
-        if nodes < Script::NODES {
-            return Sized::Fits(Script {
-                nodes: nodes + 1,
-                entries: self.entries,
+        if self.nodes < Script::NODES {
+            return Some(Script {
+                nodes: self.nodes + 1,
+                ..self
             });
         }
-        Sized::TooLarge
+        None
     }
 
     // One entry more.
-    pub fn with_entry(self) -> Sized
+    pub fn with_entry(self) -> Option<Script>
         ensures { result ≡ with_entry self }
     {
-        let entries = self.entries;
-        if entries < Script::ENTRIES {
-            return Sized::Fits(Script {
-                nodes: self.nodes,
-                entries: entries + 1,
+        if self.entries < Script::ENTRIES {
+            return Some(Script {
+                entries: self.entries + 1,
+                ..self
             });
         }
-        Sized::TooLarge
+        None
     }
 }

@@ -1,5 +1,4 @@
 // The kinds of the nodes of a table, how wide a node is, and what its functions hand to each other. The functions are in `table`.
-use crate::Refusal;
 
 // How many numbers a node has in the flat form of a table.
 pub const WIDTH: usize = 4;
@@ -46,11 +45,4 @@ pub const LEAVES: u32 = ADD;
 pub enum Takes {
     Number(u32),
     Nodes,
-}
-
-// A table passes its tests, or is turned down.
-#[derive(Clone, Copy)]
-pub enum Tested {
-    Passed,
-    Refused(Refusal),
 }

@@ -4,27 +4,26 @@
 
 ghost use Rattle.std.specs.Prelude.{◌*◌, ◌≤◌, length};
 ghost use Rattle.script.specs.Code.Forms.{form_of};
-ghost use Rattle.script.specs.Rows.{var_form, unary_form, binary_form, not_op, ref_op, get_op, add_op, eq_op, and_op, set_op};
-ghost use Rattle.terms.specs.References.{origin_by, IsOrigin};
+ghost use Rattle.script.specs.Rows.{var_form, unary_form, binary_form, not_op, ref_op, get_op, eq_op, set_op};
+ghost use Rattle.terms.specs.References.{origin_as};
 ghost use Rattle.workspace.specs.Paths.{Fresh};
-ghost use Rattle.workspace.specs.Rules.{Leaf, One, Two, After, Operable};
+ghost use Rattle.workspace.specs.Rules.{Leaf, One, Two, OfBoth, After, Operable};
 ghost use Rattle.workspace.specs.State.{Room};
 
 use script::table::{ADD, AND, EQ, GET, INT, NOT, REF, SET, TRUE, VAR};
 use script::{Node, Refusal};
 use terms::atoms::{equal_references, symbols_atom};
-use terms::references::{MADE, OTHER, reference};
+use terms::references::{Origin, reference};
 use terms::{CONJUNCTION, CONSTANT, EQUALITY, NEGATION, NUMBER, SUM, SYMBOL, TRUTH, push};
 use types::DEEPEST;
 use words::equal_words;
-use workspace::{Found, NEXT, Step};
+use workspace::{NEXT, Step};
 use write_log::{consistent, forget, lookup, write};
 
 // A fresh symbol of type t, with this origin: its place.
-pub fn fresh(space: &mut [u32], t: u32, origin: u32) -> u32
-    requires room { Room space.old 1 }
-    requires origin { IsOrigin origin }
-    ensures { Fresh (origin_by origin) t space.old result space.new }
+pub fn fresh(space: &mut [u32], t: u32, origin: Origin) -> u32
+    requires { Room space.old 1 }
+    ensures { Fresh (origin_as origin) t space.old result space.new }
 {
     let symbol = space[NEXT];
     space[NEXT] = symbol + 1;
@@ -42,9 +41,9 @@ fn variable(node: Node, space: &[u32], depth: usize, n: u32) -> Step
 {
     let i = node.a as usize;
     if i < depth {
-        return Step::Gave(space[2 * i], space[2 * i + 1]);
+        return Ok((space[2 * i], space[2 * i + 1]));
     }
-    Step::Stopped(Refusal::UnknownVariable(n))
+    Err(Refusal::UnknownVariable(n))
 }
 
 // A node whose operands are no nodes: `int`, `true`, `false` and `var`.
@@ -55,10 +54,10 @@ pub fn leaf(node: Node, space: &mut [u32], depth: usize, n: u32) -> Step
 {
     let kind = node.kind;
     match kind {
-        INT => Step::Gave(0, push(space, NUMBER, node.a, 0)),
-        TRUE => Step::Gave(1, push(space, CONSTANT, 1, 0)),
+        INT => Ok((0, push(space, NUMBER, node.a, 0))),
+        TRUE => Ok((1, push(space, CONSTANT, 1, 0))),
         VAR => variable(node, space, depth, n),
-        _ => Step::Gave(1, push(space, CONSTANT, 0, 0)),
+        _ => Ok((1, push(space, CONSTANT, 0, 0))),
     }
 }
 
@@ -68,9 +67,9 @@ fn negation(t: u32, q: u32, space: &mut [u32], n: u32) -> Step
     ensures { One (unary_form not_op) n t q space.old result space.new }
 {
     if t != 1 {
-        return Step::Stopped(Refusal::WrongType(n));
+        return Err(Refusal::WrongType(n));
     }
-    Step::Gave(1, push(space, NEGATION, q, 0))
+    Ok((1, push(space, NEGATION, q, 0)))
 }
 
 // `ref`: a fresh symbol, and its value in the log.
@@ -79,11 +78,11 @@ fn make_cell(t: u32, q: u32, space: &mut [u32], n: u32) -> Step
     ensures { One (unary_form ref_op) n t q space.old result space.new }
 {
     if DEEPEST <= t {
-        return Step::Stopped(Refusal::TooManyReferences(n));
+        return Err(Refusal::TooManyReferences(n));
     }
-    let place = fresh(space, t + 2, MADE);
+    let place = fresh(space, t + 2, Origin::Made);
     write(space, t + 2, place, t, q);
-    Step::Gave(t + 2, place)
+    Ok((t + 2, place))
 }
 
 // `get`: what the log has, of whatever type; or else, if the log is consistent, a fresh symbol.
@@ -92,15 +91,15 @@ fn read_cell(t: u32, q: u32, space: &mut [u32], n: u32) -> Step
     ensures { One (unary_form get_op) n t q space.old result space.new }
 {
     if t < 2 {
-        return Step::Stopped(Refusal::WrongType(n));
+        return Err(Refusal::WrongType(n));
     }
     match lookup(space, q) {
-        Found::Value(u, s) => Step::Gave(u, s),
-        Found::Nothing => {
+        Some((u, s)) => Ok((u, s)),
+        None => {
             if !consistent(space) {
-                return Step::Stopped(Refusal::InconsistentLog(n));
+                return Err(Refusal::InconsistentLog(n));
             }
-            Step::Gave(t - 2, fresh(space, t - 2, OTHER))
+            Ok((t - 2, fresh(space, t - 2, Origin::Other)))
         }
     }
 }
@@ -114,22 +113,19 @@ pub fn one(kind: u32, t: u32, q: u32, space: &mut [u32], n: u32) -> Step
         NOT => negation(t, q, space, n),
         REF => make_cell(t, q, space, n),
         GET => read_cell(t, q, space, n),
-        _ => Step::Gave(t, q),
+        _ => Ok((t, q)),
     }
 }
 
-// `add`.
-fn sum(t: u32, q: u32, u: u32, s: u32, space: &mut [u32], n: u32) -> Step
+// `add` and `and`: both values are of the type wanted, and so is the row of this operator.
+fn both(wanted: u32, op: u32, t: u32, q: u32, u: u32, s: u32, space: &mut [u32], n: u32) -> Step
     requires { Room space.old 1 }
-    ensures { Two (binary_form add_op) n t q u s space.old result space.new }
+    ensures { OfBoth wanted op n t q u s space.old result space.new }
 {
-    if t != 0 {
-        return Step::Stopped(Refusal::WrongType(n));
+    if t == wanted && u == wanted {
+        return Ok((wanted, push(space, op, q, s)));
     }
-    if u != 0 {
-        return Step::Stopped(Refusal::WrongType(n));
-    }
-    Step::Gave(0, push(space, SUM, q, s))
+    Err(Refusal::WrongType(n))
 }
 
 // `eq`.
@@ -138,27 +134,13 @@ fn equality(t: u32, q: u32, u: u32, s: u32, space: &mut [u32], n: u32) -> Step
     ensures { Two (binary_form eq_op) n t q u s space.old result space.new }
 {
     if t != u {
-        return Step::Stopped(Refusal::WrongType(n));
+        return Err(Refusal::WrongType(n));
     }
     match t {
-        0 => Step::Gave(1, equal_words(space, q, s)),
-        1 => Step::Gave(1, push(space, EQUALITY, q, s)),
-        _ => Step::Gave(1, equal_references(space, q, s)),
+        0 => Ok((1, equal_words(space, q, s))),
+        1 => Ok((1, push(space, EQUALITY, q, s))),
+        _ => Ok((1, equal_references(space, q, s))),
     }
-}
-
-// `and`.
-fn conjunction(t: u32, q: u32, u: u32, s: u32, space: &mut [u32], n: u32) -> Step
-    requires { Room space.old 1 }
-    ensures { Two (binary_form and_op) n t q u s space.old result space.new }
-{
-    if t != 1 {
-        return Step::Stopped(Refusal::WrongType(n));
-    }
-    if u != 1 {
-        return Step::Stopped(Refusal::WrongType(n));
-    }
-    Step::Gave(1, push(space, CONJUNCTION, q, s))
 }
 
 // `set`: any value is logged.
@@ -167,10 +149,10 @@ fn write_cell(t: u32, q: u32, u: u32, s: u32, space: &mut [u32], n: u32) -> Step
     ensures { Two (binary_form set_op) n t q u s space.old result space.new }
 {
     if t < 2 {
-        return Step::Stopped(Refusal::WrongType(n));
+        return Err(Refusal::WrongType(n));
     }
     write(space, t, q, u, s);
-    Step::Gave(u, s)
+    Ok((u, s))
 }
 
 // A node whose first operand gave a value of type t at place q, and the next one of type u at place s.
@@ -179,11 +161,11 @@ pub fn two(kind: u32, t: u32, q: u32, u: u32, s: u32, space: &mut [u32], n: u32)
     ensures { Two (form_of kind) n t q u s space.old result space.new }
 {
     match kind {
-        ADD => sum(t, q, u, s, space, n),
+        ADD => both(0, SUM, t, q, u, s, space, n),
         EQ => equality(t, q, u, s, space, n),
-        AND => conjunction(t, q, u, s, space, n),
+        AND => both(1, CONJUNCTION, t, q, u, s, space, n),
         SET => write_cell(t, q, u, s, space, n),
-        _ => Step::Gave(u, s),
+        _ => Ok((u, s)),
     }
 }
 
@@ -193,8 +175,8 @@ pub fn typed_result(t: u32, space: &mut [u32], n: u32) -> Step
     ensures { After n t space.old result space.new }
 {
     if !consistent(space) {
-        return Step::Stopped(Refusal::InconsistentLog(n));
+        return Err(Refusal::InconsistentLog(n));
     }
     forget(space);
-    Step::Gave(t, fresh(space, t, OTHER))
+    Ok((t, fresh(space, t, Origin::Other)))
 }

@@ -13,10 +13,8 @@ pub fn clear_nodes(table: &mut [u32], from: usize)
 {
     let n = table.len() / WIDTH;
     let blank = unused();
-    let mut i = from;
-    while i < n {
+    for i in from..n {
         put_node(table, i, blank);
-        i += 1;
     }
 }
 
@@ -25,9 +23,5 @@ pub fn clear_entries(entries: &mut [u32], from: usize)
     requires { from ≤ length entries.old }
     ensures { entries.new ≡ take from entries.old ++ replicate (length entries.old - from) 0 }
 {
-    let mut i = from;
-    while i < entries.len() {
-        entries[i] = 0;
-        i += 1;
-    }
+    entries[from..].fill(0);
 }

@@ -13,7 +13,6 @@
 ghost use Rattle.std.specs.Prelude.{◌++◌, ◌≡◌, ◌≤◌, length, drop};
 
 use call_texts::PLACES;
-use script::Writing;
 use script::table::WIDTH;
 use std::io;
 use trial::given::bytes_line;
@@ -41,8 +40,8 @@ fn try_table(
     say_checked(rt, calls::check(table, nodes, entries, used))?;
     print!(rt; "\t")?;
     match call_texts::write(table, nodes, entries, used, &mut out) {
-        Writing::Wrote(length) => print!(rt; "wrote\t{length}"),
-        Writing::Refused(r) => say_refusal(rt, r),
+        Ok(length) => print!(rt; "wrote\t{length}"),
+        Err(r) => say_refusal(rt, r),
     }
 }
 

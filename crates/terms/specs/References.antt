@@ -1,7 +1,9 @@
 -- References by their places: a place is a symbol and its origin in one number. And when two of them are certainly different cells. Assumes nothing.
 pub mod Laws
-use Rattle.std.specs.Prelude.{Bool, ◌≡◌, ℕ, zero, suc, ◌+◌, ◌*◌, ◌/◌, ◌%◌}
+use Rattle.std.specs.Prelude.{Bool, ℕ, zero, suc, ◌+◌, ◌*◌, ◌/◌, ◌%◌}
 use Rattle.rules.specs.Symbolic.{Origin, made, initial, other, apart}
+use Rattle.terms.specs.declared.references.Origin.{Origin as Named}
+use Rattle.terms.specs.declared.references.Origin.TheVariants.{Other, Initial, Made}
 
 -- how many numbers a place has room for as its origin's, and that of each origin: 0 is none's, and counts as any other
 abbrev pub origins : ℕ
@@ -18,9 +20,11 @@ origin_by (suc zero) = other
 origin_by (suc (suc zero)) = initial
 origin_by (suc (suc (suc n))) = made
 
--- the number of an origin
-abbrev pub IsOrigin : ℕ → Type 0
-IsOrigin n = n ≡ origin_number (origin_by n)
+-- the origin that the code names
+abbrev pub origin_as : Named → Origin
+origin_as Other = other
+origin_as Initial = initial
+origin_as Made = made
 
 -- the place of a reference, and its symbol and origin by its place
 abbrev pub reference_at : Origin → ℕ → ℕ

@@ -1,27 +1,28 @@
 // References by their places: a place is a symbol and its origin in one number.
 ghost use Rattle.std.specs.Prelude.{◌≡◌, ◌<◌};
 ghost use Rattle.terms.specs.Places.{symbol_limit};
-ghost use Rattle.terms.specs.References.{origin_by, IsOrigin, reference_at, symbol_at, apart_at};
+ghost use Rattle.terms.specs.References.{origin_as, reference_at, symbol_at, apart_at};
 
 // How many numbers a place has room for as its origin's: a power of two, so that a shift takes it off.
 const ORIGINS: u32 = 4;
 
 // Where a symbol comes from: made by `ref` on this path, a variable's when the path began, or any other.
-pub const OTHER: u32 = 1;
+#[derive(Clone, Copy)]
+pub enum Origin {
+    Other = 1,
+    Initial = 2,
+    Made = 3,
+}
 
-pub const INITIAL: u32 = 2;
-
-pub const MADE: u32 = 3;
-
-const TWO_VARIABLES: u32 = INITIAL + INITIAL;
+// What the origins of two variables add up to.
+const TWO_VARIABLES: u32 = 2 * (Origin::Initial as u32);
 
 // The place of a reference.
-pub fn reference(symbol: u32, origin: u32) -> u32
-    requires symbol_lt_symbol_limit { symbol < symbol_limit }
-    requires origin { IsOrigin origin }
-    ensures { result ≡ reference_at (origin_by origin) symbol }
+pub fn reference(symbol: u32, origin: Origin) -> u32
+    requires { symbol < symbol_limit }
+    ensures { result ≡ reference_at (origin_as origin) symbol }
 {
-    ORIGINS * symbol + origin
+    ORIGINS * symbol + origin as u32
 }
 
 // The symbol of the reference at a place.

@@ -1,5 +1,5 @@
 -- The loops of the tests 33, 4, 5 and 13: what a turn tells, and the answer where one fails or all are passed. Assumes nothing.
-use Rattle.std.specs.Prelude.{Bool, true, false, List, ◌≡◌, ℕ, zero, suc, ◌+◌, ◌≤◌, ◌<◌, pred, leb, eqb, length, take, get_or}
+use Rattle.std.specs.Prelude.{Bool, true, false, List, ◌≡◌, ℕ, zero, suc, ◌+◌, ◌≤◌, ◌<◌, pred, leb, eqb, length, take, get_or, Err, Ok}
 use Rattle.std.proofs.Math.Bool.{not}
 use Rattle.std.proofs.Common.{sym, ap, ◌∙◌, arith, get_or-take, length-take-le, le-leb, eq-eqb, ne_eqb}
 use Rattle.std.proofs.lemmas.Bool.{lt-leb}
@@ -14,7 +14,6 @@ use Rattle.script.specs.Tests.Laws.{get_d_all, get_d_not-all}
 use Rattle.script.specs.Tests.Loops.{Looked, look_on}
 use Rattle.script.specs.declared.Node.{Node}
 use Rattle.script.specs.declared.Refusal.TheVariants.{BadOperand, NotUsedOnce, TooDeep}
-use Rattle.script.specs.declared.table.Tested.TheVariants.{Passed, Refused}
 
 -- ---- 33
 
@@ -36,11 +35,11 @@ abbrev pub malformed : List ℕ → ℕ → ℕ → Bool
 malformed xs n i = not (well_formed (take n (nodes_in xs)) i)
 
 module _ (xs : List ℕ) (n : ℕ) (l : Lent xs n) (i : ℕ) (k : Looked (malformed xs n) n i) where
-  pub operands-refused : i < n → not (well_formed (take n (nodes_in xs)) i) ≡ true → Refused (BadOperand i) ≡ tested_by (operands_test (take n (nodes_in xs)))
+  pub operands-refused : i < n → not (well_formed (take n (nodes_in xs)) i) ≡ true → Err (BadOperand i) ≡ tested_by (operands_test (take n (nodes_in xs)))
   unfolding operands_test
   operands-refused h w = rw (lent_length xs n l) (refused-at (malformed xs n) BadOperand n i k h w)
 
-  pub operands-passed : n ≤ i → Passed ≡ tested_by (operands_test (take n (nodes_in xs)))
+  pub operands-passed : n ≤ i → Ok tt ≡ tested_by (operands_test (take n (nodes_in xs)))
   unfolding operands_test
   operands-passed h = rw (lent_length xs n l) (passed-all (malformed xs n) BadOperand n i k h)
 
@@ -60,14 +59,14 @@ no_more-but-last i zero h = omega arith
 no_more-but-last i (suc n) h = omega arith
 
 module _ (xs : List ℕ) (n i : ℕ) (k : Looked (not_once xs) (pred n) i) where
-  pub count-wrong : i + 1 < n → (get_or xs i 0 ≡ 1 → ⊥) → Refused (NotUsedOnce i) ≡ tested_by (counts_test xs n)
+  pub count-wrong : i + 1 < n → (get_or xs i 0 ≡ 1 → ⊥) → Err (NotUsedOnce i) ≡ tested_by (counts_test xs n)
   unfolding counts_test
   count-wrong h w = refused-at (not_once xs) NotUsedOnce (pred n) i k (but_last i n h) (ap not (ne_eqb (get_or xs i 0) 1 w))
 
   pub count-right : i + 1 < n → get_or xs i 0 ≡ 1 → Looked (not_once xs) (pred n) (i + 1)
   count-right h e = look_on (not_once xs) (pred n) i k (but_last i n h) (ap not (eq-eqb (get_or xs i 0) 1 e))
 
-  pub counts-passed : n ≤ i + 1 → Passed ≡ tested_by (counts_test xs n)
+  pub counts-passed : n ≤ i + 1 → Ok tt ≡ tested_by (counts_test xs n)
   unfolding counts_test
   counts-passed h = passed-all (not_once xs) NotUsedOnce (pred n) i k (no_more-but-last i n h)
 
@@ -83,10 +82,10 @@ module _ (xs : List ℕ) (n : ℕ) (ds : List ℕ) (i : ℕ) where
   deep_is h m r e f = f ∙ ap (λ (m : Node). deep_at m (get_or ds i 0)) (e ∙ same-node xs n i h)
 
   module _ (l : Lent xs n) (k : Looked (deep_by xs n ds) n i) where
-    pub depths_refused : i < n → deep_by xs n ds i ≡ true → Refused (TooDeep i) ≡ tested_by (nesting_test (take n (nodes_in xs)) ds)
+    pub depths_refused : i < n → deep_by xs n ds i ≡ true → Err (TooDeep i) ≡ tested_by (nesting_test (take n (nodes_in xs)) ds)
     unfolding nesting_test
     depths_refused h w = rw (lent_length xs n l) (refused-at (deep_by xs n ds) TooDeep n i k h w)
 
-    pub depths_passed : n ≤ i → Passed ≡ tested_by (nesting_test (take n (nodes_in xs)) ds)
+    pub depths_passed : n ≤ i → Ok tt ≡ tested_by (nesting_test (take n (nodes_in xs)) ds)
     unfolding nesting_test
     depths_passed h = rw (lent_length xs n l) (passed-all (deep_by xs n ds) TooDeep n i k h)

@@ -1,5 +1,5 @@
 -- The tests of a whole table, put together from those of its parts. Assumes nothing.
-use Rattle.std.specs.Prelude.{Bool, true, false, not, List, ◌≡◌, ℕ, zero, suc, ◌/◌, ◌≤◌, ◌<◌, leb, ltb, length, take, replicate}
+use Rattle.std.specs.Prelude.{Bool, true, false, not, List, ◌≡◌, ℕ, zero, suc, ◌/◌, ◌≤◌, ◌<◌, leb, ltb, length, take, replicate, Err, None, Ok, Some}
 use Rattle.std.proofs.Math.Path.{refl, sym}
 use Rattle.std.proofs.Common.{◌∙◌, arith}
 use borrow.Author.Tests.{le-leb, lt-leb, leb-true, lt-ltb, le-ltb, not-false}
@@ -15,17 +15,15 @@ use Rattle.script.specs.Tests.{all}
 use Rattle.script.specs.Tests.Laws.{both_true, lowest-none, need_none_none}
 use Rattle.script.specs.declared.Refusal.TheVariants.{TableTooSmall, TooMany, NoNode, BadTypeCode, BadOperand}
 use Rattle.script.specs.declared.Script.{Script}
-use Rattle.script.specs.declared.Sized.{Sized}
-use Rattle.script.specs.declared.Sized.TheVariants.{Fits, TooLarge}
-use Rattle.script.specs.declared.table.Tested.{Tested}
-use Rattle.script.specs.declared.table.Tested.TheVariants.{Passed, Refused}
+use Rattle.script.specs.Answers.Named.{Sized}
+use Rattle.script.specs.Answers.Named.{Tested}
 
 -- a new list for the nodes
 pub zeros-made : (n : ℕ) → n ≤ node_limit → Zeros n (replicate node_limit 0)
 zeros-made n h = record { room = h; zeros = same_anywhere node_limit 0 }
 
 -- nodes that pass 4
-pub formed-nodes : (xs : List ℕ) (n : ℕ) (t : Tested) → Lent xs n → t ≡ tested_by (operands_test (take n (nodes_in xs))) → t ≡ Passed → FormedNodes xs n
+pub formed-nodes : (xs : List ℕ) (n : ℕ) (t : Tested) → Lent xs n → t ≡ tested_by (operands_test (take n (nodes_in xs))) → t ≡ Ok tt → FormedNodes xs n
 unfolding operands_test
 formed-nodes xs n t l e f =
     let o = (need_none_none _ BadOperand _ (passed_none _ (sym e ∙ f))).0 in
@@ -40,7 +38,7 @@ formed-nodes xs n t l e f =
 -- ---- 3 and 33
 
 module _ (t : Table) where
-  pub used_no_node : t.node_count ≡ 0 → Refused NoNode ≡ tested_by (used_test t)
+  pub used_no_node : t.node_count ≡ 0 → Err NoNode ≡ tested_by (used_test t)
   unfolding used_test
   used_no_node e = rw (le-ltb 0 t.node_count (omega arith)) refl
 
@@ -52,7 +50,7 @@ module _ (t : Table) where
         go zero f = absurd (f refl)
         go (suc n) f = omega arith
 
-    pub used-wrong-code : r ≡ false → Refused BadTypeCode ≡ tested_by (used_test t)
+    pub used-wrong-code : r ≡ false → Err BadTypeCode ≡ tested_by (used_test t)
     unfolding used_test
     used-wrong-code f = rw (has-node, sym codes ∙ f) refl
 
@@ -62,30 +60,30 @@ module _ (t : Table) where
 
 -- ---- 32 and 2
 
-too_large : (b : Bool) (x : Script) → pick_sized b (Fits x) ≡ TooLarge → b ≡ false
+too_large : (b : Bool) (x : Script) → pick_sized b (Some x) ≡ None → b ≡ false
 too_large true x e = let z : ◌≡◌ {A = ℕ} 0 1 = cc in absurd (omega arith)
 too_large false x e = refl
 
-fits_both : (b : Bool) (x y : Script) → pick_sized b (Fits x) ≡ Fits y → b ≡ true
+fits_both : (b : Bool) (x y : Script) → pick_sized b (Some x) ≡ Some y → b ≡ true
 fits_both true x y e = refl
 fits_both false x y e = let z : ◌≡◌ {A = ℕ} 0 1 = cc in absurd (omega arith)
 
 module _ (xs : List ℕ) (n : ℕ) (es : List ℕ) (m : ℕ) where
-  pub table-few-nodes : length xs / node_width < node_limit → Refused TableTooSmall ≡ tested_by (table_test (table_in xs n es m))
+  pub table-few-nodes : length xs / node_width < node_limit → Err TableTooSmall ≡ tested_by (table_test (table_in xs n es m))
   unfolding table_test
   table-few-nodes h = let l = length-nodes_in xs in rw (lt-leb node_limit (length (nodes_in xs)) (omega arith)) refl
 
   module _ (nodes-lent : node_limit ≤ length xs / node_width) where
-    pub table-few-entries : length es < entry_limit → Refused TableTooSmall ≡ tested_by (table_test (table_in xs n es m))
+    pub table-few-entries : length es < entry_limit → Err TableTooSmall ≡ tested_by (table_test (table_in xs n es m))
     unfolding table_test
     table-few-entries h = rw (enough-nodes xs nodes-lent, lt-leb entry_limit (length es) h) refl
 
     module _ (entries-lent : entry_limit ≤ length es) (s : Sized) (sized : s ≡ script_of n m) where
-      pub table_too_many : s ≡ TooLarge → Refused TooMany ≡ tested_by (table_test (table_in xs n es m))
+      pub table_too_many : s ≡ None → Err TooMany ≡ tested_by (table_test (table_in xs n es m))
       unfolding table_test
       table_too_many e = rw (enough-nodes xs nodes-lent, le-leb entry_limit (length es) entries-lent, too_large (counts_fit n m) (size_of n m) (sym sized ∙ e)) refl
 
-      module _ (x : Script) (fits : s ≡ Fits x) where
+      module _ (x : Script) (fits : s ≡ Some x) where
         counts_fit_lem : counts_fit n m ≡ true
         counts_fit_lem = fits_both (counts_fit n m) (size_of n m) x (sym sized ∙ fits)
 

@@ -9,8 +9,8 @@ ghost use Rattle.script.specs.Code.TableTests.{uses_test, depths_test, used_test
 ghost use Rattle.script.specs.Flat.{tested_by, FormedNodes};
 ghost use Rattle.script.specs.Tests.{all, pick};
 
-use script::table::{Tested, WIDTH};
-use script::{Node, Refusal, Script, Sized};
+use script::table::WIDTH;
+use script::{Node, Refusal, Script};
 use table::{is_sym, node_at, node_operands, operand_at, well_formed};
 
 // All codes of the first `count` entries are types.
@@ -18,29 +18,20 @@ fn right_codes(entries: &[u32], count: usize) -> bool
     requires { count ≤ length entries.now }
     ensures { result ≡ all (λ c. leb c type_limit) (take count entries.now) }
 {
-    let mut i = 0;
-    while i < count {
-        if Script::TYPE < entries[i] {
-            return false;
-        }
-        i += 1;
-    }
-    true
+    entries[..count].iter().all(|&code| code <= Script::TYPE)
 }
 
 // 4 of the first `nodes` nodes.
-fn test_operands(table: &[u32], nodes: usize) -> Tested
+fn test_operands(table: &[u32], nodes: usize) -> Result<(), Refusal>
     requires { Lent table.now nodes }
     ensures { result ≡ tested_by (operands_test (take nodes (nodes_in table.now))) }
 {
-    let mut i = 0;
-    while i < nodes {
+    for i in 0..nodes {
         if !well_formed(node_at(table, i), i) {
-            return Tested::Refused(Refusal::BadOperand(i as u32));
+            return Err(Refusal::BadOperand(i as u32));
         }
-        i += 1;
     }
-    Tested::Passed
+    Ok(())
 }
 
 // One more at each place that is an operand of n.
@@ -50,11 +41,9 @@ fn count_operands(counts: &mut [u32], n: Node)
     ensures { Counted (operands n) counts.old counts.new }
 {
     let m = node_operands(n.kind);
-    let mut k = 0;
-    while k < m {
+    for k in 0..m {
         let o = operand_at(n, k) as usize;
         counts[o] += 1;
-        k += 1;
     }
 }
 
@@ -64,27 +53,23 @@ fn count_uses(table: &[u32], nodes: usize, counts: &mut [u32])
     requires zeros { Zeros nodes counts.old }
     ensures { UseCounts (take nodes (nodes_in table.now)) counts.new }
 {
-    let mut j = 0;
-    while j < nodes {
+    for j in 0..nodes {
         count_operands(counts, node_at(table, j));
-        j += 1;
     }
 }
 
 // 5 by the counts of the first `nodes` nodes. The last node is not tested.
-fn test_counts(counts: &[u32], nodes: usize) -> Tested
+fn test_counts(counts: &[u32], nodes: usize) -> Result<(), Refusal>
     requires nodes_in_bounds { nodes ≤ length counts.now }
     requires nodes_le_node_limit { nodes ≤ node_limit }
     ensures { result ≡ tested_by (counts_test counts.now nodes) }
 {
-    let mut i = 0;
-    while i + 1 < nodes {
+    for i in 0..nodes.saturating_sub(1) {
         if counts[i] != 1 {
-            return Tested::Refused(Refusal::NotUsedOnce(i as u32));
+            return Err(Refusal::NotUsedOnce(i as u32));
         }
-        i += 1;
     }
-    Tested::Passed
+    Ok(())
 }
 
 // The number v at each place that is an operand of n.
@@ -93,11 +78,9 @@ fn spread(depths: &mut [u32], n: Node, v: u32)
     ensures { Spread (operands n) v depths.old depths.new }
 {
     let m = node_operands(n.kind);
-    let mut k = 0;
-    while k < m {
+    for k in 0..m {
         let o = operand_at(n, k) as usize;
         depths[o] = v;
-        k += 1;
     }
 }
 
@@ -118,10 +101,8 @@ fn count_syms(table: &[u32], nodes: usize) -> u32
     ensures { result ≡ syms_in (take nodes (nodes_in table.now)) }
 {
     let mut count = 0;
-    let mut i = 0;
-    while i < nodes {
+    for i in 0..nodes {
         count = with_sym(node_at(table, i), count);
-        i += 1;
     }
     count
 }
@@ -132,9 +113,7 @@ fn note_depths(table: &[u32], nodes: usize, depths: &mut [u32])
     requires zeros { Zeros nodes depths.old }
     ensures { Nestings (take nodes (nodes_in table.now)) depths.new }
 {
-    let mut j = nodes;
-    while 0 < j {
-        j -= 1;
+    for j in (0..nodes).rev() {
         let n = node_at(table, j);
         let inside = with_sym(n, depths[j]);
         spread(depths, n, inside);
@@ -152,23 +131,21 @@ fn too_deep(n: Node, d: u32) -> bool
 }
 
 // 13 by the depths of the first `nodes` nodes.
-fn test_depths(table: &[u32], nodes: usize, depths: &[u32]) -> Tested
+fn test_depths(table: &[u32], nodes: usize, depths: &[u32]) -> Result<(), Refusal>
     requires lent { Lent table.now nodes }
     requires nodes_in_bounds { nodes ≤ length depths.now }
     ensures { result ≡ tested_by (nesting_test (take nodes (nodes_in table.now)) depths.now) }
 {
-    let mut i = 0;
-    while i < nodes {
+    for i in 0..nodes {
         if too_deep(node_at(table, i), depths[i]) {
-            return Tested::Refused(Refusal::TooDeep(i as u32));
+            return Err(Refusal::TooDeep(i as u32));
         }
-        i += 1;
     }
-    Tested::Passed
+    Ok(())
 }
 
 // 5 of the first `nodes` nodes, which are well formed.
-fn test_uses(table: &[u32], nodes: usize) -> Tested
+fn test_uses(table: &[u32], nodes: usize) -> Result<(), Refusal>
     requires { FormedNodes table.now nodes }
     ensures { result ≡ tested_by (uses_test (take nodes (nodes_in table.now))) }
 {
@@ -178,12 +155,12 @@ fn test_uses(table: &[u32], nodes: usize) -> Tested
 }
 
 // 13 of the first `nodes` nodes, which are well formed. No more `sym` are around a node than there are.
-fn test_nesting(table: &[u32], nodes: usize) -> Tested
+fn test_nesting(table: &[u32], nodes: usize) -> Result<(), Refusal>
     requires { FormedNodes table.now nodes }
     ensures { result ≡ tested_by (depths_test (take nodes (nodes_in table.now))) }
 {
     if count_syms(table, nodes) as usize <= Script::NESTING {
-        return Tested::Passed;
+        return Ok(());
     }
     let mut depths = [0u32; Script::NODES];
     note_depths(table, nodes, &mut depths);
@@ -191,54 +168,58 @@ fn test_nesting(table: &[u32], nodes: usize) -> Tested
 }
 
 // 5 and 13 of the first `nodes` nodes, which are well formed.
-pub fn test_tree(table: &[u32], nodes: usize) -> Tested
+pub fn test_tree(table: &[u32], nodes: usize) -> Result<(), Refusal>
     requires { FormedNodes table.now nodes }
     ensures { result ≡ tested_by (tree_test (take nodes (nodes_in table.now))) }
 {
-    match test_uses(table, nodes) {
-        Tested::Refused(r) => Tested::Refused(r),
-        Tested::Passed => test_nesting(table, nodes),
-    }
+    test_uses(table, nodes)?;
+    test_nesting(table, nodes)
 }
 
 // 4, 5 and 13 of the first `nodes` nodes.
-fn test_nodes(table: &[u32], nodes: usize) -> Tested
+fn test_nodes(table: &[u32], nodes: usize) -> Result<(), Refusal>
     requires { Lent table.now nodes }
     ensures { result ≡ tested_by (nodes_test (take nodes (nodes_in table.now))) }
 {
-    match test_operands(table, nodes) {
-        Tested::Refused(r) => Tested::Refused(r),
-        Tested::Passed => test_tree(table, nodes),
-    }
+    test_operands(table, nodes)?;
+    test_tree(table, nodes)
 }
 
 // 3, 33, 4, 5 and 13 of a table whose counts are within the limits and the lent places.
-fn test_used(table: &[u32], nodes: usize, entries: &[u32], entry_count: usize) -> Tested
+fn test_used(
+    table: &[u32],
+    nodes: usize,
+    entries: &[u32],
+    entry_count: usize,
+) -> Result<(), Refusal>
     requires lent { Lent table.now nodes }
     requires entry_count_in_bounds { entry_count ≤ length entries.now }
     ensures { result ≡ tested_by (used_test (table_in table.now nodes entries.now entry_count)) }
 {
     if nodes == 0 {
-        return Tested::Refused(Refusal::NoNode);
+        return Err(Refusal::NoNode);
     }
     if right_codes(entries, entry_count) {
         return test_nodes(table, nodes);
     }
-    Tested::Refused(Refusal::BadTypeCode)
+    Err(Refusal::BadTypeCode)
 }
 
 // All tests of a table, in their order.
-pub fn test_table(table: &[u32], nodes: usize, entries: &[u32], entry_count: usize) -> Tested
+pub fn test_table(
+    table: &[u32],
+    nodes: usize,
+    entries: &[u32],
+    entry_count: usize,
+) -> Result<(), Refusal>
     ensures { result ≡ tested_by (table_test (table_in table.now nodes entries.now entry_count)) }
 {
     if table.len() / WIDTH < Script::NODES {
-        return Tested::Refused(Refusal::TableTooSmall);
+        return Err(Refusal::TableTooSmall);
     }
     if entries.len() < Script::ENTRIES {
-        return Tested::Refused(Refusal::TableTooSmall);
+        return Err(Refusal::TableTooSmall);
     }
-    match Script::of(nodes, entry_count) {
-        Sized::TooLarge => Tested::Refused(Refusal::TooMany),
-        Sized::Fits(_) => test_used(table, nodes, entries, entry_count),
-    }
+    Script::of(nodes, entry_count).ok_or(Refusal::TooMany)?;
+    test_used(table, nodes, entries, entry_count)
 }

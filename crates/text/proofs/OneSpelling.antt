@@ -1,6 +1,6 @@
 -- Every script has one text (docs/SCRIPTS.md): a text that is read is the text of what it means, so that no two texts mean the same, and
 -- writing what a call of the reader read gives the same bytes back. The table that is read passes every test. Assumes nothing.
-use Rattle.std.specs.Prelude.{Bool, true, false, ◌&&◌, ◌≡◌, refl, ℕ, ◌-◌, ◌≤◌, leb, length, take, drop, replicate}
+use Rattle.std.specs.Prelude.{Bool, true, false, ◌&&◌, ◌≡◌, refl, ℕ, ◌-◌, ◌≤◌, leb, length, take, drop, replicate, Ok}
 use Rattle.std.proofs.Math.Bool.{not}
 use mathlib.Core.List.{List, [], ◌++◌}
 use Rattle.std.proofs.Math.Option.{none}
@@ -13,10 +13,8 @@ use Rattle.script.specs.Table.Laws.{Sound, nodes_test-sound, passes_none}
 use Rattle.script.specs.Tests.{pick, lowest}
 use Rattle.script.specs.Tests.Laws.{both_true, none_need_none, none-lowest}
 use Rattle.script.specs.declared.Node.{Node}
-use Rattle.script.specs.declared.Reading.{Reading}
 use Rattle.script.specs.declared.Refusal.TheVariants.{TableTooSmall, TextTooLong, BadOperand}
 use Rattle.script.specs.declared.Script.{Script}
-use Rattle.script.specs.declared.Writing.{Writing}
 use Rattle.text.specs.Bytes.{lf}
 use Rattle.text.specs.Grammar.{parts, Meaning, means, refused, lines_from, meaning_of}
 use Rattle.text.specs.Reading.{filled, table_read}
@@ -28,6 +26,8 @@ use Rattle.text.proofs.Writing.Laws.{long-enough}
 use Rattle.text.specs.OneSpelling.Lines.{joined-parts}
 use Rattle.text.specs.OneSpelling.Text.{Whole, whole, taken-text, kept-none, taken-kept}
 use Rattle.text.specs.OneSpelling.{ReadAs, table_after}
+use Rattle.script.specs.Answers.Named.{Reading}
+use Rattle.script.specs.Answers.Named.{Writing}
 
 -- ---- texts
 
@@ -79,12 +79,12 @@ module _ (text es : List ℕ) (ns : List Node) (e : meaning_of text ≡ means es
 pub one_text : (x y es : List ℕ) (ns : List Node) → meaning_of x ≡ means es ns → meaning_of y ≡ means es ns → x ≡ y
 one_text x y es ns e f = sym (read_written x es ns e) ∙ read_written y es ns f
 
-pub read_as : (text : List ℕ) (n m : ℕ) (s : Script) → (Reads.reading text n m).answer ≡ Reading.Read s → ReadAs text n m s
+pub read_as : (text : List ℕ) (n m : ℕ) (s : Script) → (Reads.reading text n m).answer ≡ Ok s → ReadAs text n m s
 unfolding Reads.reading
 read_as text n m s e = go (leb node_limit n && leb entry_limit m) refl (meaning_of text) refl e
   where
     go : (b : Bool) → leb node_limit n && leb entry_limit m ≡ b → (t : Meaning) → meaning_of text ≡ t
-        → Reads.answer_of (pick b t (refused TableTooSmall)) ≡ Reading.Read s → ReadAs text n m s
+        → Reads.answer_of (pick b t (refused TableTooSmall)) ≡ Ok s → ReadAs text n m s
     go true p (means es ns) q e =
         let b = both_true (leb node_limit n) (leb entry_limit m) p in
         record {
@@ -100,7 +100,7 @@ read_as text n m s e = go (leb node_limit n && leb entry_limit m) refl (meaning_
     go false p t q e = let z : ◌≡◌ {A = ℕ} 0 1 = cc in absurd (omega arith)
 
 write_read : (text out es : List ℕ) (ns : List Node) (n m : ℕ) → meaning_of text ≡ means es ns → node_limit ≤ n → entry_limit ≤ m → length text ≤ length out
-    → Writes.writing (table_read es ns n m) out ≡ record { answer = Writing.Wrote (length text); bytes = text ++ drop (length text) out }
+    → Writes.writing (table_read es ns n m) out ≡ record { answer = Ok (length text); bytes = text ++ drop (length text) out }
 unfolding Writes.writing
 write_read text out es ns n m e h l f =
     rw (
@@ -112,8 +112,8 @@ write_read text out es ns n m e h l f =
     )
     refl
 
-pub one_spelling : (text out : List ℕ) (n m : ℕ) (s : Script) → (Reads.reading text n m).answer ≡ Reading.Read s → length text ≤ length out
-    → Writes.writing (table_after (Reads.reading text n m) s) out ≡ record { answer = Writing.Wrote (length text); bytes = text ++ drop (length text) out }
+pub one_spelling : (text out : List ℕ) (n m : ℕ) (s : Script) → (Reads.reading text n m).answer ≡ Ok s → length text ≤ length out
+    → Writes.writing (table_after (Reads.reading text n m) s) out ≡ record { answer = Ok (length text); bytes = text ++ drop (length text) out }
 one_spelling text out n m s e h =
     let r = read_as text n m s e in
     ap₂ (λ (o : Reads.Outcome) (s : Script). Writes.writing (table_after o s) out) r.outcome r.counts

@@ -1,13 +1,12 @@
 -- Texts to try, with what the reader has to say of each, and tables to write into outputs of several lengths. Proved together by computation.
 -- Assumes nothing.
-use Rattle.std.specs.Prelude.{List, [], ◌∷◌, ◌++◌, map, ◌≡◌, refl, ℕ, replicate}
+use Rattle.std.specs.Prelude.{List, [], ◌∷◌, ◌++◌, map, ◌≡◌, refl, ℕ, replicate, None, Some}
 use Rattle.script.specs.Answers.{Report, table_of, bytes_of, refused_with, report_of_reading, report_of_writing}
 use Rattle.script.specs.Rows.{rows, row_of}
 use Rattle.script.specs.Rows.Kinds.{kind_count}
 use Rattle.script.specs.Table.{Table, node_of, well_formed, operands, times_in, uses, syms_around, too_deep, tree_test, nodes_test, table_test}
 use Rattle.script.specs.Table.Cases.{lend, int', true', add', sym'}
 use Rattle.script.specs.Tests.{lowest_from}
-use Rattle.script.specs.declared.Place.TheVariants.{Nowhere, At}
 use Rattle.text.specs.Bytes.{lf, tab, letter_b, letter_i, letter_r, entry_word}
 use Rattle.text.specs.Fields.{value_after, decimal_up_to, type_after, type_of, same_bytes, kind_named}
 use Rattle.text.specs.Grammar.{parts, numbers_up_to, line_of, at_end, lines_from, meaning_of}
@@ -61,42 +60,42 @@ cases =
     -- P1, P7 and P8 as texts
     reads (says 1 [] ∷ says 0 (5 ∷ []) ∷ says 1 [] ∷ says 0 (3 ∷ []) ∷ says 4 (2 ∷ 3 ∷ []) ∷ says 8 (0 ∷ 1 ∷ 4 ∷ []) ∷ says 14 (5 ∷ []) ∷ []) (table_of 7 0)
     ∷ reads (entry (references 15 letter_i) ∷ says 3 (0 ∷ []) ∷ says 10 (0 ∷ []) ∷ []) (table_of 2 1)
-    ∷ reads [] (refused_with 3 Nowhere)
+    ∷ reads [] (refused_with 3 None)
     -- 1: no word, an empty line, a field too many, a field too few, an empty field
-    ∷ reads ((letter_i ∷ lf ∷ []) ∷ []) (refused_with 1 (At 0))
-    ∷ reads (says 1 [] ∷ (lf ∷ []) ∷ []) (refused_with 1 (At 1))
-    ∷ reads (says 1 (0 ∷ []) ∷ []) (refused_with 1 (At 0))
-    ∷ reads (says 0 [] ∷ []) (refused_with 1 (At 0))
-    ∷ reads (line (word_of 1 ∷ [] ∷ []) ∷ []) (refused_with 1 (At 0))
+    ∷ reads ((letter_i ∷ lf ∷ []) ∷ []) (refused_with 1 (Some 0))
+    ∷ reads (says 1 [] ∷ (lf ∷ []) ∷ []) (refused_with 1 (Some 1))
+    ∷ reads (says 1 (0 ∷ []) ∷ []) (refused_with 1 (Some 0))
+    ∷ reads (says 0 [] ∷ []) (refused_with 1 (Some 0))
+    ∷ reads (line (word_of 1 ∷ [] ∷ []) ∷ []) (refused_with 1 (Some 0))
     -- 1: a last line without LF, CR before LF, a leading zero
-    ∷ reads (says 1 [] ∷ word_of 1 ∷ []) (refused_with 1 (At 1))
-    ∷ reads (line ((word_of 1 ++ (13 ∷ [])) ∷ []) ∷ []) (refused_with 1 (At 0))
-    ∷ reads (line (word_of 0 ∷ (48 ∷ 49 ∷ []) ∷ []) ∷ []) (refused_with 1 (At 0))
+    ∷ reads (says 1 [] ∷ word_of 1 ∷ []) (refused_with 1 (Some 1))
+    ∷ reads (line ((word_of 1 ++ (13 ∷ [])) ∷ []) ∷ []) (refused_with 1 (Some 0))
+    ∷ reads (line (word_of 0 ∷ (48 ∷ 49 ∷ []) ∷ []) ∷ []) (refused_with 1 (Some 0))
     -- 1: numbers and types out of their ranges, and the last ones within
-    ∷ reads (says 0 (4294967296 ∷ []) ∷ []) (refused_with 1 (At 0))
+    ∷ reads (says 0 (4294967296 ∷ []) ∷ []) (refused_with 1 (Some 0))
     ∷ reads (says 0 (4294967295 ∷ []) ∷ []) (table_of 1 0)
-    ∷ reads (says 3 (144 ∷ []) ∷ []) (refused_with 1 (At 0))
+    ∷ reads (says 3 (144 ∷ []) ∷ []) (refused_with 1 (Some 0))
     ∷ reads (says 3 (143 ∷ []) ∷ []) (table_of 1 0)
-    ∷ reads (says 14 (128 ∷ []) ∷ []) (refused_with 1 (At 0))
-    ∷ reads (entry (references 16 letter_b) ∷ []) (refused_with 1 (At 0))
+    ∷ reads (says 14 (128 ∷ []) ∷ []) (refused_with 1 (Some 0))
+    ∷ reads (entry (references 16 letter_b) ∷ []) (refused_with 1 (Some 0))
     -- 1: an entry out of turn
-    ∷ reads (says 1 [] ∷ entry (references 0 letter_b) ∷ []) (refused_with 1 (At 1))
+    ∷ reads (says 1 [] ∷ entry (references 0 letter_b) ∷ []) (refused_with 1 (Some 1))
     -- 2: a 17th entry, also before the 4 and the 1 of later lines
-    ∷ reads (replicate 17 (entry (references 0 letter_b)) ++ (says 14 (5 ∷ []) ∷ [])) (refused_with 2 (At 16))
+    ∷ reads (replicate 17 (entry (references 0 letter_b)) ++ (says 14 (5 ∷ []) ∷ [])) (refused_with 2 (Some 16))
     -- 2: a 129th node, also with a bad operand; of wrong form it is 1
-    ∷ reads (replicate 128 (says 1 []) ++ (says 14 (127 ∷ []) ∷ [])) (refused_with 2 (At 128))
-    ∷ reads (replicate 128 (says 1 []) ++ (says 14 (128 ∷ []) ∷ [])) (refused_with 1 (At 128))
+    ∷ reads (replicate 128 (says 1 []) ++ (says 14 (127 ∷ []) ∷ [])) (refused_with 2 (Some 128))
+    ∷ reads (replicate 128 (says 1 []) ++ (says 14 (128 ∷ []) ∷ [])) (refused_with 1 (Some 128))
     -- 3: entries alone
-    ∷ reads (entry (references 0 letter_i) ∷ []) (refused_with 3 Nowhere)
+    ∷ reads (entry (references 0 letter_i) ∷ []) (refused_with 3 None)
     -- 4: the node itself, before the 1 of the next line
-    ∷ reads (says 14 (0 ∷ []) ∷ (lf ∷ []) ∷ []) (refused_with 4 (At 0))
-    ∷ reads (entry (references 0 letter_i) ∷ says 1 [] ∷ says 14 (127 ∷ []) ∷ []) (refused_with 4 (At 2))
+    ∷ reads (says 14 (0 ∷ []) ∷ (lf ∷ []) ∷ []) (refused_with 4 (Some 0))
+    ∷ reads (entry (references 0 letter_i) ∷ says 1 [] ∷ says 14 (127 ∷ []) ∷ []) (refused_with 4 (Some 2))
     -- 5 and 13 name nodes, not lines
-    ∷ reads (entry (references 0 letter_i) ∷ says 0 (1 ∷ []) ∷ says 4 (0 ∷ 0 ∷ []) ∷ []) (refused_with 5 (At 0))
-    ∷ reads (entry (references 0 letter_i) ∷ says 0 (1 ∷ []) ∷ says 14 (0 ∷ []) ∷ says 14 (1 ∷ []) ∷ says 14 (2 ∷ []) ∷ says 14 (3 ∷ []) ∷ says 14 (4 ∷ []) ∷ []) (refused_with 13 (At 1))
+    ∷ reads (entry (references 0 letter_i) ∷ says 0 (1 ∷ []) ∷ says 4 (0 ∷ 0 ∷ []) ∷ []) (refused_with 5 (Some 0))
+    ∷ reads (entry (references 0 letter_i) ∷ says 0 (1 ∷ []) ∷ says 14 (0 ∷ []) ∷ says 14 (1 ∷ []) ∷ says 14 (2 ∷ []) ∷ says 14 (3 ∷ []) ∷ says 14 (4 ∷ []) ∷ []) (refused_with 13 (Some 1))
     -- 31 before all of these
-    ∷ reads (replicate 8193 lf ∷ []) (refused_with 31 Nowhere)
-    ∷ reads (replicate 8192 lf ∷ []) (refused_with 1 (At 0))
+    ∷ reads (replicate 8193 lf ∷ []) (refused_with 31 None)
+    ∷ reads (replicate 8192 lf ∷ []) (refused_with 1 (Some 0))
     ∷ []
 
 pub cases_hold : map asking cases ≡ map right cases
@@ -132,12 +131,12 @@ outputs =
     -- the text of 21 bytes: exactly long enough, one byte more, one byte less
     record { table = two; lent = dots 21; answer = bytes_of 21; bytes = its_text }
     ∷ record { table = two; lent = dots 22; answer = bytes_of 21; bytes = its_text ++ dots 1 }
-    ∷ record { table = two; lent = dots 20; answer = refused_with 36 Nowhere; bytes = dots 20 }
-    ∷ record { table = two; lent = []; answer = refused_with 36 Nowhere; bytes = [] }
+    ∷ record { table = two; lent = dots 20; answer = refused_with 36 None; bytes = dots 20 }
+    ∷ record { table = two; lent = []; answer = refused_with 36 None; bytes = [] }
     -- the tests of the table come before 36
-    ∷ record { table = lend (32 ∷ []) (add' 0 0 ∷ []); lent = dots 3; answer = refused_with 33 Nowhere; bytes = dots 3 }
-    ∷ record { table = lend [] (true' ∷ node_of kind_count 0 0 0 ∷ []); lent = dots 3; answer = refused_with 4 (At 1); bytes = dots 3 }
-    ∷ record { table = lend [] []; lent = dots 99; answer = refused_with 3 Nowhere; bytes = dots 99 }
+    ∷ record { table = lend (32 ∷ []) (add' 0 0 ∷ []); lent = dots 3; answer = refused_with 33 None; bytes = dots 3 }
+    ∷ record { table = lend [] (true' ∷ node_of kind_count 0 0 0 ∷ []); lent = dots 3; answer = refused_with 4 (Some 1); bytes = dots 3 }
+    ∷ record { table = lend [] []; lent = dots 99; answer = refused_with 3 None; bytes = dots 99 }
     ∷ []
 
 pub outputs_hold : (map writes outputs ≡ map (λ o. o.answer) outputs) × (map leaves outputs ≡ map (λ o. o.bytes) outputs)

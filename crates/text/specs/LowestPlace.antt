@@ -1,6 +1,6 @@
 -- The place of a refused text (docs/REFUSALS.md, 'Which one comes first'): a line's refusal is that of the lowest line that is refused, all before it being taken, and a
 -- node's refusal is that of the lowest node that fails the test, all lines being taken. Assumes nothing.
-use Rattle.std.specs.Prelude.{Bool, true, false, not, List, [], ◌∷◌, ◌++◌, ◌≡◌, refl, ℕ, zero, suc, ◌+◌, ◌≤◌, ◌<◌, pred, leb, ltb, eqb, length, take, drop, get_or}
+use Rattle.std.specs.Prelude.{Bool, true, false, not, List, [], ◌∷◌, ◌++◌, ◌≡◌, refl, ℕ, zero, suc, ◌+◌, ◌≤◌, ◌<◌, pred, leb, ltb, eqb, length, take, drop, get_or, Err}
 use Rattle.std.proofs.Math.Option.{Option, none, some}
 use Rattle.std.proofs.Common.{sym, ap, ◌∙◌, arith, length-drop, length-take-le, take-take, get_or-take, leb-false, le-leb, lt-ltb, eqb-true}
 use Rattle.std.proofs.lemmas.Bool.{not-false}
@@ -11,13 +11,13 @@ use Rattle.script.specs.Table.{right_node, uses, too_deep, tree_test}
 use Rattle.script.specs.Tests.{pick, lowest, need_none}
 use Rattle.script.specs.Tests.Laws.{Lowest, lowest-some, lowest-none, some-not-none}
 use Rattle.script.specs.declared.Node.{Node}
-use Rattle.script.specs.declared.Reading.{Reading}
 use Rattle.script.specs.declared.Refusal.{Refusal}
 use Rattle.script.specs.declared.Refusal.TheVariants.{BadLine, TooManyAt, BadOperand, NoNode, NotUsedOnce, TooDeep, TextTooLong}
 use Rattle.text.specs.Bytes.{lf}
 use Rattle.text.specs.Grammar.{parts, Line, entry_line, node_line, line_of, Step, go_on, stop, admit, Meaning, means, refused, unless, at_end, last_part, after, lines_from, meaning_of}
 use Rattle.text.specs.Reading as Reads
 use Rattle.text.specs.SameTable.Text.{Some, some-parts, parts-some}
+use Rattle.script.specs.Answers.Named.{Reading}
 
 -- ---- what the places say
 
@@ -280,11 +280,11 @@ lowest-node text r o e = by-node text o (why-refused text r e)
 -- ---- whole calls
 
 -- a reading into a table that is large enough is refused as its text is
-pub reading-refused : (text : List ℕ) (n m : ℕ) (r : Refusal) → node_limit ≤ n → entry_limit ≤ m → (Reads.reading text n m).answer ≡ Reading.Refused r
+pub reading-refused : (text : List ℕ) (n m : ℕ) (r : Refusal) → node_limit ≤ n → entry_limit ≤ m → (Reads.reading text n m).answer ≡ Err r
     → meaning_of text ≡ refused r
 unfolding Reads.reading
 reading-refused text n m r h l e = go (meaning_of text) refl (rw (le-leb node_limit n h, le-leb entry_limit m l) at e)
   where
-    go : (t : Meaning) → meaning_of text ≡ t → Reads.answer_of t ≡ Reading.Refused r → meaning_of text ≡ refused r
+    go : (t : Meaning) → meaning_of text ≡ t → Reads.answer_of t ≡ Err r → meaning_of text ≡ refused r
     go (means es ns) q e = let z : ◌≡◌ {A = ℕ} 0 1 = cc in absurd (omega arith)
     go (refused s) q e = let z : s ≡ r = cc in q ∙ ap refused z

@@ -1,16 +1,16 @@
 -- The whole answer of reading a text into a lent table, and what every lent place then holds (docs/SCRIPTS.md, 'Reading and writing'): 32 comes before all else; a
 -- refused reading leaves `false` in every place of the table and 0 in every entry, and after success the unused places hold the same.
 -- Assumes nothing.
-use Rattle.std.specs.Prelude.{◌&&◌, List, [], ◌++◌, ℕ, ◌*◌, ◌-◌, leb, length, drop, replicate}
+use Rattle.std.specs.Prelude.{◌&&◌, List, [], ◌++◌, ℕ, ◌*◌, ◌-◌, leb, length, drop, replicate, Err, Ok}
 use Rattle.script.specs.Answers.{Report, report_of_reading}
 use Rattle.script.specs.Flat.{node_width, flat, nodes_in}
 use Rattle.script.specs.Limits.{node_limit, entry_limit, size_of}
 use Rattle.script.specs.Table.{Table, unused}
 use Rattle.script.specs.Tests.{pick}
 use Rattle.script.specs.declared.Node.{Node}
-use Rattle.script.specs.declared.Reading.{Reading}
 use Rattle.script.specs.declared.Refusal.TheVariants.{TableTooSmall}
 use Rattle.text.specs.Grammar.{Meaning, means, refused, meaning_of}
+use Rattle.script.specs.Answers.Named.{Reading}
 
 pub record Outcome : Type 0 where
   pub answer : Reading
@@ -18,8 +18,8 @@ pub record Outcome : Type 0 where
   pub lent_entries : List ℕ
 
 abbrev pub answer_of : Meaning → Reading
-answer_of (means es ns) = Reading.Read (size_of (length ns) (length es))
-answer_of (refused r) = Reading.Refused r
+answer_of (means es ns) = Ok (size_of (length ns) (length es))
+answer_of (refused r) = Err r
 
 abbrev pub nodes_read : Meaning → List Node
 nodes_read (means es ns) = ns

@@ -1,6 +1,6 @@
 -- What is written reads back as the same table (docs/SCRIPTS.md): for every table that passes its tests, its text is within the limit and
 -- means its entries and nodes, and reading what a call of the writer wrote fills a lent table with the same. Assumes nothing.
-use Rattle.std.specs.Prelude.{Bool, true, false, not, ◌≡◌, ℕ, ◌≤◌, leb, length, take, drop}
+use Rattle.std.specs.Prelude.{Bool, true, false, not, ◌≡◌, ℕ, ◌≤◌, leb, length, take, drop, Err, Ok}
 use mathlib.Core.List.{List, [], ◌++◌}
 use Rattle.std.proofs.Math.Option.{Option, none, some}
 use Rattle.std.proofs.Math.Path.{refl}
@@ -13,10 +13,8 @@ use Rattle.script.specs.Table.Laws.{passes, sound-nodes_test}
 use Rattle.script.specs.Tests.{pick, lowest}
 use Rattle.script.specs.Tests.Laws.{get_d_all, need_none_none, true-both}
 use Rattle.script.specs.declared.Node.{Node}
-use Rattle.script.specs.declared.Reading.{Reading}
 use Rattle.script.specs.declared.Refusal.{Refusal}
 use Rattle.script.specs.declared.Refusal.TheVariants.{BadOperand, OutputTooShort}
-use Rattle.script.specs.declared.Writing.{Writing}
 use Rattle.text.specs.Grammar.{means, at_end, meaning_of}
 use Rattle.text.specs.Reading as Reads
 use Rattle.text.specs.Writing.{text_of, nodes_text}
@@ -24,6 +22,8 @@ use Rattle.text.specs.Writing as Writes
 use Lines.{Each, all-each}
 use Most.{entries-most, nodes-most}
 use Text.{Right, right-all, entries-read, nodes-read}
+use Rattle.script.specs.Answers.Named.{Reading}
+use Rattle.script.specs.Answers.Named.{Writing}
 pub mod Lines
 pub mod Most
 pub mod Numbers
@@ -88,7 +88,7 @@ module _ (t : Table) (e : table_test t ≡ none) where
 
 -- a reading that gives the counts of a table and fills the used places with its nodes and entries
 pub record Same (t : Table) (o : Reads.Outcome) : Type 0 where
-  pub answer : o.answer ≡ Reading.Read (size_of t.node_count t.entry_count)
+  pub answer : o.answer ≡ Ok (size_of t.node_count t.entry_count)
   pub nodes : take t.node_count o.lent_nodes ≡ nodes_of t
   pub entries : take t.entry_count o.lent_entries ≡ entries_of t
 
@@ -97,21 +97,21 @@ record Written (o : Option Refusal) (text : List ℕ) (k : ℕ) (w : Writes.Outc
   pass : o ≡ none
   begins : take k w.bytes ≡ text
 
-written : (o : Option Refusal) (text out : List ℕ) (k : ℕ) → (Writes.outcome_of o text out).answer ≡ Writing.Wrote k → Written o text k (Writes.outcome_of o text out)
+written : (o : Option Refusal) (text out : List ℕ) (k : ℕ) → (Writes.outcome_of o text out).answer ≡ Ok k → Written o text k (Writes.outcome_of o text out)
 written (some r) text out k e = let z : ◌≡◌ {A = ℕ} 0 1 = cc in absurd (omega arith)
 written none text out k e = go (Writes.long_enough out text) e
   where
     whole : Writes.Outcome
-    whole = record { answer = Writing.Wrote (length text); bytes = text ++ drop (length text) out }
+    whole = record { answer = Ok (length text); bytes = text ++ drop (length text) out }
 
     short : Writes.Outcome
-    short = record { answer = Writing.Refused OutputTooShort; bytes = out }
+    short = record { answer = Err OutputTooShort; bytes = out }
 
-    go : (b : Bool) → (pick b whole short).answer ≡ Writing.Wrote k → Written none text k (pick b whole short)
+    go : (b : Bool) → (pick b whole short).answer ≡ Ok k → Written none text k (pick b whole short)
     go true e = record { pass = refl; begins = take_at text (drop (length text) out) k (cc) }
     go false e = let z : ◌≡◌ {A = ℕ} 0 1 = cc in absurd (omega arith)
 
-pub same-table : (t : Table) (out : List ℕ) (k n m : ℕ) → (Writes.writing t out).answer ≡ Writing.Wrote k → node_limit ≤ n → entry_limit ≤ m
+pub same-table : (t : Table) (out : List ℕ) (k n m : ℕ) → (Writes.writing t out).answer ≡ Ok k → node_limit ≤ n → entry_limit ≤ m
     → Same t (Reads.reading (take k (Writes.writing t out).bytes) n m)
 unfolding Writes.writing Reads.reading
 same-table t out k n m e h l =
@@ -120,4 +120,4 @@ same-table t out k n m e h l =
     let a = p.nodes_length in
     let b = p.entries_length in
     rw (w.begins, true-both _ _ (le-leb node_limit n h) (le-leb entry_limit m l), written_read t w.pass)
-    (record { answer = ap₂ (λ (i j : ℕ). Reading.Read (size_of i j)) a b; nodes = take_at (nodes_of t) _ t.node_count a; entries = take_at (entries_of t) _ t.entry_count b })
+    (record { answer = ap₂ (λ (i j : ℕ). Ok (size_of i j)) a b; nodes = take_at (nodes_of t) _ t.node_count a; entries = take_at (entries_of t) _ t.entry_count b })

@@ -1,6 +1,6 @@
 -- The text of a script, and the whole answer of writing it into lent bytes (docs/SCRIPTS.md, 'Reading and writing'): the tests of the table, then
 -- 36. A refusal changes nothing lent, and bytes after the text are untouched. Assumes nothing.
-use Rattle.std.specs.Prelude.{Bool, List, [], ◌∷◌, ◌++◌, ℕ, zero, suc, ◌+◌, ◌/◌, ◌%◌, leb, ltb, length, take, drop}
+use Rattle.std.specs.Prelude.{Bool, List, [], ◌∷◌, ◌++◌, ℕ, zero, suc, ◌+◌, ◌/◌, ◌%◌, leb, ltb, length, take, drop, Err, Ok}
 use Rattle.std.proofs.Math.Option.{Option, none, some}
 use Rattle.script.specs.Answers.{Report, report_of_writing}
 use Rattle.script.specs.Rows.{Row, row_of}
@@ -9,8 +9,8 @@ use Rattle.script.specs.Tests.{pick}
 use Rattle.script.specs.declared.Node.{Node}
 use Rattle.script.specs.declared.Refusal.{Refusal}
 use Rattle.script.specs.declared.Refusal.TheVariants.{OutputTooShort}
-use Rattle.script.specs.declared.Writing.{Writing}
 use Rattle.text.specs.Bytes.{lf, tab, digit0, letter_b, letter_i, letter_r, entry_word}
+use Rattle.script.specs.Answers.Named.{Writing}
 
 -- ---- fields
 
@@ -69,9 +69,9 @@ unfoldable pub long_enough : List ℕ → List ℕ → Bool
 long_enough out text = leb (length text) (length out)
 
 abbrev pub outcome_of : Option Refusal → List ℕ → List ℕ → Outcome
-outcome_of (some r) text out = outcome (Writing.Refused r) out
+outcome_of (some r) text out = outcome (Err r) out
 outcome_of none text out =
-    pick (long_enough out text) (outcome (Writing.Wrote (length text)) (text ++ drop (length text) out)) (outcome (Writing.Refused OutputTooShort) out)
+    pick (long_enough out text) (outcome (Ok (length text)) (text ++ drop (length text) out)) (outcome (Err OutputTooShort) out)
 
 unfoldable pub writing : Table → List ℕ → Outcome
 writing t out = outcome_of (table_test t) (text_of (entries_of t) (nodes_of t)) out

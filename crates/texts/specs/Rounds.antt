@@ -1,19 +1,17 @@
 -- What a trial leaves in the lent table, entries and output. Assumes nothing.
-use Rattle.std.specs.Prelude.{List, ◌≡◌, refl, ℕ, ◌/◌, min, length, replicate}
+use Rattle.std.specs.Prelude.{List, ◌≡◌, refl, ℕ, ◌/◌, min, length, replicate, Err, Ok}
 use Rattle.std.proofs.Common.{sym, ap, ◌∙◌}
 use Rattle.std.proofs.lemmas.List.{length-replicate}
 use Rattle.script.specs.Flat.{node_width}
-use Rattle.script.specs.declared.Reading.{Reading}
-use Rattle.script.specs.declared.Reading.TheVariants.{Read, Refused}
 use Rattle.script.specs.declared.Refusal.{Refusal}
 use Rattle.script.specs.declared.Script.{Script}
-use Rattle.script.specs.declared.Writing.{Writing}
 use Rattle.script.specs.Table.{Table}
 use Rattle.text.specs.Reading.{reading}
 use Rattle.text.specs.Writing.{Outcome, writing}
 use Rattle.copies.specs.Copies.{copied}
 use Rattle.record_texts.specs.Texts.{Writes}
 use Rattle.call_texts.specs.Tables.{place_count, table_as, ReadBack}
+use Rattle.script.specs.Answers.Named.{Reading, Writing}
 
 -- the output after a writing onto full stops
 abbrev pub wrote_by : List ℕ → ℕ → List ℕ → ℕ → List ℕ → List ℕ
@@ -21,8 +19,8 @@ wrote_by xs nodes es used out = (writing (table_as xs nodes es used) (replicate 
 
 -- the output after the writing of what was read; as it was, if nothing was
 abbrev pub output_by : Reading → List ℕ → List ℕ → List ℕ → List ℕ
-output_by (Read s) xs es out = wrote_by xs s.nodes es s.entries out
-output_by (Refused r) xs es out = out
+output_by (Ok s) xs es out = wrote_by xs s.nodes es s.entries out
+output_by (Err r) xs es out = out
 
 -- the table and the entries after the reading of a text, over sevens
 abbrev pub table_after : List ℕ → List ℕ → List ℕ → List ℕ
@@ -57,9 +55,9 @@ module _ (table entries : List ℕ) {text filled sevens table₁ entries₁ : Li
   answer-is : a ≡ (reading text place_count (length entries)).answer
   answer-is = rw as_many at r.answer-is
 
-  pub tried_read : {s : Script} {out left : List ℕ} → a ≡ Read s → left ≡ wrote_by table₁ s.nodes entries₁ s.entries out
+  pub tried_read : {s : Script} {out left : List ℕ} → a ≡ Ok s → left ≡ wrote_by table₁ s.nodes entries₁ s.entries out
       → Tried text table entries out table₁ entries₁ left
   tried_read e w = record { table-left = table_is; entries-left = entries_are; out-left = rw (sym answer-is ∙ e) w }
 
-  pub tried-refused : {x : Refusal} {out : List ℕ} → a ≡ Refused x → Tried text table entries out table₁ entries₁ out
+  pub tried-refused : {x : Refusal} {out : List ℕ} → a ≡ Err x → Tried text table entries out table₁ entries₁ out
   tried-refused e = record { table-left = table_is; entries-left = entries_are; out-left = rw (sym answer-is ∙ e) refl }

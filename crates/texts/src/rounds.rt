@@ -3,7 +3,7 @@ ghost use Rattle.std.specs.Prelude.{◌≡◌};
 ghost use Rattle.texts.specs.Rounds.{wrote_by, Tried};
 
 use crate::slices::{all_bytes, entries_clear, nodes_clear};
-use script::{Reading, Refusal, Script, Writing};
+use script::{Refusal, Script};
 use std::io;
 use trial::{say_either, say_refusal};
 
@@ -17,7 +17,7 @@ const BLANK: u8 = b'.';
 #[derive(Clone, Copy)]
 pub struct Round {
     pub script: Script,
-    pub wrote: Writing,
+    pub wrote: Result<usize, Refusal>,
 }
 
 // Prints whether the places from these counts on hold what reading leaves in unused places.
@@ -45,7 +45,13 @@ fn say_same(rt: &impl Print, text: &[u8], out: &[u8], length: usize) -> io::Resu
 }
 
 // Writes a table that was read.
-fn try_writer(table: &[u32], nodes: usize, entries: &[u32], used: usize, out: &mut [u8]) -> Writing
+fn try_writer(
+    table: &[u32],
+    nodes: usize,
+    entries: &[u32],
+    used: usize,
+    out: &mut [u8],
+) -> Result<usize, Refusal>
     ensures { out.new ≡ wrote_by table.now nodes entries.now «used» out.old }
 {
     out.fill(BLANK);
@@ -53,15 +59,20 @@ fn try_writer(table: &[u32], nodes: usize, entries: &[u32], used: usize, out: &m
 }
 
 // Prints what came of the writing of what was read from `text`.
-fn say_wrote(rt: &impl Print, text: &[u8], out: &[u8], answer: Writing) -> io::Result<()> {
+fn say_wrote(
+    rt: &impl Print,
+    text: &[u8],
+    out: &[u8],
+    answer: Result<usize, Refusal>,
+) -> io::Result<()> {
     print!(rt; "\t")?;
     match answer {
-        Writing::Wrote(length) => {
+        Ok(length) => {
             print!(rt; "wrote\t{length}")?;
             say_same(rt, text, out, length)?;
             say_kept(rt, out, length)
         }
-        Writing::Refused(r) => {
+        Err(r) => {
             say_refusal(rt, r)?;
             say_kept(rt, out, 0)
         }
@@ -79,13 +90,9 @@ pub fn try_text(
 {
     table.fill(STALE);
     entries.fill(STALE);
-    match call_texts::read(text, table, entries) {
-        Reading::Read(script) => {
-            let wrote = try_writer(table, script.nodes, entries, script.entries, out);
-            Ok(Round { script, wrote })
-        }
-        Reading::Refused(why) => Err(why),
-    }
+    let script = call_texts::read(text, table, entries)?;
+    let wrote = try_writer(table, script.nodes, entries, script.entries, out);
+    Ok(Round { script, wrote })
 }
 
 // Prints what came of a text. The line is left open.

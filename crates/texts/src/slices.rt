@@ -4,9 +4,8 @@ ghost use Rattle.std.specs.List.{list_all};
 ghost use Rattle.script.specs.Flat.{nodes_in};
 ghost use Rattle.texts.specs.Slices.{is_unused};
 
-use script::Node;
-use script::table::{FALSE, WIDTH};
-use table::node_at;
+use script::table::WIDTH;
+use table::{node_at, unused};
 
 // Whether every byte is `b`.
 pub fn all_bytes(s: &[u8], b: u8) -> bool
@@ -22,19 +21,12 @@ pub fn entries_clear(entries: &[u32], from: usize) -> bool
     entries.iter().skip(from).all(|entry| *entry == 0)
 }
 
-// Whether this is `false`, with operands 0, which unused places hold.
-fn is_false(n: Node) -> bool
-    ensures { result ≡ is_unused n }
-{
-    n.kind == FALSE && n.a == 0 && n.b == 0 && n.c == 0
-}
-
-// Whether every node of the table from `from` on is `false`.
+// Whether every node of the table from `from` on is the one that unused places hold.
 pub fn nodes_clear(table: &[u32], from: usize) -> bool
     ensures { result ≡ list_all is_unused (drop from (nodes_in table.now)) }
 {
     for i in from..table.len() / WIDTH {
-        if !is_false(node_at(table, i)) {
+        if node_at(table, i) != unused() {
             return false;
         }
     }

@@ -1,24 +1,24 @@
 -- The answers of reader, writer and test 5 as one number each, for a program that times them: how many nodes or bytes, or which node; 0 for a refusal or
 -- for none. Assumes nothing.
-use Rattle.std.specs.Prelude.{not, ◌&&◌, List, ◌≡◌, ℕ, ◌+◌, pred, leb, eqb, length, take}
+use Rattle.std.specs.Prelude.{not, ◌&&◌, List, ◌≡◌, ℕ, ◌+◌, pred, leb, eqb, length, take, Err, Ok}
 use Rattle.std.proofs.Math.Option.{Option, none, some}
 use Rattle.script.specs.Limits.{node_limit}
 use Rattle.script.specs.Table.{uses}
 use Rattle.script.specs.Tests.{pick, lowest}
 use Rattle.script.specs.declared.Node.{Node}
-use Rattle.script.specs.declared.Reading.{Reading}
-use Rattle.script.specs.declared.Writing.{Writing}
 use Rattle.text.specs.Reading.{Left, leaves}
 use Rattle.text.specs.Writing.{Outcome, outcome}
+use Rattle.script.specs.Answers.Named.{Reading}
+use Rattle.script.specs.Answers.Named.{Writing}
 pub mod Laws
 
 abbrev pub nodes_read : Reading → ℕ
-nodes_read (Reading.Read s) = s.nodes
-nodes_read (Reading.Refused r) = 0
+nodes_read (Ok s) = s.nodes
+nodes_read (Err r) = 0
 
 abbrev pub bytes_written : Writing → ℕ
-bytes_written (Writing.Wrote n) = n
-bytes_written (Writing.Refused r) = 0
+bytes_written (Ok n) = n
+bytes_written (Err r) = 0
 
 -- what a call of the reader gives, `n` as its number, and leaves in the lent table and the lent entries
 pub record ReadTo (left : Left) (n : ℕ) (table' entries' : List ℕ) : Type 0 where

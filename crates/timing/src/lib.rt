@@ -8,18 +8,18 @@ ghost use Rattle.text.specs.Reading.{reading_in};
 ghost use Rattle.text.specs.Writing.{writing};
 ghost use Rattle.timing.specs.Answers.{ReadTo, WroteTo, wrong_use};
 
+use script::Script;
 use script::table::WIDTH;
-use script::{Place, Reading, Script, Writing};
 use uses::walk;
 
 // Reads a text into a lent table and lent entries: how many nodes it has; 0 if it is refused.
 pub fn timing_read(text: &[u8], table: &mut [u32], entries: &mut [u32]) -> u64
     ensures { ReadTo (reading_in text.now table.old entries.old) result table.new entries.new }
 {
-    match reader::read(text, table, entries) {
-        Reading::Read(script) => script.nodes as u64,
-        Reading::Refused(_) => 0,
-    }
+    let Ok(script) = reader::read(text, table, entries) else {
+        return 0;
+    };
+    script.nodes as u64
 }
 
 // Writes the text of a table into lent bytes: its length; 0 if the table is refused or the bytes are too few.
@@ -33,8 +33,8 @@ pub fn timing_write(
     ensures { WroteTo (writing (table_in table.now nodes entries.now entry_count) out.old) result out.new }
 {
     match writer::write(table, nodes, entries, entry_count, out) {
-        Writing::Wrote(length) => length as u64,
-        Writing::Refused(_) => 0,
+        Ok(length) => length as u64,
+        Err(_) => 0,
     }
 }
 
@@ -49,9 +49,8 @@ pub fn timing_uses(table: &[u32], nodes: usize) -> u64
         return 0;
     }
     let after = walk(table, nodes);
-    let wrong = after.wrong;
-    match wrong {
-        Place::At(i) => i as u64 + 1,
-        Place::Nowhere => 0,
+    match after.wrong {
+        Some(i) => i as u64 + 1,
+        None => 0,
     }
 }

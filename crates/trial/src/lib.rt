@@ -8,7 +8,7 @@ ghost use Rattle.trial.specs.Trials.{Trials};
 
 pub mod given;
 
-use script::{Checked, Place, Refusal};
+use script::Refusal;
 use std::io;
 use std::io::Read;
 
@@ -144,8 +144,8 @@ pub fn say_either(rt: &impl Print, first: bool, a: &str, b: &str) -> io::Result<
 pub fn say_refusal(rt: &impl Print, r: Refusal) -> io::Result<()> {
     print!(rt; "refused\t{}\t", r.number())?;
     match r.place() {
-        Place::At(i) => print!(rt; "{i}"),
-        Place::Nowhere => print!(rt; "-"),
+        Some(i) => print!(rt; "{i}"),
+        None => print!(rt; "-"),
     }
 }
 
@@ -158,12 +158,12 @@ fn say_type(rt: &impl Print, code: u32) -> io::Result<()> {
 }
 
 // Prints the checker's answer.
-pub fn say_checked(rt: &impl Print, answer: Checked) -> io::Result<()> {
+pub fn say_checked(rt: &impl Print, answer: Result<u32, Refusal>) -> io::Result<()> {
     match answer {
-        Checked::Accepted(code) => {
+        Ok(code) => {
             print!(rt; "accepted\t")?;
             say_type(rt, code)
         }
-        Checked::Refused(r) => say_refusal(rt, r),
+        Err(r) => say_refusal(rt, r),
     }
 }

@@ -1,6 +1,6 @@
 -- After the walk over at most 128 nodes the field `wrong` is the lowest node other than the last that is not used exactly once: what test 5 asks for, for
 -- every table that passes 4 and for every other. Assumes nothing.
-use Rattle.std.specs.Prelude.{Bool, true, List, ◌≡◌, ltb, eqb, length}
+use Rattle.std.specs.Prelude.{Bool, true, List, ◌≡◌, ltb, eqb, length, None, Some}
 use Rattle.std.proofs.Math.Bool.{false, not}
 use Rattle.std.proofs.Math.Path.{refl, ap}
 use Rattle.std.proofs.Common.{sym, ◌∙◌}
@@ -14,7 +14,6 @@ use Rattle.script.specs.Tests.{pick, lowest}
 use Rattle.script.specs.Tests.Bits.{bit}
 use Rattle.script.specs.Tests.Laws.{some-lowest, none-lowest}
 use Rattle.script.specs.declared.Node.{Node}
-use Rattle.script.specs.declared.Place.TheVariants.{At, Nowhere}
 use Rattle.uses.specs.Walk.{half, first_unused, lowest_wrong, place_found, walk}
 use Rattle.uses.specs.Walk.Laws.{unused_at, Says}
 use Rattle.uses.proofs.Laws.{unused-low, unused-high, says-walk, answer-walk}
@@ -22,10 +21,10 @@ use Rattle.uses.specs.Words.{First, first_bit}
 use Rattle.uses.specs.declared.Uses.{Uses}
 
 -- the lowest number below j, where t is the first below n
-first-lowest : (p : ℕ → Bool) (n t j : ℕ) → First p n t → j ≤ n → pick (ltb t j) (At t) Nowhere ≡ place_found (lowest p j)
+first-lowest : (p : ℕ → Bool) (n t j : ℕ) → First p n t → j ≤ n → pick (ltb t j) (Some t) None ≡ place_found (lowest p j)
 first-lowest p n t j f h = go (ltb t j) refl
   where
-    go : (b : Bool) → ltb t j ≡ b → pick b (At t) Nowhere ≡ place_found (lowest p j)
+    go : (b : Bool) → ltb t j ≡ b → pick b (Some t) None ≡ place_found (lowest p j)
     go true e =
         let l = ltb-true t j e in
         rw (some-lowest p j t (record { below = l; holds = f.at (omega arith); first = f.before })) refl

@@ -1,6 +1,6 @@
 -- The walk for the use count (5): a step is handed one node after the other, and sees what is known so far and that node. After the last node `wrong` is
 -- the lowest node other than the last that is not used exactly once: `LowestWrong`. Assumes nothing.
-use Rattle.std.specs.Prelude.{List, [], ◌∷◌, ℕ, ◌+◌, ◌-◌, ◌^◌, ltb}
+use Rattle.std.specs.Prelude.{List, [], ◌∷◌, ℕ, ◌+◌, ◌-◌, ◌^◌, ltb, None, Some}
 use Rattle.std.proofs.Math.Option.{Option, none, some}
 use Rattle.std.specs.Int.Count.{count_trailing_zeros}
 use Rattle.script.specs.Limits.{node_limit}
@@ -8,10 +8,9 @@ use Rattle.script.specs.Table.{operands}
 use Rattle.script.specs.Tests.{pick}
 use Rattle.script.specs.Tests.Bits.{bit}
 use Rattle.script.specs.declared.Node.{Node}
-use Rattle.script.specs.declared.Place.{Place}
-use Rattle.script.specs.declared.Place.TheVariants.{At, Nowhere}
 use Rattle.uses.specs.declared.State.{State}
 use Rattle.uses.specs.declared.Uses.{Uses}
+use Rattle.script.specs.Answers.Named.{Place}
 pub mod Laws
 
 -- how many nodes one word has bits for: half of them
@@ -49,17 +48,17 @@ lowest_wrong u = pick (ltb (first_unused u) u.again) (first_unused u) u.again
 
 -- the answer of a search for a node
 abbrev pub place_found : Option ℕ → Place
-place_found none = Nowhere
-place_found (some i) = At i
+place_found none = None
+place_found (some i) = Some i
 
 abbrev pub wrong_before : Uses → ℕ → Place
-wrong_before u last = pick (ltb (lowest_wrong u) last) (At (lowest_wrong u)) Nowhere
+wrong_before u last = pick (ltb (lowest_wrong u) last) (Some (lowest_wrong u)) None
 
 -- ---- node by node
 
 -- every node is unused
 abbrev pub start : State
-start = record { uses = uses_of (2 ^ half - 1) (2 ^ half - 1) node_limit 0; wrong = Nowhere }
+start = record { uses = uses_of (2 ^ half - 1) (2 ^ half - 1) node_limit 0; wrong = None }
 
 -- these uses, where the last node has this number
 abbrev pub state_of : Uses → ℕ → State

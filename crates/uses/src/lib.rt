@@ -10,7 +10,7 @@ ghost use Rattle.script.specs.Table.{operands};
 ghost use Rattle.script.specs.Tests.Bits.{bit};
 ghost use Rattle.uses.specs.Walk.{half, used_again, with_use, with_uses, first_unused, lowest_wrong, wrong_before, start, step, walk};
 
-use script::{Node, Place, Script};
+use script::{Node, Script};
 use table::{node_at, node_operands};
 
 // How many nodes one word has bits for.
@@ -33,7 +33,7 @@ pub struct Uses {
 #[derive(Clone, Copy)]
 pub struct State {
     pub uses: Uses,
-    pub wrong: Place,
+    pub wrong: Option<u32>,
 }
 
 // Bit k of a word is 1.
@@ -58,12 +58,7 @@ fn used_again(u: Uses, o: u32) -> Uses
     ensures { result ≡ used_again u o }
 {
     if o < u.again {
-        return Uses {
-            low: u.low,
-            high: u.high,
-            again: o,
-            seen: u.seen,
-        };
+        return Uses { again: o, ..u };
     }
     u
 }
@@ -76,9 +71,7 @@ fn with_use(u: Uses, o: u32) -> Uses
         if has_bit(u.low, o) {
             return Uses {
                 low: without_bit(u.low, o),
-                high: u.high,
-                again: u.again,
-                seen: u.seen,
+                ..u
             };
         }
         return used_again(u, o);
@@ -86,10 +79,8 @@ fn with_use(u: Uses, o: u32) -> Uses
     if o < LIMIT {
         if has_bit(u.high, o - HALF) {
             return Uses {
-                low: u.low,
                 high: without_bit(u.high, o - HALF),
-                again: u.again,
-                seen: u.seen,
+                ..u
             };
         }
         return used_again(u, o);
@@ -120,11 +111,11 @@ fn with_uses(u: Uses, n: Node) -> Uses
 fn first_unused(u: Uses) -> u32
     ensures { result ≡ first_unused u }
 {
-    let low = u64::trailing_zeros(u.low);
+    let low = u.low.trailing_zeros();
     if low < HALF {
         return low;
     }
-    HALF + u64::trailing_zeros(u.high)
+    HALF + u.high.trailing_zeros()
 }
 
 // The lowest node that is unused or used again, or 128.
@@ -139,14 +130,14 @@ fn lowest_wrong(u: Uses) -> u32
 }
 
 // That node, if it is before the last.
-fn wrong_before(u: Uses, last: u32) -> Place
+fn wrong_before(u: Uses, last: u32) -> Option<u32>
     ensures { result ≡ wrong_before u last }
 {
     let lowest = lowest_wrong(u);
     if lowest < last {
-        return Place::At(lowest);
+        return Some(lowest);
     }
-    Place::Nowhere
+    None
 }
 
 // Before the first node.
@@ -155,12 +146,12 @@ pub fn start() -> State
 {
     State {
         uses: Uses {
-            low: 0xffff_ffff_ffff_ffff,
-            high: 0xffff_ffff_ffff_ffff,
+            low: u64::MAX,
+            high: u64::MAX,
             again: LIMIT,
             seen: 0,
         },
-        wrong: Place::Nowhere,
+        wrong: None,
     }
 }
 
@@ -174,10 +165,8 @@ pub fn step(s: State, n: Node) -> State
     let last = before.seen;
     let wrong = wrong_before(after, last);
     let uses = Uses {
-        low: after.low,
-        high: after.high,
-        again: after.again,
         seen: last + 1,
+        ..after
     };
     State { uses, wrong }
 }
@@ -188,10 +177,8 @@ pub fn walk(table: &[u32], nodes: usize) -> State
     ensures { result ≡ walk (take nodes (nodes_in table.now)) }
 {
     let mut s = start();
-    let mut i = 0;
-    while i < nodes {
+    for i in 0..nodes {
         s = step(s, node_at(table, i));
-        i += 1;
     }
     s
 }

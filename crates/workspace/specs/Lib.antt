@@ -1,3 +1,4 @@
+pub mod Answers
 pub mod Forks
 pub mod Frames
 pub mod Log

@@ -1,15 +1,14 @@
 -- The log as the code reads it, four numbers a write: consistency, what `get` finds, and a write. Assumes nothing.
 pub mod Laws
 pub mod Loops
-use Rattle.std.specs.Prelude.{Bool, true, false, ◌&&◌, ◌||◌, List, ℕ, zero, suc, ◌+◌, ◌-◌, leb, eqb, get_or, set}
+use Rattle.std.specs.Prelude.{Bool, true, false, ◌&&◌, ◌||◌, List, ℕ, zero, suc, ◌+◌, ◌-◌, leb, eqb, get_or, set, Some, None}
 use Rattle.std.proofs.Math.Option.{Option, none, some}
 use Rattle.script.specs.Tests.{pick}
 use Rattle.rules.specs.Symbolic.{Symbolic}
 use Rattle.terms.specs.References.{apart_at, symbol_at}
+use Rattle.workspace.specs.Answers.{Found}
 use Rattle.workspace.specs.Places.{start_at, write_at, writes_at}
 use Rattle.workspace.specs.State.{writes_in, Means, start_in}
-use Rattle.workspace.specs.declared.Found.{Found}
-use Rattle.workspace.specs.declared.Found.TheVariants.{Value, Nothing}
 
 -- write i: the reference's type and symbol, and the value's type
 abbrev pub right_on : List ℕ → ℕ → Bool
@@ -40,11 +39,11 @@ consistent_on ws begin more (suc i) = settled_on ws (begin + i) more && consiste
 abbrev pub lookup_at : List ℕ → ℕ → ℕ → Found → Found
 lookup_at ws q i before =
     let p = get_or ws (write_at i + 1) 0 in
-    pick (apart_at p q) before (pick (eqb (symbol_at p) (symbol_at q)) (Value (get_or ws (write_at i + 2) 0) (get_or ws (write_at i + 3) 0)) Nothing)
+    pick (apart_at p q) before (pick (eqb (symbol_at p) (symbol_at q)) (Some (get_or ws (write_at i + 2) 0, get_or ws (write_at i + 3) 0)) None)
 
 -- what it finds among so many writes from the first that counts
 unfoldable pub lookup_on : List ℕ → ℕ → ℕ → ℕ → Found
-lookup_on ws begin q zero = Nothing
+lookup_on ws begin q zero = None
 lookup_on ws begin q (suc i) = lookup_at ws q (begin + i) (lookup_on ws begin q i)
 
 -- of the writes that count: whether they are consistent, and what `get` finds among them
@@ -56,8 +55,8 @@ lookup_in ws q = lookup_on ws (start_in ws) q (writes_in ws - start_in ws)
 
 -- what that means
 pub data FoundAs (ws : List ℕ) : Found → Option Symbolic → Type 0 where
-  found_none : FoundAs ws Nothing none
-  found_some : {t q : ℕ} {v : Symbolic} → Means ws t q v → FoundAs ws (Value t q) (some v)
+  found_none : FoundAs ws None none
+  found_some : {t q : ℕ} {v : Symbolic} → Means ws t q v → FoundAs ws (Some (t, q)) (some v)
 
 -- one write more
 abbrev pub written : List ℕ → ℕ → ℕ → ℕ → ℕ → List ℕ

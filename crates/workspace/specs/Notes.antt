@@ -3,23 +3,21 @@ pub mod Keeping
 pub mod Making
 pub mod Mentions
 pub mod Recalling
-use Rattle.std.specs.Prelude.{Bool, true, false, ◌&&◌, List, ◌≡◌, ℕ, zero, suc, ◌+◌, ◌*◌, ◌-◌, ◌%◌, ◌≤◌, ◌<◌, leb, eqb, length, get_or, set}
+use Rattle.std.specs.Prelude.{Bool, true, false, ◌&&◌, List, ◌≡◌, ℕ, zero, suc, ◌+◌, ◌*◌, ◌-◌, ◌%◌, ◌≤◌, ◌<◌, leb, eqb, length, get_or, set, Some, None, Ok}
 use Rattle.std.proofs.Math.Option.{some}
 use Rattle.std.proofs.Math.ListN.{get_elem?}
 use Rattle.script.specs.Code.Forms.{tree_in}
 use Rattle.script.specs.Rows.{Form, int_form, var_form, if_form, let_form, typed_form, sym_form, truth_form, unary_form, binary_form}
 use Rattle.script.specs.Tests.{pick}
 use Rattle.script.specs.Tree.{Expr}
-use Rattle.script.specs.declared.Checked.{Checked}
-use Rattle.script.specs.declared.Checked.TheVariants.{Accepted}
+use Rattle.script.specs.Answers.Named.{Checked}
 use Rattle.script.specs.declared.Node.{Node}
 use Rattle.rules.specs.Checking.{check}
 use Rattle.rules.specs.Checking.Mentions.{mentions}
 use Rattle.terms.specs.Places.{symbol_limit, variables_end}
+use Rattle.workspace.specs.Answers.{Count, Known}
 use Rattle.workspace.specs.Places.{base_at, known_at, name_limit, note_at, note_limit, note_width, notes_at, space_size, turn_at}
 use Rattle.workspace.specs.State.{types_on}
-use Rattle.workspace.specs.declared.Known.{Known}
-use Rattle.workspace.specs.declared.Known.TheVariants.{Typed, Nothing}
 
 -- whether a node whose operands are no nodes mentions variable k; no other form does
 unfoldable pub leaf_mentions : Form → Node → ℕ → Bool
@@ -91,8 +89,8 @@ is_of ws at depth a = eqb (operand_in ws at) a && (eqb (note_depth ws at) (depth
 
 -- what the notes from the i-th on say
 unfoldable pub recalled_on : List ℕ → ℕ → ℕ → ℕ → ℕ → Known
-recalled_on ws depth a i zero = Nothing
-recalled_on ws depth a i (suc more) = pick (is_of ws (note_at i) depth a) (Typed (type_in ws (note_at i))) (recalled_on ws depth a (suc i) more)
+recalled_on ws depth a i zero = None
+recalled_on ws depth a i (suc more) = pick (is_of ws (note_at i) depth a) (Some (type_in ws (note_at i))) (recalled_on ws depth a (suc i) more)
 
 -- ---- making a note
 
@@ -111,17 +109,17 @@ pub record Nameable (ws : List ℕ) (depth at : ℕ) : Type 0 where
   pub low : notes_at ≤ at
   pub high : at + note_width ≤ known_at
 
--- the variables from k on, so many, of which those that the tree mentions are named in the note behind `count` others: how many are named then, or one more
--- than a note can name, and what the workspace then holds
-unfoldable pub names_from : Expr → ℕ → ℕ → ℕ → ℕ → List ℕ → ℕ × List ℕ
-names_from e at k count zero ws = (count, ws)
+-- the variables from k on, so many, of which those that the tree mentions are named in the note behind `count` others: how many are named then, or nothing
+-- if they are too many for a note, and what the workspace then holds
+unfoldable pub names_from : Expr → ℕ → ℕ → ℕ → ℕ → List ℕ → Count × List ℕ
+names_from e at k count zero ws = (Some count, ws)
 names_from e at k count (suc more) ws =
     pick (mentions e k)
-    (pick (eqb count name_limit) (name_limit + 1, ws) (names_from e at (suc k) (suc count) more (named ws at count k)))
+    (pick (eqb count name_limit) (None, ws) (names_from e at (suc k) (suc count) more (named ws at count k)))
     (names_from e at (suc k) count more ws)
 
 -- all from the base to the depth
-abbrev pub names_to : Expr → ℕ → ℕ → List ℕ → ℕ × List ℕ
+abbrev pub names_to : Expr → ℕ → ℕ → List ℕ → Count × List ℕ
 names_to e depth at ws = names_from e at (base_in ws) 0 (depth - base_in ws) ws
 
 -- so many of the variables from the base to k are named in the note, with their types; all those that the tree mentions
@@ -134,11 +132,12 @@ pub record Naming (e : Expr) (at : ℕ) (ws : List ℕ) (k count : ℕ) (left : 
   pub all : (v : ℕ) → base_in ws ≤ v → v < k → mentions e v ≡ true → (i : ℕ) × (i < count) × (name_in left at i ≡ v)
 
 -- all are named, or there are too many
-pub record Names (e : Expr) (depth at : ℕ) (ws : List ℕ) (r : ℕ) (left : List ℕ) : Type 0 where
-  pub is : ◌≡◌ {A = ℕ × List ℕ} (r, left) (names_to e depth at ws)
+pub record Names (e : Expr) (depth at : ℕ) (ws : List ℕ) (r : Count) (left : List ℕ) : Type 0 where
+  pub is : ◌≡◌ {A = Count × List ℕ} (r, left) (names_to e depth at ws)
   pub same : length left ≡ length ws
   pub others : (j : ℕ) → (at + 4 ≤ j → j < at + note_width → ⊥) → get_or left j 0 ≡ get_or ws j 0
-  pub naming : r ≤ name_limit → base_in ws ≤ depth → Naming e at ws depth r left
+  pub few : {count : ℕ} → r ≡ Some count → count ≤ name_limit
+  pub naming : {count : ℕ} → r ≡ Some count → base_in ws ≤ depth → Naming e at ws depth count left
 
 -- ---- notes that are right
 
@@ -151,17 +150,18 @@ pub record Agrees (ws : List ℕ) (at : ℕ) (types : List ℕ) : Type 0 where
 pub record NoteOf (limit : ℕ) (table ws : List ℕ) (at depth : ℕ) : Type 0 where
   pub few : names_in ws at ≤ name_limit
   pub inside : (i : ℕ) → i < names_in ws at → name_in ws at i < depth
-  pub right : (types : List ℕ) → length types ≡ depth → Agrees ws at types → check limit (tree_in table (operand_in ws at)) types ≡ Accepted (type_in ws at)
+  pub right : (types : List ℕ) → length types ≡ depth → Agrees ws at types → check limit (tree_in table (operand_in ws at)) types ≡ Ok (type_in ws at)
 
 -- every note is right or says nothing
 pub record Kept (limit : ℕ) (table ws : List ℕ) : Type 0 where
   pub notes : (i : ℕ) → i < note_limit → (depth : ℕ) → note_depth ws (note_at i) ≡ suc depth → NoteOf limit table ws (note_at i) depth
 
 -- the whole note, if it can name all; else it says nothing, and the turn stays
-unfoldable pub noted_as : ℕ → ℕ → ℕ → ℕ → ℕ × List ℕ → List ℕ
-noted_as turn depth a t (count, ws) =
+unfoldable pub noted_as : ℕ → ℕ → ℕ → ℕ → Count × List ℕ → List ℕ
+noted_as turn depth a t (None, ws) = ws
+noted_as turn depth a t (Some count, ws) =
     let at = note_at turn in
-    pick (leb count name_limit) (set (set (set (set (set ws at a) (at + 1) (depth + 1)) (at + 2) t) (at + 3) count) turn_at (turn + 1)) ws
+    set (set (set (set (set ws at a) (at + 1) (depth + 1)) (at + 2) t) (at + 3) count) turn_at (turn + 1)
 
 -- the note whose turn it is, which says nothing before it is whole
 abbrev pub noted_on : ℕ → List ℕ → ℕ → ℕ → ℕ → List ℕ → List ℕ
@@ -172,7 +172,7 @@ pub record Noted (table : List ℕ) (depth a t : ℕ) (ws left : List ℕ) : Typ
   pub same : length left ≡ length ws
   pub before : (k : ℕ) → k < turn_at → get_or left k 0 ≡ get_or ws k 0
   pub beyond : (k : ℕ) → known_at ≤ k → get_or left k 0 ≡ get_or ws k 0
-  pub kept : (limit : ℕ) → base_in ws ≤ depth → check limit (tree_in table a) (types_on ws depth) ≡ Accepted t → Kept limit table ws → Kept limit table left
+  pub kept : (limit : ℕ) → base_in ws ≤ depth → check limit (tree_in table a) (types_on ws depth) ≡ Ok t → Kept limit table ws → Kept limit table left
 
 -- ---- what the executor asks and promises of the notes
 

@@ -6,17 +6,17 @@ pub mod Nodes
 pub mod Operators
 pub mod Typed
 pub mod Types
-use Rattle.std.specs.Prelude.{true, false, List, [], ◌∷◌, ◌++◌, ◌≡◌, ℕ, suc, ◌+◌, ◌*◌, ◌≤◌, ◌<◌, length, get_or, set}
+use Rattle.std.specs.Prelude.{true, false, List, [], ◌∷◌, ◌++◌, ◌≡◌, ℕ, suc, ◌+◌, ◌*◌, ◌≤◌, ◌<◌, length, get_or, set, Ok, Err}
 use Rattle.std.proofs.Math.ListN.{get_elem?}
 use Rattle.script.specs.Code.Forms.{form_of, several_by, node_in, tree_in, bound_on}
 use Rattle.script.specs.Flat.{FormedNodes}
 use Rattle.script.specs.Rows.{Form, int_form, var_form, if_form, let_form, typed_form, sym_form, truth_form, unary_form, binary_form, node_operands}
 use Rattle.script.specs.Rows.Kinds.{kind_for}
 use Rattle.script.specs.Tree.{Expr, size}
-use Rattle.script.specs.declared.Checked.{Checked}
-use Rattle.script.specs.declared.Checked.TheVariants.{Accepted}
+use Rattle.script.specs.Answers.Named.{Checked}
 use Rattle.script.specs.declared.Node.{Node}
 use Rattle.script.specs.declared.Refusal.{Refusal}
+use Rattle.script.specs.declared.Refusal.TheVariants.{WrongType}
 use Rattle.script.specs.Limits.{node_limit}
 use Rattle.rules.specs.Checking.{known, check, exec}
 use Rattle.rules.specs.Paths.{Path, Paths, ends, stops, forks, bind, start, assume}
@@ -25,51 +25,50 @@ use Rattle.rules.specs.Symbolic.{Formula, negation, conjunction, Symbolic, a_wor
 use Rattle.rules.specs.SymbolicRules.{unary_exec, binary_exec, decide, typed_result, variable}
 use Rattle.rules.specs.TypedRules.{and_then, unary_type, binary_type, if_type}
 use Rattle.terms.specs.Places.{symbol_limit, variables_end}
-use Rattle.terms.specs.Terms.{count_in, Distinct}
+use Rattle.terms.specs.Terms.{count_in, pushed, Distinct}
+use Rattle.workspace.specs.Answers.{Step, Choice}
 use Rattle.workspace.specs.Notes.{Bare}
 use Rattle.workspace.specs.Numbers.{gives, leaf_gives, one_gives, two_gives, after_gives}
 use Rattle.workspace.specs.Places.{space_size}
 use Rattle.workspace.specs.State.{writes_in, depth_in, types_on, Means, PathIn, State, Valued, Room, Went, Yields, Unnoted}
-use Rattle.workspace.specs.declared.Step.{Step}
-use Rattle.workspace.specs.declared.Branch.{Branch}
-use Rattle.workspace.specs.declared.Branch.TheVariants.{First, Second, Both, Neither}
+use Rattle.workspace.specs.declared.Branch.TheVariants.{First, Second, Both}
 
 -- ---- typed mode
 
 -- a node whose operands are no nodes; a form of other nodes stands for `false` here
 unfoldable pub leaf_type : Form → ℕ → Node → List ℕ → Checked
-leaf_type int_form n m env = Accepted 0
+leaf_type int_form n m env = Ok 0
 leaf_type var_form n m env = known n (get_elem? env m.a)
-leaf_type if_form n m env = Accepted 1
-leaf_type let_form n m env = Accepted 1
-leaf_type typed_form n m env = Accepted 1
-leaf_type sym_form n m env = Accepted 1
-leaf_type (truth_form b) n m env = Accepted 1
-leaf_type (unary_form o) n m env = Accepted 1
-leaf_type (binary_form o) n m env = Accepted 1
+leaf_type if_form n m env = Ok 1
+leaf_type let_form n m env = Ok 1
+leaf_type typed_form n m env = Ok 1
+leaf_type sym_form n m env = Ok 1
+leaf_type (truth_form b) n m env = Ok 1
+leaf_type (unary_form o) n m env = Ok 1
+leaf_type (binary_form o) n m env = Ok 1
 
 -- a node with one operand that is a node, of type t
 unfoldable pub one_type : Form → ℕ → ℕ → Checked
-one_type int_form n t = Accepted t
-one_type var_form n t = Accepted t
-one_type if_form n t = Accepted t
-one_type let_form n t = Accepted t
-one_type typed_form n t = Accepted t
-one_type sym_form n t = Accepted t
-one_type (truth_form b) n t = Accepted t
+one_type int_form n t = Ok t
+one_type var_form n t = Ok t
+one_type if_form n t = Ok t
+one_type let_form n t = Ok t
+one_type typed_form n t = Ok t
+one_type sym_form n t = Ok t
+one_type (truth_form b) n t = Ok t
 one_type (unary_form o) n t = unary_type n o t
-one_type (binary_form o) n t = Accepted t
+one_type (binary_form o) n t = Ok t
 
 -- a node whose first operand has type t and the second one u
 unfoldable pub two_type : Form → ℕ → ℕ → ℕ → Checked
-two_type int_form n t u = Accepted u
-two_type var_form n t u = Accepted u
-two_type if_form n t u = Accepted u
-two_type let_form n t u = Accepted u
-two_type typed_form n t u = Accepted u
-two_type sym_form n t u = Accepted u
-two_type (truth_form b) n t u = Accepted u
-two_type (unary_form o) n t u = Accepted u
+two_type int_form n t u = Ok u
+two_type var_form n t u = Ok u
+two_type if_form n t u = Ok u
+two_type let_form n t u = Ok u
+two_type typed_form n t u = Ok u
+two_type sym_form n t u = Ok u
+two_type (truth_form b) n t u = Ok u
+two_type (unary_form o) n t u = Ok u
 two_type (binary_form o) n t u = binary_type n o t u
 
 -- what is left of node n once its first operand has type t, where e and f are the trees of the other two
@@ -79,7 +78,7 @@ rest_type m limit n e f t env =
     (and_then (check limit e env) λ u. and_then (check limit f env) (if_type n t u))
     (check limit e (env ++ (t ∷ [])))
     (λ o. and_then (check limit e env) (binary_type n o t))
-    (Accepted t)
+    (Ok t)
 
 -- ---- symbolic mode
 
@@ -200,9 +199,14 @@ pub record Two (f : Form) (n t q u s : ℕ) (ws : List ℕ) (r : Step) (left : L
   pub yields : (v w : Symbolic) (p : Path) → Means ws t q v → Means ws u s w → PathIn ws p → Yields left r (two_exec f n v w p)
   pub exactly : gives r left ≡ two_gives f n t q u s ws
 
+-- two values of type k make a row with this operator, of the same type; others are refused
+pub data OfBoth (k op n t q u s : ℕ) (ws : List ℕ) : Step → List ℕ → Type 0 where
+  both-wrong : (t ≡ k → u ≡ k → ⊥) → OfBoth k op n t q u s ws (Err (WrongType n)) ws
+  both-made : {r : ℕ} {left : List ℕ} → t ≡ k → u ≡ k → r ≡ count_in ws → left ≡ pushed ws op q s → OfBoth k op n t q u s ws (Ok (k, r)) left
+
 pub record After (n t : ℕ) (ws : List ℕ) (r : Step) (left : List ℕ) : Type 0 where
   pub ruled : Ruled ws left
-  pub yields : (p : Path) → PathIn ws p → Yields left r (typed_result n p (Accepted t))
+  pub yields : (p : Path) → PathIn ws p → Yields left r (typed_result n p (Ok t))
   pub exactly : gives r left ≡ after_gives n t ws
 
 -- the condition with the guard, and without it
@@ -213,14 +217,14 @@ abbrev pub without_guard : Formula → Path → Path
 without_guard g p = assume (conjunction p.condition (negation g)) p
 
 -- at an `if`: the branch that is taken and the path on it, or both, where nothing is assumed yet
-pub data Chosen (ws left : List ℕ) (n : ℕ) (v : Symbolic) (p : Path) : Branch → Type 0 where
-  first : {q : Path} → PathIn left q → ((e f : Path → Paths) → decide n v p e f ≡ e q) → Chosen ws left n v p First
-  second : {q : Path} → PathIn left q → ((e f : Path → Paths) → decide n v p e f ≡ f q) → Chosen ws left n v p Second
+pub data Chosen (ws left : List ℕ) (n : ℕ) (v : Symbolic) (p : Path) : Choice → Type 0 where
+  first : {q : Path} → PathIn left q → ((e f : Path → Paths) → decide n v p e f ≡ e q) → Chosen ws left n v p (Ok First)
+  second : {q : Path} → PathIn left q → ((e f : Path → Paths) → decide n v p e f ≡ f q) → Chosen ws left n v p (Ok Second)
   both : {g : Formula} → left ≡ ws → v ≡ a_truth g → satisfiable (with_guard g p).condition ≡ true → satisfiable (without_guard g p).condition ≡ true
-      → ((e f : Path → Paths) → decide n v p e f ≡ forks (e (with_guard g p)) (f (without_guard g p))) → Chosen ws left n v p Both
-  neither : {x : Refusal} → ((e f : Path → Paths) → decide n v p e f ≡ stops x) → Chosen ws left n v p (Neither x)
+      → ((e f : Path → Paths) → decide n v p e f ≡ forks (e (with_guard g p)) (f (without_guard g p))) → Chosen ws left n v p (Ok Both)
+  neither : {x : Refusal} → ((e f : Path → Paths) → decide n v p e f ≡ stops x) → Chosen ws left n v p (Err x)
 
-pub record Chooses (n t q : ℕ) (ws : List ℕ) (r : Branch) (left : List ℕ) : Type 0 where
+pub record Chooses (n t q : ℕ) (ws : List ℕ) (r : Choice) (left : List ℕ) : Type 0 where
   pub ruled : Ruled ws left
   pub chosen : (v : Symbolic) (p : Path) → Means ws t q v → PathIn ws p → Chosen ws left n v p r
 

@@ -1,7 +1,7 @@
 -- What a workspace holds: the values of the variables, the terms, and a path with its notes and what is known of its condition; what a step keeps of it,
 -- and how a step answers. Assumes nothing.
 pub mod Laws
-use Rattle.std.specs.Prelude.{true, List, [], ◌∷◌, ◌++◌, ◌≡◌, ℕ, zero, suc, ◌+◌, ◌-◌, ◌*◌, ◌≤◌, ◌<◌, length, get_or}
+use Rattle.std.specs.Prelude.{true, List, [], ◌∷◌, ◌++◌, ◌≡◌, ℕ, zero, suc, ◌+◌, ◌-◌, ◌*◌, ◌≤◌, ◌<◌, length, get_or, Ok, Err}
 use Rattle.script.specs.Limits.{node_limit, type_limit}
 use Rattle.script.specs.declared.Refusal.{Refusal}
 use Rattle.rules.specs.Paths.{Path, Paths, ends, stops, Write, write_of}
@@ -11,9 +11,8 @@ use Rattle.terms.specs.Places.{row_limit, symbol_limit, rows_anode}
 use Rattle.terms.specs.References.{reference_at}
 use Rattle.terms.specs.Terms.{count_in, SumRow, TruthRow, Distinct, Grown}
 use Rattle.rows.specs.Known.{Remembers}
+use Rattle.workspace.specs.Answers.{Step}
 use Rattle.workspace.specs.Places.{base_at, condition_at, depth_at, known_at, log_at, next_at, space_size, start_at, write_at, writes_at}
-use Rattle.workspace.specs.declared.Step.{Step}
-use Rattle.workspace.specs.declared.Step.TheVariants.{Gave, Stopped}
 
 -- ---- the places of a workspace
 
@@ -107,8 +106,8 @@ pub record Went (ws left : List ℕ) (depth nodes : ℕ) : Type 0 where
 
 -- a value on a path, or a refusal
 pub data Yields (left : List ℕ) : Step → Paths → Type 0 where
-  ending : {t q : ℕ} {v : Symbolic} {p : Path} → Means left t q v → PathIn left p → Yields left (Gave t q) (ends v p)
-  stopping : {x : Refusal} → Yields left (Stopped x) (stops x)
+  ending : {t q : ℕ} {v : Symbolic} {p : Path} → Means left t q v → PathIn left p → Yields left (Ok (t, q)) (ends v p)
+  stopping : {x : Refusal} → Yields left (Err x) (stops x)
 
 -- the notes are as before
 pub record Unnoted (ws left : List ℕ) : Type 0 where

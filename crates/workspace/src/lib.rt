@@ -80,7 +80,8 @@ pub const MANY_ROWS: u32 = 4096;
 // How many numbers frames and forks have: each fork has two frames of its own.
 pub const FRAMES: usize = FORKS + FORK * (Script::NODES / 2);
 
-// What a node waits for: the value of its first operand, of the next one, or of the body of a `let`, whose variable is bound then.
+// What a node waits for: the value of its first operand, of the next one, or of the body of a `let`, whose variable is bound then. Numbers and no enum:
+// `frames::wait` takes any below `AWAITS`.
 pub const FOR_FIRST: u32 = 0;
 
 pub const FOR_NEXT: u32 = 1;
@@ -92,19 +93,8 @@ pub const AWAITS: u32 = 4;
 
 // ---- what the functions hand to each other
 
-// What `get` finds: a value's type and place, or nothing.
-#[derive(Clone, Copy)]
-pub enum Found {
-    Value(u32, u32),
-    Nothing,
-}
-
-// What the notes say of a block: its type, or nothing.
-#[derive(Clone, Copy)]
-pub enum Known {
-    Typed(u32),
-    Nothing,
-}
+// A path's step: a value's type and place, or a refusal that ends the path.
+pub type Step = Result<(u32, u32), Refusal>;
 
 // What a frame has: the node that waits, for what, and the type and the place of its first operand's value.
 #[derive(Clone, Copy)]
@@ -115,18 +105,10 @@ pub struct Frame {
     pub y: u32,
 }
 
-// What becomes of an `if`: a branch, both, or a refusal.
+// What becomes of an `if`: a branch, or both.
 #[derive(Clone, Copy)]
 pub enum Branch {
     First,
     Second,
     Both,
-    Neither(Refusal),
-}
-
-// A path's step: a value's type and place, or a refusal that ends the path.
-#[derive(Clone, Copy)]
-pub enum Step {
-    Gave(u32, u32),
-    Stopped(Refusal),
 }

@@ -8,7 +8,7 @@ ghost use Rattle.workspace.specs.Places.{space_size};
 ghost use Rattle.workspace.specs.State.{writes_in};
 
 use terms::references::{apart, symbol_of};
-use workspace::{Found, LOG, START, WRITE, WRITES};
+use workspace::{LOG, START, WRITE, WRITES};
 
 // Write i has the type of its cell.
 fn is_right(space: &[u32], i: usize) -> bool
@@ -27,10 +27,7 @@ fn mends(space: &[u32], j: usize, symbol: u32) -> bool
     requires space_size_in_bounds { space_size ≤ length space.now }
     ensures { result ≡ mends_on space.now symbol j }
 {
-    if !is_right(space, j) {
-        return false;
-    }
-    symbol_of(space[LOG + WRITE * j + 1]) == symbol
+    is_right(space, j) && symbol_of(space[LOG + WRITE * j + 1]) == symbol
 }
 
 // A write of the right type through this symbol comes after write i.
@@ -41,12 +38,10 @@ fn mended(space: &[u32], i: usize, symbol: u32) -> bool
     ensures { result ≡ mended_on space.now symbol (suc i) (writes_in space.now - suc i) }
 {
     let count = space[WRITES] as usize;
-    let mut j = i + 1;
-    while j < count {
+    for j in i + 1..count {
         if mends(space, j, symbol) {
             return true;
         }
-        j += 1;
     }
     false
 }
@@ -58,10 +53,7 @@ fn settled(space: &[u32], i: usize) -> bool
     requires space_size_in_bounds { space_size ≤ length space.now }
     ensures { result ≡ settled_on space.now i (writes_in space.now - suc i) }
 {
-    if is_right(space, i) {
-        return true;
-    }
-    mended(space, i, symbol_of(space[LOG + WRITE * i + 1]))
+    is_right(space, i) || mended(space, i, symbol_of(space[LOG + WRITE * i + 1]))
 }
 
 // Each write of a wrong type, from the first that counts on, is followed by one of the right type through the same symbol.
@@ -71,38 +63,33 @@ pub fn consistent(space: &[u32]) -> bool
     ensures { result ≡ consistent_in space.now }
 {
     let first = space[START] as usize;
-    let mut i = space[WRITES] as usize;
-    while first < i {
-        if !settled(space, i - 1) {
+    let count = space[WRITES] as usize;
+    for i in (first..count).rev() {
+        if !settled(space, i) {
             return false;
         }
-        i -= 1;
     }
     true
 }
 
 // What `get` finds through the reference at this place, seen from the newest write, among those that count.
-pub fn lookup(space: &[u32], place: u32) -> Found
+pub fn lookup(space: &[u32], place: u32) -> Option<(u32, u32)>
     requires space_bound { writes_in space.now ≤ node_limit }
     requires space_size_in_bounds { space_size ≤ length space.now }
     ensures { result ≡ lookup_in space.now place }
 {
     let first = space[START] as usize;
-    let mut i = space[WRITES] as usize;
-    while first < i {
-        let through = space[LOG + WRITE * (i - 1) + 1];
+    let count = space[WRITES] as usize;
+    for i in (first..count).rev() {
+        let through = space[LOG + WRITE * i + 1];
         if !apart(through, place) {
             if symbol_of(through) == symbol_of(place) {
-                return Found::Value(
-                    space[LOG + WRITE * (i - 1) + 2],
-                    space[LOG + WRITE * (i - 1) + 3],
-                );
+                return Some((space[LOG + WRITE * i + 2], space[LOG + WRITE * i + 3]));
             }
-            return Found::Nothing;
+            return None;
         }
-        i -= 1;
     }
-    Found::Nothing
+    None
 }
 
 // A write through the reference of type t at place q: a value of type u at place s.

@@ -11,8 +11,7 @@ ghost use Rattle.text.specs.Writing.{outcome, entry_text, node_text, entries_tex
 
 use fields::{LF, TAB};
 use output::{put, put_bytes, put_number, put_type, put_word};
-use script::table::Tested;
-use script::{Node, Refusal, Script, Writing};
+use script::{Node, Refusal, Script};
 use table::{node_at, operand_count};
 use tests::test_table;
 
@@ -62,10 +61,8 @@ fn put_entries(out: &mut [u8], entries: &[u32], count: usize) -> usize
     ensures { Put (entries_text (take count entries.now)) 0 out.old result out.new }
 {
     let mut at = 0;
-    let mut i = 0;
-    while i < count {
-        at = put_entry(out, at, entries[i]);
-        i += 1;
+    for &t in &entries[..count] {
+        at = put_entry(out, at, t);
     }
     at
 }
@@ -78,11 +75,9 @@ fn put_nodes(out: &mut [u8], from: usize, table: &[u32], count: usize) -> usize
     ensures { Put (nodes_text (take count (nodes_in table.now))) from out.old result out.new }
 {
     let mut at = from;
-    let mut i = 0;
-    while i < count {
+    for i in 0..count {
         let n = node_at(table, i);
         at = put_node_line(out, at, n);
-        i += 1;
     }
     at
 }
@@ -122,15 +117,15 @@ fn write_passed(
     nodes: usize,
     entries: &[u32],
     entry_count: usize,
-) -> Writing
+) -> Result<usize, Refusal>
     requires { table_test (table_in table.now nodes entries.now entry_count) ≡ none }
     ensures { outcome result out.new ≡ writing (table_in table.now nodes entries.now entry_count) out.old }
 {
     if fits(out, table, nodes, entries, entry_count) {
         let length = put_text(out, table, nodes, entries, entry_count);
-        return Writing::Wrote(length);
+        return Ok(length);
     }
-    Writing::Refused(Refusal::OutputTooShort)
+    Err(Refusal::OutputTooShort)
 }
 
 // Writes the text of a table into lent bytes: the tests of the table, then 36. A refusal changes nothing lent.
@@ -140,11 +135,9 @@ pub fn write(
     entries: &[u32],
     entry_count: usize,
     out: &mut [u8],
-) -> Writing
+) -> Result<usize, Refusal>
     ensures { outcome result out.new ≡ writing (table_in table.now nodes entries.now entry_count) out.old }
 {
-    match test_table(table, nodes, entries, entry_count) {
-        Tested::Passed => write_passed(out, table, nodes, entries, entry_count),
-        Tested::Refused(r) => Writing::Refused(r),
-    }
+    test_table(table, nodes, entries, entry_count)?;
+    write_passed(out, table, nodes, entries, entry_count)
 }

@@ -6,18 +6,18 @@ use Rattle.answers.proofs.run_answer.Goals as goal
 
 pub pack-requires : goal.pack-requires
 pack-requires c =
-    let n = gave-few c.in-Gave.is c.requires in
-    let k = kind-most c.in-Gave.v in
+    let n = gave-few (rw c.in-Ok-Gave.field-0-is at c.in-Ok-Gave.is) c.requires in
+    let k = kind-most c.in-Ok-Gave.v in
     omega (arith, n, k, c.kind.ensures)
 
-pub pack-requires-in-Failed : goal.pack-requires-in-Failed
-pack-requires-in-Failed c = omega (arith, failed-few c.in-Failed.is c.requires)
+pub pack-requires-in-Ok-Failed : goal.pack-requires-in-Ok-Failed
+pack-requires-in-Ok-Failed c = omega (arith, failed-few (rw c.in-Ok-Failed.field-0-is at c.in-Ok-Failed.is) c.requires)
 
-pub returns-in-Gave : goal.returns-in-Gave
-returns-in-Gave c = run_gave c.in-Gave.is c.kind.ensures c.bits.ensures c.pack.ensures
+pub returns-in-Ok-Gave : goal.returns-in-Ok-Gave
+returns-in-Ok-Gave c = run_gave (rw c.in-Ok-Gave.field-0-is at c.in-Ok-Gave.is) c.kind.ensures c.bits.ensures c.pack.ensures
 
-pub returns-in-Failed : goal.returns-in-Failed
-returns-in-Failed c = run_failed c.in-Failed.is c.pack-in-Failed.ensures
+pub returns-in-Ok-Failed : goal.returns-in-Ok-Failed
+returns-in-Ok-Failed c = run_failed (rw c.in-Ok-Failed.field-0-is at c.in-Ok-Failed.is) c.pack-in-Ok-Failed.ensures
 
-pub returns-in-Refused : goal.returns-in-Refused
-returns-in-Refused c = run_refused c.in-Refused.is c.refusal_answer.ensures
+pub returns-in-Err : goal.returns-in-Err
+returns-in-Err c = run_refused c.in-Err.is c.refusal_answer.ensures

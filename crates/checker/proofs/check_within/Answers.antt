@@ -1,14 +1,15 @@
--- `checker::check_within` meets its contract: the tests of the table, and then the rules. In the answers t is the place after `test_table`.
--- Assumes nothing.
+-- `checker::check_within` meets its contract: the tests of the table, and then the rules. Assumes nothing.
 use mathlib.Core.Path.{sym, ◌∙◌}
+use Rattle.script.specs.Answers.Named.{handed_on}
 use Rattle.script.specs.Code.TableTests.Laws.{passed_none, refused-some}
 use Rattle.checker.specs.Code.Whole.{table-refused}
 use Rattle.checker.proofs.check_within.Goals as goal
 
 pub check_tested-requires : goal.check_tested-requires
-check_tested-requires c = passed_none _ (sym c.test_table.ensures ∙ c.in-Passed.is)
+check_tested-requires c = passed_none _ (sym c.test_table.ensures ∙ c.in_ok-test_table.was)
 
-pub returns-in-Refused : goal.returns-in-Refused
-returns-in-Refused c =
+pub returns-in_err-test_table : goal.returns-in_err-test_table
+returns-in_err-test_table c =
     let a = c.args in
-    table-refused a.table.now a.nodes a.entries.now a.entry_count a.limit (refused-some _ _ (sym c.test_table.ensures ∙ c.in-Refused.is))
+    rw (handed_on c.from_residual.result c.from_residual.ensures.1)
+    (table-refused a.table.now a.nodes a.entries.now a.entry_count a.limit (refused-some _ _ (sym c.test_table.ensures ∙ c.in_err-test_table.was)))

@@ -4,6 +4,3 @@ use Rattle.checker.proofs.entry_types.Given as goal
 
 abbrev pub invariant-loop-i : goal.invariant-loop-i
 invariant-loop-i l = (l.i ≤ l.entry_count) × Placed l.entries l.initial.space l.i l.space
-
-abbrev pub decreases-loop-i : goal.decreases-loop-i
-decreases-loop-i l = l.entry_count - l.i

@@ -12,14 +12,13 @@ pub mod Resuming
 pub mod Rewinding
 pub mod Steps
 pub mod Walking
-use Rattle.std.specs.Prelude.{Bool, true, List, [], ◌∷◌, ◌++◌, ◌≡◌, ℕ, suc, ◌+◌, ◌*◌, ◌-◌, ◌≤◌, ◌<◌, length, get_or, set}
+use Rattle.std.specs.Prelude.{Bool, true, List, [], ◌∷◌, ◌++◌, ◌≡◌, ℕ, suc, ◌+◌, ◌*◌, ◌-◌, ◌≤◌, ◌<◌, length, get_or, set, Option, Result, Ok, Err, unwrap_or}
 use Rattle.script.specs.Code.Forms.{form_of, node_in, tree_in}
 use Rattle.script.specs.Flat.{FormedNodes}
 use Rattle.script.specs.Rows.{let_form, node_operands}
 use Rattle.script.specs.Rows.Kinds.{kind_for, leaf_kinds}
 use Rattle.script.specs.Tests.{pick}
 use Rattle.script.specs.Tree.{size}
-use Rattle.script.specs.declared.Checked.TheVariants.{Accepted, Refused}
 use Rattle.script.specs.declared.Refusal.{Refusal}
 use Rattle.script.specs.Limits.{node_limit}
 use Rattle.rules.specs.Checking.{exec}
@@ -29,6 +28,7 @@ use Rattle.rules.specs.Symbolic.{Formula, Symbolic, a_truth}
 use Rattle.rules.specs.SymbolicRules.{first_type, judge}
 use Rattle.terms.specs.Places.{symbol_limit, variables_end}
 use Rattle.terms.specs.Terms.{Grown, of_conjunction}
+use Rattle.workspace.specs.Answers.{Step}
 use Rattle.workspace.specs.Forks.{forked_in, Forked, Forks}
 use Rattle.workspace.specs.Frames.{frame_in, top_in, waiter_of, up_of, first_of, second_of, Waits, up_to, for_body, for_first, for_next}
 use Rattle.workspace.specs.Notes.{base_in, Kept}
@@ -36,14 +36,11 @@ use Rattle.workspace.specs.Paths.{assumed, forgotten}
 use Rattle.workspace.specs.Places.{depth_at, fork_at, frame_width, frames_end, frames_size, log_at, space_size, write_at}
 use Rattle.workspace.specs.Rules.{one_exec, two_exec, rest_exec, rest_size, without_guard, Two, Chooses, Operable}
 use Rattle.workspace.specs.State.{writes_in, depth_in, Means, Variables, State, Room}
-use Rattle.workspace.specs.declared.Step.{Step}
-use Rattle.workspace.specs.declared.Step.TheVariants.{Gave}
-use Rattle.workspace.specs.declared.Step.TheVariants as step
-use Rattle.workspace.specs.declared.Branch.TheVariants.{First, Second, Both, Neither}
+use Rattle.workspace.specs.declared.Branch.TheVariants.{First, Second, Both}
 use Rattle.checker.specs.declared.nodes.Walked.{Walked}
-use Rattle.checker.specs.declared.nodes.Walked.TheVariants.{Wrong, Last, More}
+use Rattle.checker.specs.declared.nodes.Walked.TheVariants.{Last, More}
 use Rattle.checker.specs.declared.steps.Move.{Move}
-use Rattle.checker.specs.declared.steps.Move.TheVariants.{Value, Operand, Stopped}
+use Rattle.checker.specs.declared.steps.Move.TheVariants.{Value, Operand}
 
 -- ---- what waits
 
@@ -192,22 +189,29 @@ bound_to ws t q = set (set (set ws (2 * depth_in ws) t) (2 * depth_in ws + 1) q)
 abbrev pub unbound : List ℕ → List ℕ
 unbound ws = set ws depth_at (depth_in ws - 1)
 
+-- what comes next, or a refusal; and how a path ended, or a refusal
+abbrev pub Moved : Type 0
+Moved = Result Move Refusal
+
+abbrev pub Walk : Type 0
+Walk = Result Walked Refusal
+
 -- the step of a rule
-abbrev pub moved_by : Step → Move
-moved_by (Gave t q) = Value t q
-moved_by (step.Stopped x) = Stopped x
+abbrev pub moved_by : Step → Moved
+moved_by (Ok (t, q)) = Ok (Value t q)
+moved_by (Err x) = Err x
 
 -- at an `if`, which waits for a branch
-pub data Branched (b c n t q : ℕ) (ws fs left gs : List ℕ) : Move → Type 0 where
-  to_first : Waits n for_next t q fs gs → Chooses n t q ws First left → Branched b c n t q ws fs left gs (Operand b)
-  to_second : Waits n for_next t q fs gs → Chooses n t q ws Second left → Branched b c n t q ws fs left gs (Operand c)
-  to_both : {between hs : List ℕ} → Waits n for_next t q fs hs → Chooses n t q ws Both between → Forks between hs gs
-      → left ≡ assumed (forgotten between) of_conjunction q → Branched b c n t q ws fs left gs (Operand b)
-  to_none : {x : Refusal} → Waits n for_next t q fs gs → Chooses n t q ws (Neither x) left → Branched b c n t q ws fs left gs (Stopped x)
+pub data Branched (b c n t q : ℕ) (ws fs left gs : List ℕ) : Moved → Type 0 where
+  to_first : Waits n for_next t q fs gs → Chooses n t q ws (Ok First) left → Branched b c n t q ws fs left gs (Ok (Operand b))
+  to_second : Waits n for_next t q fs gs → Chooses n t q ws (Ok Second) left → Branched b c n t q ws fs left gs (Ok (Operand c))
+  to_both : {between hs : List ℕ} → Waits n for_next t q fs hs → Chooses n t q ws (Ok Both) between → Forks between hs gs
+      → left ≡ assumed (forgotten between) of_conjunction q → Branched b c n t q ws fs left gs (Ok (Operand b))
+  to_none : {x : Refusal} → Waits n for_next t q fs gs → Chooses n t q ws (Err x) left → Branched b c n t q ws fs left gs (Err x)
 
 -- node n after its last operand: the body of a `let`, or another one
-pub record Lasts (kind awaits n t q u s : ℕ) (ws : List ℕ) (r : Move) (left : List ℕ) : Type 0 where
-  pub body : awaits ≡ for_body → (r ≡ Value u s) × (left ≡ unbound ws)
+pub record Lasts (kind awaits n t q u s : ℕ) (ws : List ℕ) (r : Moved) (left : List ℕ) : Type 0 where
+  pub body : awaits ≡ for_body → (r ≡ Ok (Value u s)) × (left ≡ unbound ws)
   pub other : (awaits ≡ for_body → ⊥) → (a : Step) × (r ≡ moved_by a) × Two (form_of kind) n t q u s ws a left
 
 pub record Lastable (awaits : ℕ) (ws : List ℕ) (t q u s : ℕ) : Type 0 where
@@ -256,32 +260,32 @@ pub record Returnable (table ws fs : List ℕ) (t q : ℕ) : Type 0 where
   pub returning : Returning limit table bound base beneath ws fs t q to_come
 
 -- what became of the leaves to come
-pub data Came (limit : ℕ) (table : List ℕ) (bound base : ℕ) (beneath : List Symbolic) (left gs : List ℕ) (ls : List Leaf) : Move → Type 0 where
-  came-value : {t q : ℕ} → Returning limit table bound base beneath left gs t q ls → Came limit table bound base beneath left gs ls (Value t q)
-  came-operand : {m : ℕ} → Entering limit table bound base beneath left gs m ls → Came limit table bound base beneath left gs ls (Operand m)
-  came-stopped : {x : Refusal} (rest : List Leaf) → ls ≡ stopped x ∷ rest → Came limit table bound base beneath left gs ls (Stopped x)
+pub data Came (limit : ℕ) (table : List ℕ) (bound base : ℕ) (beneath : List Symbolic) (left gs : List ℕ) (ls : List Leaf) : Moved → Type 0 where
+  came-value : {t q : ℕ} → Returning limit table bound base beneath left gs t q ls → Came limit table bound base beneath left gs ls (Ok (Value t q))
+  came-operand : {m : ℕ} → Entering limit table bound base beneath left gs m ls → Came limit table bound base beneath left gs ls (Ok (Operand m))
+  came-stopped : {x : Refusal} (rest : List Leaf) → ls ≡ stopped x ∷ rest → Came limit table bound base beneath left gs ls (Err x)
 
 -- a value that goes up by one frame
-pub record Backs (table : List ℕ) (t q : ℕ) (ws fs : List ℕ) (r : Move) (left gs : List ℕ) : Type 0 where
+pub record Backs (table : List ℕ) (t q : ℕ) (ws fs : List ℕ) (r : Moved) (left gs : List ℕ) : Type 0 where
   pub came : (limit bound base : ℕ) (beneath : List Symbolic) (ls : List Leaf) → Returning limit table bound base beneath ws fs t q ls
       → Came limit table bound base beneath left gs ls r
-  pub falls : {u s : ℕ} → r ≡ Value u s → frame_in gs < frame_in fs
-  pub rises : {m : ℕ} → r ≡ Operand m → top_in fs < top_in gs
+  pub falls : {u s : ℕ} → r ≡ Ok (Value u s) → frame_in gs < frame_in fs
+  pub rises : {m : ℕ} → r ≡ Ok (Operand m) → top_in fs < top_in gs
   pub tops : top_in fs ≤ top_in gs
 
 -- one that goes up until an operand is next or no frame is left
-pub record Climbs (table : List ℕ) (t q : ℕ) (ws fs : List ℕ) (r : Move) (left gs : List ℕ) : Type 0 where
+pub record Climbs (table : List ℕ) (t q : ℕ) (ws fs : List ℕ) (r : Moved) (left gs : List ℕ) : Type 0 where
   pub came : (limit bound base : ℕ) (beneath : List Symbolic) (ls : List Leaf) → Returning limit table bound base beneath ws fs t q ls
       → Came limit table bound base beneath left gs ls r
-  pub ended : {u s : ℕ} → r ≡ Value u s → frame_in gs ≡ 0
-  pub rises : {m : ℕ} → r ≡ Operand m → top_in fs < top_in gs
+  pub ended : {u s : ℕ} → r ≡ Ok (Value u s) → frame_in gs ≡ 0
+  pub rises : {m : ℕ} → r ≡ Ok (Operand m) → top_in fs < top_in gs
 
 -- a node that waits for no operand, and where its value went
-pub record Arrives (limit : ℕ) (table : List ℕ) (n : ℕ) (ws fs : List ℕ) (r : Move) (left gs : List ℕ) : Type 0 where
+pub record Arrives (limit : ℕ) (table : List ℕ) (n : ℕ) (ws fs : List ℕ) (r : Moved) (left gs : List ℕ) : Type 0 where
   pub came : (bound base : ℕ) (beneath : List Symbolic) (ls : List Leaf) → Entering limit table bound base beneath ws fs n ls
       → Came limit table bound base beneath left gs ls r
-  pub ended : {u s : ℕ} → r ≡ Value u s → frame_in gs ≡ 0
-  pub rises : {m : ℕ} → r ≡ Operand m → top_in fs < top_in gs
+  pub ended : {u s : ℕ} → r ≡ Ok (Value u s) → frame_in gs ≡ 0
+  pub rises : {m : ℕ} → r ≡ Ok (Operand m) → top_in fs < top_in gs
 
 -- a leaf can, whatever the limit of paths
 pub record Leafable (table ws fs : List ℕ) (n : ℕ) : Type 0 where
@@ -289,15 +293,15 @@ pub record Leafable (table ws fs : List ℕ) (n : ℕ) : Type 0 where
   pub limit : ℕ
   pub enterable : Enterable limit table ws fs n
 
-pub record LeafArrives (table : List ℕ) (n : ℕ) (ws fs : List ℕ) (r : Move) (left gs : List ℕ) : Type 0 where
+pub record LeafArrives (table : List ℕ) (n : ℕ) (ws fs : List ℕ) (r : Moved) (left gs : List ℕ) : Type 0 where
   pub each : (limit : ℕ) → Arrives limit table n ws fs r left gs
 
 -- what a path says of the leaves from its own on, where T is the type of the first
-pub data WalkOf (limit : ℕ) (table : List ℕ) (bound base : ℕ) (beneath : List Symbolic) (n T : ℕ) (left gs : List ℕ) (ls : List Leaf) : Walked → Type 0 where
-  refused : {x : Refusal} → ((k : ℕ) → judge n (suc k) T ls ≡ Refused x) → WalkOf limit table bound base beneath n T left gs ls (Wrong x)
-  lasted : {t : ℕ} → ((k : ℕ) → judge n (suc k) T ls ≡ Accepted t) → WalkOf limit table bound base beneath n T left gs ls (Last t)
+pub data WalkOf (limit : ℕ) (table : List ℕ) (bound base : ℕ) (beneath : List Symbolic) (n T : ℕ) (left gs : List ℕ) (ls : List Leaf) : Walk → Type 0 where
+  refused : {x : Refusal} → ((k : ℕ) → judge n (suc k) T ls ≡ Err x) → WalkOf limit table bound base beneath n T left gs ls (Err x)
+  lasted : {t : ℕ} → ((k : ℕ) → judge n (suc k) T ls ≡ Ok t) → WalkOf limit table bound base beneath n T left gs ls (Ok (Last t))
   went_on : {t m : ℕ} (after : List Leaf) → T ≡ t → Entering limit table bound base beneath left gs m after
-      → ((k : ℕ) → judge n (suc k) T ls ≡ judge n k T after) → WalkOf limit table bound base beneath n T left gs ls (More t m)
+      → ((k : ℕ) → judge n (suc k) T ls ≡ judge n k T after) → WalkOf limit table bound base beneath n T left gs ls (Ok (More t m))
 
 -- a path at its end, with a value of this type
 pub record AtEnd (table ws fs : List ℕ) (t : ℕ) : Type 0 where
@@ -305,14 +309,14 @@ pub record AtEnd (table ws fs : List ℕ) (t : ℕ) : Type 0 where
   pub place : ℕ
   pub returnable : Returnable table ws fs t place
 
-pub record PathEnds (table : List ℕ) (n t : ℕ) (is_first : Bool) (wanted : ℕ) (ws fs : List ℕ) (r : Walked) (left gs : List ℕ) : Type 0 where
+pub record PathEnds (table : List ℕ) (n t : ℕ) (wanted : Option ℕ) (ws fs : List ℕ) (r : Walk) (left gs : List ℕ) : Type 0 where
   pub ends : (limit bound base q : ℕ) (beneath : List Symbolic) (ls : List Leaf) → Returning limit table bound base beneath ws fs t q ls
-      → WalkOf limit table bound base beneath n (pick is_first (first_type ls) wanted) left gs ls r
+      → WalkOf limit table bound base beneath n (unwrap_or wanted (first_type ls)) left gs ls r
 
 -- a path from node m on
-pub record Walks (limit : ℕ) (table : List ℕ) (n m : ℕ) (is_first : Bool) (wanted : ℕ) (ws fs : List ℕ) (r : Walked) (left gs : List ℕ) : Type 0 where
+pub record Walks (limit : ℕ) (table : List ℕ) (n m : ℕ) (wanted : Option ℕ) (ws fs : List ℕ) (r : Walk) (left gs : List ℕ) : Type 0 where
   pub walked : (bound base : ℕ) (beneath : List Symbolic) (ls : List Leaf) → Entering limit table bound base beneath ws fs m ls
-      → WalkOf limit table bound base beneath n (pick is_first (first_type ls) wanted) left gs ls r
+      → WalkOf limit table bound base beneath n (unwrap_or wanted (first_type ls)) left gs ls r
 
 pub record Walkable (limit : ℕ) (table ws fs : List ℕ) (n m : ℕ) : Type 0 where
   pub can : Enterable limit table ws fs m

@@ -1,6 +1,6 @@
 -- The whole call as the code makes it: a table that passes its tests is checked from its last node on, with the entries' types as the environment; a table
 -- that does not is refused. Assumes nothing.
-use Rattle.std.specs.Prelude.{List, [], ◌∷◌, ◌++◌, ◌≡◌, ℕ, suc, ◌+◌, ◌*◌, ◌≤◌, ◌<◌, length, take, get_or, set}
+use Rattle.std.specs.Prelude.{List, [], ◌∷◌, ◌++◌, ◌≡◌, ℕ, suc, ◌+◌, ◌*◌, ◌≤◌, ◌<◌, length, take, get_or, set, Err}
 use Rattle.std.proofs.Math.Option.{none, some}
 use Rattle.std.proofs.Math.Path.{refl, ap₂}
 use Rattle.std.proofs.Common.{sym, ap, ◌∙◌, add-one, arith, length-set, take-suc, get_or-set_same, get_or-set_other}
@@ -10,13 +10,13 @@ use Rattle.script.specs.Flat.{table_in}
 use Rattle.script.specs.Table.{table_test}
 use Rattle.script.specs.Table.Laws.{passes}
 use Rattle.script.specs.Tree.{tree_of}
-use Rattle.script.specs.declared.Checked.{Checked}
 use Rattle.script.specs.declared.Refusal.{Refusal}
 use Rattle.rules.specs.Checking.{check, check_table, CheckedBy}
 use Rattle.terms.specs.Places.{variables_end}
 use Rattle.workspace.specs.Rules.{Checkable, Judged}
 use Rattle.workspace.specs.State.{types_on}
 use Rattle.workspace.specs.State.Laws.{types-kept}
+use Rattle.script.specs.Answers.Named.{Checked}
 
 -- ---- the entries' types
 
@@ -48,7 +48,7 @@ placed-more entries before i space h l p =
 
 module _ (table : List ℕ) (nodes : ℕ) (es : List ℕ) (entries : ℕ) where
   pub table-refused : (limit : ℕ) {e : Refusal} → table_test (table_in table nodes es entries) ≡ some e
-      → CheckedBy limit table nodes es entries (Checked.Refused e)
+      → CheckedBy limit table nodes es entries (Err e)
   unfolding check_table
   table-refused limit p = rw p refl
 

@@ -5,6 +5,3 @@ use Rattle.copies.proofs.copy_in.Given as goal
 
 abbrev pub invariant-loop-at : goal.invariant-loop-at
 invariant-loop-at l = l.table ≡ placed l.flat l.initial.table l.at
-
-abbrev pub decreases-loop-at : goal.decreases-loop-at
-decreases-loop-at l = length l.initial.table - l.at

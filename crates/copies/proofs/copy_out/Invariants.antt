@@ -4,7 +4,4 @@ use Rattle.copies.specs.Copies.{copied}
 use Rattle.copies.proofs.copy_out.Given as goal
 
 abbrev pub invariant-loop-i : goal.invariant-loop-i
-invariant-loop-i l = record { within : l.i ≤ l.n; holds : l.flat ≡ copied l.table l.i l.initial.flat }
-
-abbrev pub decreases-loop-i : goal.decreases-loop-i
-decreases-loop-i l = l.n - l.i
+invariant-loop-i l = l.flat ≡ copied l.table l.i l.initial.flat

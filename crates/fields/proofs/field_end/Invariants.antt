@@ -6,6 +6,3 @@ use Rattle.fields.proofs.field_end.Given as goal
 
 abbrev pub invariant-loop-e : goal.invariant-loop-e
 invariant-loop-e l = (l.e ≤ length l.text) × (l.e + length (field_in (drop l.e l.text)) ≡ l.from + length (field_in (drop l.from l.text)))
-
-abbrev pub decreases-loop-e : goal.decreases-loop-e
-decreases-loop-e l = length l.text - l.e

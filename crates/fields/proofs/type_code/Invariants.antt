@@ -6,7 +6,4 @@ use Rattle.text.specs.Fields.{type_after, type_up_to, type_of}
 use Rattle.fields.proofs.type_code.Given as goal
 
 abbrev pub invariant-loop-i : goal.invariant-loop-i
-invariant-loop-i l = (l.i ≤ length l.f) × (l.references ≤ 15) × (type_up_to type_limit (type_after (2 * l.references) (drop l.i l.f)) ≡ type_of l.f)
-
-abbrev pub decreases-loop-i : goal.decreases-loop-i
-decreases-loop-i l = length l.f - l.i
+invariant-loop-i l = (l.i ≤ 15) × (type_up_to type_limit (type_after (2 * l.i) (drop l.i l.f)) ≡ type_of l.f)

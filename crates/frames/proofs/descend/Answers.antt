@@ -1,16 +1,10 @@
 -- `frames::descend` meets its contract. The loop's invariant: whatever is reached from here on is reached from the start. The measure is the node's
 -- number. Assumes nothing.
-use mathlib.Core.Path.{refl, sym, ◌∙◌}
+use mathlib.Core.Path.{sym, ◌∙◌}
 use native.Mathlib.Omega.{arith}
 use Rattle.workspace.specs.Frames.{down_to, down_from}
 use Rattle.workspace.specs.Frames.Laws.{down_earlier, down_waitable, down_next}
 use Rattle.frames.proofs.descend.Goals as goal
-
-pub node_at-node-requires : goal.node_at-node-requires
-node_at-node-requires c = omega (arith, c.requires.formed.room)
-
-pub loop-node-init : goal.loop-node-init
-loop-node-init c = (c.node_at-node.ensures, c.requires, refl, λ r left d. d)
 
 pub wait-requires : goal.wait-requires
 wait-requires c =
@@ -40,9 +34,6 @@ loop-node-preserved c =
       s.same ∙ c.loop-node.invariant.2,
       λ r left d. c.loop-node.invariant.3 r left (down_from (rw (sym c.loop-node.invariant.0) (sym c.waits.ensures ∙ c.loop-node-test.true)) s (rw c.loop-node.invariant.0 at d)),
     )
-
-pub shape_of-frames : goal.shape_of-frames
-shape_of-frames c = c.loop-node.invariant.2
 
 pub returns : goal.returns
 returns c = c.loop-node.invariant.3 _ _ (down_to (rw (sym c.loop-node.invariant.0) (sym c.waits.ensures ∙ c.loop-node-test.false)))

@@ -1,7 +1,7 @@
 -- The answers of the two calls as numbers. Assumes nothing.
 use Rattle.std.specs.Prelude.{List, ◌≡◌, ℕ, ◌≤◌, ◌<◌}
 use Rattle.std.proofs.Common.{ap, ◌∙◌, arith}
-use Rattle.script.specs.declared.Ran.{Ran}
+use Rattle.script.specs.Answers.Named.{Ran}
 use Rattle.rules.specs.Running.{Run}
 use Rattle.answers.specs.Answers.{answer_of_run, AnswersRun}
 use Rattle.answers.specs.Code.Packing.{used_in}

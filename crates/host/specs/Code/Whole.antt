@@ -1,5 +1,5 @@
 -- The whole calls as the code makes them: what a reading into a table of the full size leaves, and the answer of each way through a call. Assumes nothing.
-use Rattle.std.specs.Prelude.{List, [], ◌++◌, ◌≡◌, ℕ, ◌*◌, drop}
+use Rattle.std.specs.Prelude.{List, [], ◌++◌, ◌≡◌, ℕ, ◌*◌, drop, Err, Ok}
 use Rattle.std.proofs.Common.{append-nil, ◌∙◌, arith}
 use Rattle.std.proofs.Math.Option.{none}
 use Rattle.std.proofs.Math.Path.{refl, sym, ap}
@@ -9,10 +9,8 @@ use Rattle.script.specs.Flat.{node_width, flat, nodes_in, table_in}
 use Rattle.script.specs.Flat.Laws.{length-nodes_in, nodes_in-flat}
 use Rattle.script.specs.Limits.{node_limit, entry_limit, size_of}
 use Rattle.script.specs.Table.{unused, table_test}
-use Rattle.script.specs.declared.Checked.{Checked}
 use Rattle.script.specs.declared.Node.{Node}
-use Rattle.script.specs.declared.Ran.{Ran}
-use Rattle.script.specs.declared.Reading.{Reading}
+use Rattle.script.specs.Answers.Named.{Ran}
 use Rattle.script.specs.declared.Refusal.{Refusal}
 use Rattle.script.specs.declared.Script.{Script}
 use Rattle.rules.specs.Checking.{path_limit, CheckedBy}
@@ -22,6 +20,8 @@ use Rattle.text.proofs.OneSpelling.{read_passes, read_as}
 use Rattle.text.specs.Reading.{Outcome, Left, leaves, reading, reading_in, filled, table_read}
 use Rattle.runner.specs.Answered.{Answered}
 use Rattle.host.specs.Texts.{check_text, run_text, RanTo}
+use Rattle.script.specs.Answers.Named.{Checked}
+use Rattle.script.specs.Answers.Named.{Reading}
 
 -- ---- what a reading leaves
 
@@ -49,12 +49,12 @@ module _ (text xs es : List ℕ) (nodes : length xs ≡ node_width * node_limit)
   no_more = let e : node_width * length (nodes_in xs) ≡ length xs = omega (arith, full, nodes) in rw e (drop-length xs)
 
   module _ {r : Reading} {table left : List ℕ} (e : leaves r table left ≡ reading_in text xs es) where
-    pub was_read : (s : Script) → r ≡ Reading.Read s → ReadTo text table left s
+    pub was_read : (s : Script) → r ≡ Ok s → ReadTo text table left s
     unfolding reading_in
     was_read s h =
         let n = length (nodes_in xs) in
         let o = reading text n (length es) in
-        let answer : o.answer ≡ Reading.Read s = sym (ap (λ (l : Left). l.answer) e) ∙ h in
+        let answer : o.answer ≡ Ok s = sym (ap (λ (l : Left). l.answer) e) ∙ h in
         let q = read_as text n (length es) s answer in
         let lent = filled q.nodes n unused in
         let nodes_are : nodes_in table ≡ lent =
@@ -62,7 +62,7 @@ module _ (text xs es : List ℕ) (nodes : length xs ≡ node_width * node_limit)
         let entries_are : left ≡ filled q.entries (length es) 0 = ap (λ (l : Left). l.entries) e ∙ ap (λ (o : Outcome). o.lent_entries) q.outcome in
         record { es = q.entries; ns = q.nodes; meaning = q.meaning; table_is = tables-same table q.entries q.nodes nodes_are entries_are q.counts full entries }
 
-    pub was_refused : (why : Refusal) → r ≡ Reading.Refused why → meaning_of text ≡ refused why
+    pub was_refused : (why : Refusal) → r ≡ Err why → meaning_of text ≡ refused why
     unfolding reading_in
     was_refused why h = reading-refused text (length (nodes_in xs)) (length es) why (omega (arith, full)) (omega (arith, entries)) (sym (ap (λ (l : Left). l.answer) e) ∙ h)
 
@@ -72,7 +72,7 @@ read_tested {text} q = ap table_test q.table_is ∙ read_passes text q.es q.ns q
 
 -- ---- the ways through a call
 
-pub check-refused : (text : List ℕ) (why : Refusal) → meaning_of text ≡ refused why → Checked.Refused why ≡ check_text text
+pub check-refused : (text : List ℕ) (why : Refusal) → meaning_of text ≡ refused why → Err why ≡ check_text text
 unfolding check_text
 check-refused text why e = rw e refl
 
@@ -81,7 +81,7 @@ unfolding check_text
 check_read q r c = c ∙ rw (q.meaning, q.table_is) refl
 
 module _ (values cells : List ℕ) (used : ℕ) where
-  pub run_refused : (text : List ℕ) (why : Refusal) → meaning_of text ≡ refused why → RanTo (run_text text values cells used) (Ran.Refused why) cells
+  pub run_refused : (text : List ℕ) (why : Refusal) → meaning_of text ≡ refused why → RanTo (run_text text values cells used) (Err why) cells
   unfolding run_text
   run_refused text why e = rw e refl
 

@@ -1,6 +1,6 @@
 -- The bounds of the answers over text: a type's code is at most 31, a refusal's place at most 8,192, the node of an error state at most 127, a used count at
 -- most 192. Assumes nothing.
-use Rattle.std.specs.Prelude.{Bool, List, ◌≡◌, ℕ, suc, ◌≤◌, ◌<◌, length}
+use Rattle.std.specs.Prelude.{Bool, List, ◌≡◌, ℕ, suc, ◌≤◌, ◌<◌, length, Ok, Err}
 use Rattle.std.proofs.Math.Bool.{true, false}
 use Rattle.std.proofs.Math.Option.{none}
 use Rattle.std.proofs.Math.Path.{refl}
@@ -12,8 +12,8 @@ use Rattle.script.specs.Table.{Table, table_test}
 use Rattle.script.specs.Table.Laws.{passes}
 use Rattle.script.specs.Tests.{need}
 use Rattle.script.specs.Tree.Numbers.{numbered-tree}
-use Rattle.script.specs.declared.Checked.{Checked}
-use Rattle.script.specs.declared.Ran.{Ran}
+use Rattle.script.specs.Answers.Named.{Ran}
+use Rattle.script.specs.declared.Ended.{Ended}
 use Rattle.script.specs.declared.Refusal.{Refusal}
 use Rattle.script.specs.declared.Refusal.TheVariants.{BadCells, BadValues}
 use Rattle.script.specs.declared.Value.{Value}
@@ -32,6 +32,7 @@ use Rattle.text.specs.Grammar.Bounds.{RefusedBelow, is-refused, meaning-below}
 use Rattle.text.proofs.OneSpelling.{read_passes}
 use Rattle.text.specs.Reading.{table_read}
 use Rattle.host.specs.Texts.{check_meant, check_text, run_meant, run_text}
+use Rattle.script.specs.Answers.Named.{Checked}
 
 -- no place of a text's refusal is as high as this: a text has at most so many lines
 abbrev pub place_limit : ℕ
@@ -58,9 +59,9 @@ check-bounded text = go (meaning_of text) refl (meaning-below text)
 
 -- a used count of at most n, and an error state at a node that there is; or a refusal at a place below m
 pub data RanWithin (m n : ℕ) : Ran → Type 0 where
-  gave-within : {v : Value} {used : ℕ} → used ≤ n → RanWithin m n (Ran.Gave v used)
-  failed-within : {i used : ℕ} → i < node_limit → used ≤ n → RanWithin m n (Ran.Failed i used)
-  refused-within : {r : Refusal} → PlaceBelow m (place_of r) → RanWithin m n (Ran.Refused r)
+  gave-within : {v : Value} {used : ℕ} → used ≤ n → RanWithin m n (Ok (Ended.Gave v used))
+  failed-within : {i used : ℕ} → i < node_limit → used ≤ n → RanWithin m n (Ok (Ended.Failed i used))
+  refused-within : {r : Refusal} → PlaceBelow m (place_of r) → RanWithin m n (Err r)
 
 module _ {m : ℕ} where
   finished-within : {k n : ℕ} (lent : List ℕ) {o : Outcome} → k ≤ node_limit → FailsBelow k o → length (cells_of o) ≤ n → RanWithin m n (finished lent o).answer

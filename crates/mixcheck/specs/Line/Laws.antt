@@ -1,12 +1,9 @@
 -- How long a line is, and how its parts make it up. Assumes nothing.
-use Rattle.std.specs.Prelude.{Bool, true, false, List, [], ◌∷◌, ◌++◌, ◌≡◌, ℕ, zero, suc, ◌+◌, ◌/◌, ◌%◌, ◌≤◌, ltb, length, take, drop}
+use Rattle.std.specs.Prelude.{Bool, true, false, List, [], ◌∷◌, ◌++◌, ◌≡◌, ℕ, zero, suc, ◌+◌, ◌/◌, ◌%◌, ◌≤◌, ltb, length, take, drop, Err, None, Some}
 use Rattle.std.proofs.Common.{sym, ap, ◌∙◌, arith, length-append, take_at}
 use Rattle.script.specs.Answers.{number_of, place_of}
 use Rattle.script.specs.Answers.Bounds.{PlaceBelow, no_place, place-below, number-most}
 use Rattle.script.specs.Tests.{pick}
-use Rattle.script.specs.declared.Checked.{Checked}
-use Rattle.script.specs.declared.Place.{Place}
-use Rattle.script.specs.declared.Place.TheVariants.{Nowhere, At}
 use Rattle.script.specs.declared.Refusal.{Refusal}
 use Rattle.rules.specs.Checking.Bounds.{Bounded, code, refusal}
 use Rattle.text.specs.Bytes.{lf, tab, digit0}
@@ -18,6 +15,8 @@ use Rattle.text.specs.Writing.{digits_in, digits}
 use Rattle.host.specs.Texts.Bounds.{place_limit, check-bounded}
 use Rattle.host.specs.Texts.{check_text}
 use Rattle.mixcheck.specs.Line.{refused_word, dash, place_text, line_of, line_limit, PutLine}
+use Rattle.script.specs.Answers.Named.{Checked}
+use Rattle.script.specs.Answers.Named.{Place}
 
 -- ---- lengths
 
@@ -34,8 +33,8 @@ pub digits_ten : (n : ℕ) → length (digits n) ≤ 10
 digits_ten n = digits_in_most 10 n
 
 pub place_ten : (p : Place) → length (place_text p) ≤ 10
-place_ten Nowhere = omega arith
-place_ten (At i) = digits_ten i
+place_ten None = omega arith
+place_ten (Some i) = digits_ten i
 
 number-few : (r : Refusal) → length (digits (number_of r)) ≤ 2
 number-few r = let m = number-most r in digits-most 10 1 (number_of r) (omega arith)
@@ -57,23 +56,23 @@ line-most text = line-bounded (check-bounded text)
 -- ---- the place
 
 module _ {place : Place} where
-  pub nowhere-length : place ≡ Nowhere → length (place_text place) ≡ 1
+  pub nowhere-length : place ≡ None → length (place_text place) ≡ 1
   nowhere-length e = ap (λ (p : Place). length (place_text p)) e
 
-  pub at_length : {i : ℕ} → place ≡ At i → length (place_text place) ≡ length (digits i)
+  pub at_length : {i : ℕ} → place ≡ Some i → length (place_text place) ≡ length (digits i)
   at_length e = ap (λ (p : Place). length (place_text p)) e
 
   module _ {at n : ℕ} {out out' : List ℕ} where
-    pub put_nowhere : place ≡ Nowhere → Put (tab ∷ dash ∷ []) at out n out' → Put (tab ∷ place_text place) at out n out'
+    pub put_nowhere : place ≡ None → Put (tab ∷ dash ∷ []) at out n out' → Put (tab ∷ place_text place) at out n out'
     put_nowhere e p = rw e p
 
-    pub put_at : {i : ℕ} → place ≡ At i → Put (tab ∷ digits i) at out n out' → Put (tab ∷ place_text place) at out n out'
+    pub put_at : {i : ℕ} → place ≡ Some i → Put (tab ∷ digits i) at out n out' → Put (tab ∷ place_text place) at out n out'
     put_at e p = rw e p
 
 -- ---- the whole line
 
 pub put_refusal : (why : Refusal) {number : ℕ} {place : Place} {n : ℕ} {out out' : List ℕ} → number ≡ number_of why → place ≡ place_of why
-    → Put (refused_word ++ (tab ∷ digits number) ++ (tab ∷ place_text place) ++ (lf ∷ [])) 0 out n out' → Put (line_of (Checked.Refused why)) 0 out n out'
+    → Put (refused_word ++ (tab ∷ digits number) ++ (tab ∷ place_text place) ++ (lf ∷ [])) 0 out n out' → Put (line_of (Err why)) 0 out n out'
 put_refusal why e f p = rw (← e, ← f) p
 
 -- the answer's line, put at the start of bytes that have room for it

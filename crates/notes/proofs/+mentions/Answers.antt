@@ -7,10 +7,6 @@ use Rattle.script.specs.Code.Forms.{has_one, has_more, some-operand, formed_less
 use Rattle.workspace.specs.Notes.Mentions.{leaf-mentions, first-mentions, one_mentions-not, second-mentions, third_mentions, several_mention_not, first-earlier, second-earlier, third_earlier}
 use Rattle.notes.proofs.+mentions.Goals as goal
 
-pub node_at-node-requires : goal.node_at-node-requires
-node_at-node-requires t c =
-    omega (arith, c.requires.room)
-
 pub returns-then-node-lt-LEAVES : goal.returns-then-node-lt-LEAVES
 returns-then-node-lt-LEAVES t c =
     let w = c.requires in

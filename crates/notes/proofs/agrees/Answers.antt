@@ -1,31 +1,7 @@
 -- `notes::agrees` meets its contract. The loop's invariant: the first i variables have the types that are named. In the answers a is the
 -- arguments, l the loop, b that the variable read is one of the environment. Assumes nothing.
-use native.Mathlib.Omega.{arith}
-use Rattle.workspace.specs.Notes.Recalling.{agreeing_start, agreeing_wrong, agreeing_on, agreeing_end}
+use Rattle.workspace.specs.Notes.Recalling.{agreeing_wrong, agreeing_on, agreeing_end}
 use Rattle.notes.proofs.agrees.Goals as goal
-
-pub loop-i-init : goal.loop-i-init
-loop-i-init c = let a = c.args in agreeing_start a.space.now a.at
-
-pub overflow_cast-k : goal.overflow_cast-k
-overflow_cast-k c =
-    let b = c.requires.inside c.loop-i.i c.loop-i-test.true in
-    omega (arith, b)
-
-pub overflow_mul-k-in-loop-i : goal.overflow_mul-k-in-loop-i
-overflow_mul-k-in-loop-i c =
-    let b = c.requires.inside c.loop-i.i c.loop-i-test.true in
-    omega (arith, b)
-
-pub offset_bounds-space-k : goal.offset_bounds-space-k
-offset_bounds-space-k c =
-    let b = c.requires.inside c.loop-i.i c.loop-i-test.true in
-    omega (arith, b)
-
-pub bounds-space-k : goal.bounds-space-k
-bounds-space-k c =
-    let b = c.requires.inside c.loop-i.i c.loop-i-test.true in
-    omega (arith, b, c.requires.wide)
 
 pub returns-then-space-k : goal.returns-then-space-k
 returns-then-space-k c =

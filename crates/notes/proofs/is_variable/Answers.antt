@@ -1,4 +1,5 @@
 -- `notes::is_variable` meets its contract: only `var` is a variable's kind. Assumes nothing.
+use Rattle.std.proofs.Common.{ne_eqb}
 use Rattle.script.specs.Code.Forms.{form_of}
 use Rattle.script.specs.Rows.{rows, row_of}
 use Rattle.workspace.specs.Notes.{leaf_mentions}
@@ -9,7 +10,7 @@ pub returns-then-node-eq-VAR : goal.returns-then-node-eq-VAR
 unfolding leaf_mentions form_of row_of rows
 returns-then-node-eq-VAR c = rw c.if-node-eq-VAR.true
 
-pub returns : goal.returns
-returns c =
+pub returns-else-node-eq-VAR : goal.returns-else-node-eq-VAR
+returns-else-node-eq-VAR c =
     let a = c.args in
-    leaf-other a.node a.k c.if-node-eq-VAR.false
+    rw (ne_eqb a.node.kind 3 c.if-node-eq-VAR.false) (leaf-other a.node a.k c.if-node-eq-VAR.false)

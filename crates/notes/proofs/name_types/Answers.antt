@@ -3,22 +3,9 @@
 use mathlib.Core.Path.{sym, ◌∙◌}
 use native.Mathlib.Omega.{arith}
 use Rattle.script.specs.Code.Forms.{tree_in}
-use Rattle.workspace.specs.Notes.Making.{upto_start, upto_on, upto_named, upto_more, upto_full, upto_end}
-use Rattle.workspace.specs.Places.{base_at}
+use Rattle.workspace.specs.Notes.Making.{upto_on, upto_more, upto_full, upto_end}
 use Rattle.notes.proofs.name_types.Goals as goal
 use Rattle.notes.proofs.name_types.Goals.{then-mentions+else-count-eq-NAMES, else-mentions}
-
-pub bounds-space-1241 : goal.bounds-space-1241
-bounds-space-1241 c = omega (arith, c.requires.nameable.lent)
-
-pub loop-k-init : goal.loop-k-init
-loop-k-init c = let a = c.args in upto_start (tree_in a.table.now a.a) a.depth a.at a.space.now
-
-pub overflow_cast-k : goal.overflow_cast-k
-overflow_cast-k c = omega (arith, c.loop-k.invariant.bounded, c.slice_known-2-1.given base_at, c.requires.nameable.small)
-
-pub shape_of-space-then-count-eq-NAMES : goal.shape_of-space-then-count-eq-NAMES
-shape_of-space-then-count-eq-NAMES c = c.loop-k.invariant.naming.same
 
 pub returns-then-count-eq-NAMES : goal.returns-then-count-eq-NAMES
 returns-then-count-eq-NAMES c =
@@ -26,25 +13,6 @@ returns-then-count-eq-NAMES c =
     let l = c.loop-k in
     upto_full (tree_in a.table.now a.a) a.depth a.at a.space.now l.k l.count l.space l.invariant
     c.loop-k-test.true (sym c.mentions.ensures ∙ c.if-mentions.true) c.if-count-eq-NAMES.true
-
-pub name_type-requires : goal.name_type-requires
-name_type-requires c =
-    let a = c.args in
-    let n = c.requires.nameable in
-    let l = c.loop-k in
-    let t = c.loop-k-test.true in
-    let e = tree_in a.table.now a.a in
-    upto_named e a.depth a.at a.space.now n l.k l.count l.space l.invariant t
-    (omega (arith, l.invariant.naming.few, c.if-count-eq-NAMES.false))
-
-pub overflow_add-count : goal.overflow_add-count
-overflow_add-count c = omega (arith, c.loop-k.invariant.naming.few)
-
-pub overflow_add-k : goal.overflow_add-k
-overflow_add-k c = omega (arith, c.loop-k-test.true, c.requires.nameable.small)
-
-pub loop-k-smaller : goal.loop-k-smaller
-loop-k-smaller c = omega (arith, c.loop-k-test.true)
 
 pub loop-k-preserved : goal.loop-k-preserved
 loop-k-preserved c =
@@ -60,9 +28,6 @@ loop-k-preserved c =
       | else-mentions w ↦
           upto_on e a.depth a.at a.space.now n l.k l.count l.space l.invariant t (sym c.mentions.ensures ∙ w.if-mentions.false) w.space-is w.count-is
     ]
-
-pub shape_of-space : goal.shape_of-space
-shape_of-space c = c.loop-k.invariant.naming.same
 
 pub returns : goal.returns
 returns c =

@@ -1,10 +1,6 @@
-use Prim.Native.Nat.{◌-◌}
 use Rattle.script.specs.Code.Forms.{tree_in}
 use Rattle.workspace.specs.Notes.Making.{Upto}
 use Rattle.notes.proofs.name_types.Given as goal
 
 abbrev pub invariant-loop-k : goal.invariant-loop-k
 invariant-loop-k l = Upto (tree_in l.table l.a) l.depth l.at l.initial.space l.k l.count l.space
-
-abbrev pub decreases-loop-k : goal.decreases-loop-k
-decreases-loop-k l = l.depth - l.k

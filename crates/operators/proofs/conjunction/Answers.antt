@@ -1,31 +1,19 @@
--- `operators::conjunction` meets its contract: each arm is given the kinds of the values, at which the rule computes. Assumes nothing.
+-- `operators::conjunction` meets its contract: two truths, or not. Assumes nothing.
 use Rattle.std.proofs.Common.{refl}
 use Rattle.rules.specs.Evaluation.{binary_on}
-use Rattle.operators.specs.Steps.Operators.{says-gave, says-failed}
+use Rattle.operators.specs.Steps.Operators.{says-gave, and-wrong, and-with-wrong}
 use Rattle.operators.proofs.conjunction.Goals as goal
-
-pub returns-in-Word : goal.returns-in-Word
-unfolding binary_on
-returns-in-Word c = rw c.in-Word.is (says-failed λ cs. refl)
-
-pub returns-in-Word-w : goal.returns-in-Word-w
-unfolding binary_on
-returns-in-Word-w c = rw (c.in-Truth.is, c.in-Word-w.is) (says-failed λ cs. refl)
 
 pub returns-then-a : goal.returns-then-a
 unfolding binary_on
-returns-then-a c =
-    rw (c.in-Truth.is, c.in-Truth-w.is, c.if-a.true) (says-gave λ cs. refl)
+returns-then-a c = rw (c.in-Truth-Truth.is-0, c.in-Truth-Truth.is-1, c.if-a.true) (says-gave λ cs. refl)
 
 pub returns-else-a : goal.returns-else-a
 unfolding binary_on
-returns-else-a c =
-    rw (c.in-Truth.is, c.in-Truth-w.is, c.if-a.false) (says-gave λ cs. refl)
+returns-else-a c = rw (c.in-Truth-Truth.is-0, c.in-Truth-Truth.is-1, c.if-a.false) (says-gave λ cs. refl)
 
-pub returns-in-Location-w : goal.returns-in-Location-w
-unfolding binary_on
-returns-in-Location-w c = rw (c.in-Truth.is, c.in-Location-w.is) (says-failed λ cs. refl)
+pub returns-in_default : goal.returns-in_default
+returns-in_default c = rw c.in_default.is-0 (and-with-wrong _ _ c.in_default.not-Truth-1)
 
-pub returns-in-Location : goal.returns-in-Location
-unfolding binary_on
-returns-in-Location c = rw c.in-Location.is (says-failed λ cs. refl)
+pub returns-in_default-2 : goal.returns-in_default-2
+returns-in_default-2 c = and-wrong _ _ c.in_default.not-Truth-0

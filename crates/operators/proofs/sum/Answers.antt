@@ -1,26 +1,15 @@
--- `operators::sum` meets its contract: each arm is given the kinds of the values, at which the rule computes. Assumes nothing.
+-- `operators::sum` meets its contract: two words, or not. Assumes nothing.
 use Rattle.std.proofs.Common.{refl}
 use Rattle.rules.specs.Evaluation.{binary_on}
-use Rattle.operators.specs.Steps.Operators.{says-gave, says-failed}
+use Rattle.operators.specs.Steps.Operators.{says-gave, add-wrong, add-to-wrong}
 use Rattle.operators.proofs.sum.Goals as goal
 
-pub returns-in-Word-w : goal.returns-in-Word-w
+pub returns-in-Word-Word : goal.returns-in-Word-Word
 unfolding binary_on
-returns-in-Word-w c =
-    rw (c.in-Word.is, c.in-Word-w.is, c.wrapping_add_u32.ensures.value) (says-gave λ cs. refl)
+returns-in-Word-Word c = rw (c.in-Word-Word.is-0, c.in-Word-Word.is-1) (says-gave λ cs. refl)
 
-pub returns-in-Truth-w : goal.returns-in-Truth-w
-unfolding binary_on
-returns-in-Truth-w c = rw (c.in-Word.is, c.in-Truth-w.is) (says-failed λ cs. refl)
+pub returns-in_default : goal.returns-in_default
+returns-in_default c = rw c.in_default.is-0 (add-to-wrong _ _ c.in_default.not-Word-1)
 
-pub returns-in-Location-w : goal.returns-in-Location-w
-unfolding binary_on
-returns-in-Location-w c = rw (c.in-Word.is, c.in-Location-w.is) (says-failed λ cs. refl)
-
-pub returns-in-Truth : goal.returns-in-Truth
-unfolding binary_on
-returns-in-Truth c = rw c.in-Truth.is (says-failed λ cs. refl)
-
-pub returns-in-Location : goal.returns-in-Location
-unfolding binary_on
-returns-in-Location c = rw c.in-Location.is (says-failed λ cs. refl)
+pub returns-in_default-2 : goal.returns-in_default-2
+returns-in_default-2 c = add-wrong _ _ c.in_default.not-Word-0

@@ -8,31 +8,25 @@ use Rattle.text.specs.Code.Output.Laws.{remains_all, remains_next, remains_none,
 use Rattle.output.proofs.put_bytes.Goals as goal
 
 pub loop-i-init : goal.loop-i-init
-loop-i-init c = (omega arith, rw (add-zero c.args.at) remains_all)
+loop-i-init c = rw (add-zero c.args.at) remains_all
 
 pub overflow_add-at : goal.overflow_add-at
 overflow_add-at c = omega arith
 
-pub overflow_add-i : goal.overflow_add-i
-overflow_add-i c = omega arith
-
-pub loop-i-smaller : goal.loop-i-smaller
-loop-i-smaller c = omega arith
-
 pub loop-i-preserved : goal.loop-i-preserved
 loop-i-preserved c =
     let l = c.loop-i in
-    (omega arith, remains_next l.i _ (omega arith) l.invariant.1 c.put.ensures)
+    remains_next l.i _ (omega arith) l.invariant c.put.ensures
 
 pub overflow_add-result : goal.overflow_add-result
 overflow_add-result c = omega arith
 
 pub shape_of-out : goal.shape_of-out
-shape_of-out c = remains_length c.loop-i.invariant.1
+shape_of-out c = remains_length c.loop-i.invariant
 
 pub returns : goal.returns
 returns c =
     let l = c.loop-i in
     let bytes = c.args.bytes.now in
     let e : l.i ≡ length bytes = omega arith in
-    remains_none (rw (e, drop-length bytes) at l.invariant.1)
+    remains_none (rw (e, drop-length bytes) at l.invariant)

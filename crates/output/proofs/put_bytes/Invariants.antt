@@ -4,7 +4,4 @@ use Rattle.text.specs.Code.Output.Laws.{Remains}
 use Rattle.output.proofs.put_bytes.Given as goal
 
 abbrev pub invariant-loop-i : goal.invariant-loop-i
-invariant-loop-i l = (l.i ≤ length l.bytes) × Remains l.bytes l.at l.initial.out (drop l.i l.bytes) (l.at + l.i) l.out
-
-abbrev pub decreases-loop-i : goal.decreases-loop-i
-decreases-loop-i l = length l.bytes - l.i
+invariant-loop-i l = Remains l.bytes l.at l.initial.out (drop l.i l.bytes) (l.at + l.i) l.out

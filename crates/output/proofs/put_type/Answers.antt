@@ -1,5 +1,5 @@
 -- `output::put_type` meets its contract: the text of what is left of the code remains to be stored. Assumes nothing.
-use Prim.Native.Nat.{ℕ}
+use Prim.Native.Nat.{ℕ, ◌+◌, ◌-◌, ◌*◌, ◌/◌}
 use mathlib.Core.Path.{◌≡◌, ap}
 use native.Mathlib.Omega.{arith}
 use lib.ListN.{length}
@@ -8,57 +8,47 @@ use Rattle.text.specs.Code.Output.Fields.{type-more}
 use Rattle.text.specs.Writing.{type_text}
 use Rattle.output.proofs.put_type.Goals as goal
 
-pub loop-t-init : goal.loop-t-init
-loop-t-init c = remains_all
-
-pub overflow_add-last : goal.overflow_add-last
-overflow_add-last c =
-    let l = c.loop-t in
-    omega (arith, ap length (type-more l.t (omega arith)))
-
-pub overflow_sub-t : goal.overflow_sub-t
-overflow_sub-t c = omega arith
-
-pub loop-t-smaller : goal.loop-t-smaller
-loop-t-smaller c = omega arith
-
-pub loop-t-preserved : goal.loop-t-preserved
-loop-t-preserved c =
-    let l = c.loop-t in
-    remains_byte (rw (type-more l.t (omega arith)) at l.invariant) c.put.ensures
+pub loop-k-preserved : goal.loop-k-preserved
+loop-k-preserved c =
+    let a = c.args in
+    let l = c.loop-k in
+    let m = type-more (a.code - 2 * l.k) (omega arith) in
+    let e : a.code - 2 * l.k - 2 ≡ a.code - 2 * (l.k + 1) = omega arith in
+    let f : a.at + l.k + 1 ≡ a.at + (l.k + 1) = omega arith in
+    rw (← e, ← f) (remains_byte (rw m at l.invariant) c.put.ensures)
 
 pub overflow_add-result : goal.overflow_add-result
 unfolding type_text
 overflow_add-result c =
-    let l = c.loop-t in
-    let e : l.t ≡ 0 = c.if-t-eq0.true in
-    omega (arith, ap (λ (t : ℕ). length (type_text t)) e)
+    let a = c.args in
+    let l = c.loop-k in
+    let e : a.code - 2 * l.k ≡ 0 = omega arith in
+    let r = rw e at l.invariant.end_is in
+    record { fits = omega (arith, r) }
 
-pub shape_of-out-then-t-eq0 : goal.shape_of-out-then-t-eq0
+pub returns-then-code-eq0 : goal.returns-then-code-eq0
 unfolding type_text
-shape_of-out-then-t-eq0 c = put_length ((let l = c.loop-t in let e : l.t ≡ 0 = c.if-t-eq0.true in remains_none (remains_byte (rw e at l.invariant) c.put-then-t-eq0.ensures)))
-
-pub returns-then-t-eq0 : goal.returns-then-t-eq0
-unfolding type_text
-returns-then-t-eq0 c =
-    let l = c.loop-t in
-    let e : l.t ≡ 0 = c.if-t-eq0.true in
-    remains_none (remains_byte (rw e at l.invariant) c.put-then-t-eq0.ensures)
+returns-then-code-eq0 c =
+    let a = c.args in
+    let l = c.loop-k in
+    let e : a.code - 2 * l.k ≡ 0 = omega arith in
+    let k : l.k ≡ a.code / 2 = omega arith in
+    remains_none (remains_byte (rw (e, k) at l.invariant) c.put-then-code-eq0.ensures)
 
 pub overflow_add-result-2 : goal.overflow_add-result-2
 unfolding type_text
 overflow_add-result-2 c =
-    let l = c.loop-t in
-    let e : l.t ≡ 1 = omega arith in
-    omega (arith, ap (λ (t : ℕ). length (type_text t)) e)
-
-pub shape_of-out : goal.shape_of-out
-unfolding type_text
-shape_of-out c = put_length ((let l = c.loop-t in let e : l.t ≡ 1 = omega arith in remains_none (remains_byte (rw e at l.invariant) c.put-2.ensures)))
+    let a = c.args in
+    let l = c.loop-k in
+    let e : a.code - 2 * l.k ≡ 1 = omega arith in
+    let r = rw e at l.invariant.end_is in
+    record { fits = omega (arith, r) }
 
 pub returns : goal.returns
 unfolding type_text
 returns c =
-    let l = c.loop-t in
-    let e : l.t ≡ 1 = omega arith in
-    remains_none (remains_byte (rw e at l.invariant) c.put-2.ensures)
+    let a = c.args in
+    let l = c.loop-k in
+    let e : a.code - 2 * l.k ≡ 1 = omega arith in
+    let k : l.k ≡ a.code / 2 = omega arith in
+    remains_none (remains_byte (rw (e, k) at l.invariant) c.put-2.ensures)

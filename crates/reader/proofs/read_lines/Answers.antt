@@ -1,6 +1,7 @@
 -- `reader::read_lines` meets its contract. The loop's invariant is `Walked`; each line takes the place where the next one starts further. Assumes nothing.
 use native.Mathlib.Omega.{arith}
 use native.Mathlib.Numerals.{add-one}
+use Rattle.script.specs.Answers.Named.{handed_on}
 use Rattle.text.specs.Code.Steps.Walk.{walk_start, walk_on, walk_refused, walk_end}
 use Rattle.reader.proofs.read_lines.Goals as goal
 
@@ -17,9 +18,10 @@ take_line-requires c =
       kept = w.kept;
     }
 
-pub returns-in-Refused : goal.returns-in-Refused
-returns-in-Refused c =
-    walk_refused c.loop-at.invariant c.loop-at-test.true (rw c.in-Refused.is at c.take_line.ensures)
+pub returns-in_err-more : goal.returns-in_err-more
+returns-in_err-more c =
+    rw (handed_on c.from_residual.result c.from_residual.ensures.1)
+    (walk_refused c.loop-at.invariant c.loop-at-test.true (rw c.in_err-more.was at c.take_line.ensures))
 
 pub overflow_add-i : goal.overflow_add-i
 overflow_add-i c =
@@ -27,14 +29,14 @@ overflow_add-i c =
 
 pub loop-at-smaller : goal.loop-at-smaller
 loop-at-smaller c =
-    let t = walk_on c.loop-at.invariant c.loop-at-test.true (rw c.in-Next.is at c.take_line.ensures) in
+    let t = walk_on c.loop-at.invariant c.loop-at-test.true (rw c.in_ok-more.was at c.take_line.ensures) in
     let l = t.0.within in
     omega (arith, t.1)
 
 pub loop-at-preserved : goal.loop-at-preserved
 loop-at-preserved c =
     rw (add-one c.loop-at.i)
-    (walk_on c.loop-at.invariant c.loop-at-test.true (rw c.in-Next.is at c.take_line.ensures)).0
+    (walk_on c.loop-at.invariant c.loop-at-test.true (rw c.in_ok-more.was at c.take_line.ensures)).0
 
 pub at_end-requires : goal.at_end-requires
 at_end-requires c =

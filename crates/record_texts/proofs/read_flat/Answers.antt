@@ -5,4 +5,4 @@ use Rattle.record_texts.proofs.read_flat.Goals as goal
 pub returns : goal.returns
 returns c =
     let a = c.args in
-    read_left a.text.now a.lent a.flat.now a.entries.now c.lesser-n.result c.requires c.lesser-n.ensures c.read.result c.read.new.table c.read.new.entries c.read.ensures
+    read_left a.text.now a.lent a.flat.now a.entries.now c.min-n.result c.requires c.min-n.ensures c.read.result c.read.new.table c.read.new.entries c.read.ensures

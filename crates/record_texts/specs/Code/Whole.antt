@@ -14,9 +14,7 @@ use Rattle.script.specs.Table.Laws.{passes}
 use Rattle.script.specs.Tests.{pick}
 use Rattle.script.specs.Tests.Laws.{both_true}
 use Rattle.script.specs.declared.Node.{Node}
-use Rattle.script.specs.declared.Reading.{Reading}
 use Rattle.script.specs.declared.Refusal.TheVariants.{TableTooSmall}
-use Rattle.script.specs.declared.Writing.{Writing}
 use Rattle.text.specs.Grammar.{Meaning, means, refused, meaning_of}
 use Rattle.text.proofs.OneSpelling.{read_passes}
 use Rattle.text.specs.Reading.{outcome_of as read_to, nodes_read, filled, table_read, tried, reading, leaves, left_by, reading_in}
@@ -25,6 +23,8 @@ use Rattle.copies.specs.Copies.{flat_size, CopiedOut, places, table_of}
 use Rattle.copies.specs.Copies.Alike.{Alike, same_answer, alike, table-copied, nodes_in-none}
 use Rattle.copies.specs.Copies.Laws.{filled_length}
 use Rattle.record_texts.specs.Texts.{Writes, Reads}
+use Rattle.script.specs.Answers.Named.{Reading}
+use Rattle.script.specs.Answers.Named.{Writing}
 
 -- ---- a writing
 

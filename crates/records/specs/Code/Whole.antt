@@ -4,15 +4,15 @@ use Rattle.std.specs.Prelude.{◌≡◌, refl, ℕ, ◌*◌, length, take}
 use Rattle.std.proofs.Common.{ap, ◌∙◌}
 use Rattle.script.specs.Flat.{node_width, table_in}
 use Rattle.script.specs.Tree.{root, tree_of}
-use Rattle.script.specs.declared.Checked.{Checked}
 use Rattle.script.specs.declared.Node.{Node}
-use Rattle.script.specs.declared.Ran.{Ran}
+use Rattle.script.specs.Answers.Named.{Ran}
 use Rattle.rules.specs.Checking.{path_limit, check, answered, check_table}
 use Rattle.rules.specs.Evaluation.{eval}
 use Rattle.rules.specs.Running.{values_of, finished, ran_by, run_test, run_table}
 use Rattle.copies.specs.Copies.{flat_size, CopiedOut, table_of}
 use Rattle.copies.specs.Copies.Alike.{Alike, same_answer, alike, table-copied}
 use Rattle.records.specs.Records.{Checks, Runs}
+use Rattle.script.specs.Answers.Named.{Checked}
 
 module _ (ns ms : List Node) (n : ℕ) (es : List ℕ) (m : ℕ) (a : Alike ns ms n es m) where
   check-alike : (limit : ℕ) → check_table limit (table_of ns n es m) ≡ check_table limit (table_of ms n es m)

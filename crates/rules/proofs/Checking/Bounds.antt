@@ -1,6 +1,6 @@
 -- The checker's answer is a type's code, 0 to 31, or a refusal at a node of the script: every rule gives types that are, and names its own node.
 -- Assumes nothing.
-use Rattle.std.specs.Prelude.{Bool, List, [], ◌∷◌, map, ◌≡◌, leb, eqb, length, get_or}
+use Rattle.std.specs.Prelude.{Bool, List, [], ◌∷◌, map, ◌≡◌, leb, eqb, length, get_or, Err, Ok}
 use Rattle.std.proofs.Math.Bool.{true, false}
 use Rattle.std.proofs.Math.Option.{Option, none, some, none-ne-some, some-injective}
 use Rattle.std.proofs.Math.Path.{refl}
@@ -17,8 +17,6 @@ use Rattle.script.specs.Table.Laws.{passes}
 use Rattle.script.specs.Tests.{pick}
 use Rattle.script.specs.Tree.{Expr}
 use Rattle.script.specs.Tree.Numbers.{Numbered, num_int, num_truth, num_var, num_unary, num_binary, num_if, num_let, num_typed, num_sym, numbered-tree}
-use Rattle.script.specs.declared.Checked.{Checked}
-use Rattle.script.specs.declared.Checked.TheVariants.{Accepted, Refused}
 use Rattle.script.specs.declared.Refusal.{Refusal}
 use Rattle.script.specs.declared.Refusal.TheVariants.{TooManyReferences}
 use Rattle.rules.specs.Checking.{check, exec, known, check_table}
@@ -30,6 +28,7 @@ use Rattle.rules.specs.Symbolic.{Formula, negation, conjunction, Origin, made, i
 use Rattle.rules.specs.SymbolicRules.{got, unary_exec, binary_exec, branches, atom_limit, decide, typed_result, variable, first_type, judge}
 use Rattle.rules.specs.TypedRules.{and_then, is_type, unary_type, binary_type, if_type}
 use Rattle.rules.specs.Checking.Bounds.{Bounded, Code, code, refusal}
+use Rattle.script.specs.Answers.Named.{Checked}
 
 -- a value with a type that is one
 record Coded (v : Symbolic) : Type 0 where
@@ -54,10 +53,10 @@ data BoundedLeaf (m : ℕ) : Leaf → Type 0 where
 -- ---- typed mode
 
 module _ {m : ℕ} where
-  a_word_lem : Bounded m (Accepted 0)
+  a_word_lem : Bounded m (Ok 0)
   a_word_lem = code {t = 0} (omega arith)
 
-  a_truth_lem : Bounded m (Accepted 1)
+  a_truth_lem : Bounded m (Ok 1)
   a_truth_lem = code {t = 1} (omega arith)
 
   either : (b : Bool) {c d : Checked} → Bounded m c → Bounded m d → Bounded m (pick b c d)
@@ -83,7 +82,7 @@ module _ {m : ℕ} where
     unary_type_lem not_op (suc (suc t)) l = refusal (place-below h)
     unary_type_lem ref_op t l = go (is_type (suc (suc t))) refl
       where
-        go : (b : Bool) → is_type (suc (suc t)) ≡ b → Bounded m (pick b (Accepted (suc (suc t))) (Refused (TooManyReferences n)))
+        go : (b : Bool) → is_type (suc (suc t)) ≡ b → Bounded m (pick b (Ok (suc (suc t))) (Err (TooManyReferences n)))
         go true e = code (leb-true (suc (suc t)) type_limit e)
         go false e = refusal (place-below h)
     unary_type_lem get_op zero l = refusal (place-below h)

@@ -1,6 +1,6 @@
 -- Every path's condition is satisfiable, at its start and wherever it ends, so that at an `if` one of the branches is always possible (`one_branch`), and
 -- a branch is followed exactly if it is. Every decision tree has a path. Assumes nothing.
-use Rattle.std.specs.Prelude.{◌≡◌, Bool, List, [], ◌∷◌, ◌++◌, map, ℕ, suc, leb, eqb, length}
+use Rattle.std.specs.Prelude.{◌≡◌, Bool, List, [], ◌∷◌, ◌++◌, map, ℕ, suc, leb, eqb, length, Err, Ok}
 use Rattle.std.proofs.Math.Path.{refl}
 use Rattle.std.proofs.Common.{ap}
 use Rattle.std.proofs.Math.Bool.{true, false}
@@ -9,8 +9,6 @@ use Rattle.std.proofs.Math.ListN.{get_elem?}
 use Rattle.script.specs.Rows.{UnaryOp, not_op, ref_op, get_op, BinaryOp, add_op, eq_op, and_op, set_op}
 use Rattle.script.specs.Tests.{pick}
 use Rattle.script.specs.Tree.{Expr, int, truth, var, unary, binary, if_else, let_in, typed_block, sym_block}
-use Rattle.script.specs.declared.Checked.{Checked}
-use Rattle.script.specs.declared.Checked.TheVariants.{Accepted, Refused}
 use Rattle.rules.specs.Checking.{check, exec}
 use Rattle.rules.specs.Paths.{Path, Paths, Leaf, ended, stopped, ends, stops, forks, bind, start, assume, consistent, lookup, leaves}
 use Rattle.rules.specs.Satisfiable.{satisfiable, some_choice, different, atoms_of, holds, different_atoms}
@@ -19,6 +17,7 @@ use Rattle.rules.specs.Symbolic.{Formula, negation, conjunction, Symbolic, a_wor
 use Rattle.rules.specs.SymbolicRules.{got, unary_exec, binary_exec, branches, atom_limit, decide, typed_result, variable}
 use Rattle.rules.specs.TypedRules.{is_type}
 use Rattle.rules.specs.Checking.Laws.{Everywhere, Possible, at-stop, at_end_lem, at_fork}
+use Rattle.script.specs.Answers.Named.{Checked}
 
 everywhere_then : {P : Path → Type 0} {t : Paths} (k : Symbolic → Path → Paths) → Everywhere P t → ((v : Symbolic) (p : Path) → P p → Everywhere P (k v p))
     → Everywhere P (bind t k)
@@ -80,8 +79,8 @@ module _ {p : Path} (h : Possible p) where
 
   typed-possible : (n : ℕ) (c : Checked) → Everywhere Possible (typed_result n p c)
   unfolding typed_result
-  typed-possible n (Accepted t) = either (consistent p) (at_end_lem (record { possible = h.possible })) at-stop
-  typed-possible n (Refused r) = at-stop
+  typed-possible n (Ok t) = either (consistent p) (at_end_lem (record { possible = h.possible })) at-stop
+  typed-possible n (Err r) = at-stop
 
   -- ---- a branch is followed only if its condition is satisfiable
 

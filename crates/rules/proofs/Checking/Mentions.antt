@@ -1,6 +1,6 @@
 -- Which variables a tree mentions, and the law that its check depends on nothing else of the variables than how many there are and the types of those
 -- that it mentions. A variable is its place counted from the outside, so that nothing shifts under a `let`. Assumes nothing.
-use Rattle.std.specs.Prelude.{Bool, ◌||◌, List, [], ◌∷◌, ◌++◌, map, ◌≡◌, ℕ, zero, suc, ◌+◌, leb, length}
+use Rattle.std.specs.Prelude.{Bool, ◌||◌, List, [], ◌∷◌, ◌++◌, map, ◌≡◌, ℕ, zero, suc, ◌+◌, leb, length, Err, Ok}
 use Rattle.std.proofs.Math.Bool.{true, false}
 use Rattle.std.proofs.Math.Option.{some, some-injective}
 use Rattle.std.proofs.Math.Path.{refl, ap}
@@ -9,8 +9,6 @@ use Rattle.std.proofs.Math.ListN.{get_elem?}
 use Rattle.script.specs.Tests.{pick}
 use Rattle.script.specs.Tests.Laws.{or_first, or_second}
 use Rattle.script.specs.Tree.{Expr, int, truth, var, unary, binary, if_else, let_in, typed_block, sym_block}
-use Rattle.script.specs.declared.Checked.{Checked}
-use Rattle.script.specs.declared.Checked.TheVariants.{Accepted, Refused}
 use Rattle.script.specs.declared.Refusal.TheVariants.{TooManyAtoms}
 use Rattle.rules.specs.Checking.{check, exec, known}
 use Rattle.rules.specs.Paths.{Path, Paths, ends, stops, forks, start, bind, leaves}
@@ -19,6 +17,7 @@ use Rattle.rules.specs.Symbolic.{initial, Symbolic, a_word, a_truth, a_reference
 use Rattle.rules.specs.SymbolicRules.{unary_exec, binary_exec, branches, atom_limit, decide, typed_result, variable, verdict}
 use Rattle.rules.specs.TypedRules.{and_then, unary_type, binary_type, if_type}
 use Rattle.rules.specs.Checking.Mentions.{Alike, alike_end, alike_next, mentions}
+use Rattle.script.specs.Answers.Named.{Checked}
 
 module _ {A : Type 0} {m : ℕ → Bool} where
   pub alike-length : {i : ℕ} {xs ys : List A} → Alike m i xs ys → length xs ≡ length ys
@@ -69,8 +68,8 @@ module _ {m : ℕ → Bool} where
 -- ---- going on in the same way
 
 pub then_same : (c : Checked) (k l : ℕ → Checked) → ((t : ℕ) → k t ≡ l t) → and_then c k ≡ and_then c l
-then_same (Accepted t) k l h = h t
-then_same (Refused r) k l h = refl
+then_same (Ok t) k l h = h t
+then_same (Err r) k l h = refl
 
 pub bind-same : (t : Paths) (k l : Symbolic → Path → Paths) → ((v : Symbolic) (p : Path) → k v p ≡ l v p) → bind t k ≡ bind t l
 unfolding bind

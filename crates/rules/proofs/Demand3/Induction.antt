@@ -1,14 +1,12 @@
 -- The rules' promise, for every tree: what typed mode accepts ends with a value of the type, and a run follows a path of symbolic mode's decision
 -- tree. One induction over trees, with the operator as a parameter. Assumes nothing.
-use Rattle.std.specs.Prelude.{◌≡◌, refl, Bool, true, false, List, [], ◌∷◌, ◌++◌, map, ℕ, zero, suc, eqb, length}
+use Rattle.std.specs.Prelude.{◌≡◌, refl, Bool, true, false, List, [], ◌∷◌, ◌++◌, map, ℕ, zero, suc, eqb, length, Err, Ok}
 use Rattle.std.proofs.Common.{sym, ◌∙◌, subst, mod-lt, arith, lit<, eqb-true}
 use Rattle.std.proofs.Math.Option.{Option, none, some}
 use Rattle.std.proofs.Math.ListN.{get_elem?}
 use Rattle.std.proofs.lemmas.List.{length-map}
 use Rattle.script.specs.Tests.{pick}
 use Rattle.script.specs.Tree.{Expr, int, truth, var, unary, binary, if_else, let_in, typed_block, sym_block}
-use Rattle.script.specs.declared.Checked.{Checked}
-use Rattle.script.specs.declared.Checked.TheVariants.{Accepted, Refused}
 use Rattle.script.specs.declared.Refusal.{Refusal}
 use Rattle.script.specs.declared.Refusal.TheVariants.{InconsistentLog, PathTypesDiffer}
 use Rattle.script.specs.declared.Value.{Value}
@@ -30,6 +28,7 @@ use Rattle.rules.specs.SymbolicRules.{unary_exec, binary_exec, decide, variable,
 use Rattle.rules.specs.TypedRules.{and_then, unary_type, binary_type, if_type}
 use Rattle.rules.specs.Typings.{HasType, is_word, is-truth, is_location, Each, Fits, HaveTypes}
 use Rattle.rules.proofs.Typings.Laws.{at-found, found_at, each_at, each_from, each_last, each-length, type-extends, types_extend}
+use Rattle.script.specs.Answers.Named.{Checked}
 
 -- ---- the paths of a `sym`
 
@@ -38,22 +37,22 @@ data Good (t : ℕ) : List Leaf → Type 0 where
   no_more : Good t []
   and_good : {v : Symbolic} {p : Path} {ls : List Leaf} → consistent p ≡ true → type_of v ≡ t → Good t ls → Good t (ended v p ∷ ls)
 
-refused_accepted : {A : Type 0} {r : Refusal} {t : ℕ} → Refused r ≡ Accepted t → A
+refused_accepted : {A : Type 0} {r : Refusal} {t : ℕ} → ◌≡◌ {A = Checked} (Err r) (Ok t) → A
 refused_accepted e = let z : ◌≡◌ {A = ℕ} 0 1 = cc in absurd (omega arith)
 
-judge_good : (n left t : ℕ) (ls : List Leaf) {u : ℕ} → judge n left t ls ≡ Accepted u → (t ≡ u) × Good t ls
+judge_good : (n left t : ℕ) (ls : List Leaf) {u : ℕ} → judge n left t ls ≡ Ok u → (t ≡ u) × Good t ls
 unfolding judge
 judge_good n left t [] e = (inside e, no_more)
   where
-    inside : {t u : ℕ} → Accepted t ≡ Accepted u → t ≡ u
+    inside : {t u : ℕ} → ◌≡◌ {A = Checked} (Ok t) (Ok u) → t ≡ u
     inside q = cc
 judge_good n zero t (ended v p ∷ ls) e = refused_accepted e
 judge_good n zero t (stopped r ∷ ls) e = refused_accepted e
 judge_good n (suc left) t (stopped r ∷ ls) e = refused_accepted e
 judge_good n (suc left) t (ended v p ∷ ls) {u} e = go (λ q. judge_good n left t ls q) (consistent p) refl (eqb (type_of v) t) refl e
   where
-    go : (judge n left t ls ≡ Accepted u → (t ≡ u) × Good t ls) → (a : Bool) → consistent p ≡ a → (b : Bool) → eqb (type_of v) t ≡ b
-        → pick a (pick b (judge n left t ls) (Refused (PathTypesDiffer n))) (Refused (InconsistentLog n)) ≡ Accepted u → (t ≡ u) × Good t (ended v p ∷ ls)
+    go : (judge n left t ls ≡ Ok u → (t ≡ u) × Good t ls) → (a : Bool) → consistent p ≡ a → (b : Bool) → eqb (type_of v) t ≡ b
+        → pick a (pick b (judge n left t ls) (Err (PathTypesDiffer n))) (Err (InconsistentLog n)) ≡ Ok u → (t ≡ u) × Good t (ended v p ∷ ls)
     go ih true ea true eb q = let r = ih q in (r.0, and_good ea (eqb-true (type_of v) t eb) r.1)
     go ih true ea false eb q = refused_accepted q
     go ih false ea b eb q = refused_accepted q
@@ -66,7 +65,7 @@ good_second : {t : ℕ} (xs : List Leaf) {ys : List Leaf} → Good t (xs ++ ys) 
 good_second [] g = g
 good_second (x ∷ xs) (and_good c e g) = good_second xs g
 
-follows_good : {typing : List ℕ} {ρ : List Entry} {t : ℕ} {ps : Paths} {o : Outcome} → Follows typing ρ ps o → Good t (leaves ps) → Promise typing (Accepted t) o
+follows_good : {typing : List ℕ} {ρ : List Entry} {t : ℕ} {ps : Paths} {o : Outcome} → Follows typing ρ ps o → Good t (leaves ps) → Promise typing (Ok t) o
 unfolding leaves
 follows_good (at_end_lem {v = v} {x = x} q) (and_good c e g) =
     kept (record {
@@ -83,10 +82,10 @@ verdict-kept : (n limit : ℕ) {typing : List ℕ} {ρ : List Entry} {ps : Paths
 verdict-kept n limit {typing} {ρ} {ps} {o} h = go (verdict n limit (leaves ps)) refl
   where
     go : (c : Checked) → verdict n limit (leaves ps) ≡ c → Promise typing c o
-    go (Accepted t) e =
+    go (Ok t) e =
         let q = judge_good n limit (first_type (leaves ps)) (leaves ps) e in
         follows_good h (subst (λ (k : ℕ). Good k (leaves ps)) q.0 q.1)
-    go (Refused r) e = free
+    go (Err r) e = free
 
 -- ---- variables and branches
 
@@ -98,7 +97,7 @@ variable-kept n k {typing} {types} {env} {cs} h f = go (get_elem? types k) refl
     go none e = free
     go (some t) e =
         let q = each_at h (found_at types k t e) in
-        subst (λ (o : Option Value). Promise typing (Accepted t) (found o (failed n cs) λ v. gave v cs)) (sym (at-found q.1)) (ends-here f q.2)
+        subst (λ (o : Option Value). Promise typing (Ok t) (found o (failed n cs) λ v. gave v cs)) (sym (at-found q.1)) (ends-here f q.2)
 
 variable-follows : (n k : ℕ) {typing : List ℕ} {ρ : List Entry} {vs : List Symbolic} {env cs : List Value} {p : Path}
     → Each (StandsFor typing ρ) vs env → State typing ρ p cs
@@ -115,16 +114,16 @@ variable-follows n k {typing} {ρ} {vs} {env} {cs} {p} h s = go (get_elem? vs k)
 if_kept : (n : ℕ) {typing : List ℕ} {cs : List Value} {v : Value} {t : ℕ} (c d : Checked) (i j : List Value → Outcome) → Fits typing cs → HasType typing v t
     → Promise typing c (i cs) → Promise typing d (j cs) → Promise typing (and_then c λ u. and_then d (if_type n t u)) (branch_on n v cs i j)
 unfolding if_type
-if_kept n (Refused r) d i j f h p q = free
-if_kept n (Accepted u) (Refused r) i j f h p q = free
-if_kept n (Accepted u) (Accepted w) i j f (is_word h) p q = free
-if_kept n {typing} {cs} (Accepted u) (Accepted w) i j f (is-truth {b = b}) p q =
-    compared f n (Accepted u) (branch_on n (Truth b) cs i j) (λ e. side b e)
+if_kept n (Err r) d i j f h p q = free
+if_kept n (Ok u) (Err r) i j f h p q = free
+if_kept n (Ok u) (Ok w) i j f (is_word h) p q = free
+if_kept n {typing} {cs} (Ok u) (Ok w) i j f (is-truth {b = b}) p q =
+    compared f n (Ok u) (branch_on n (Truth b) cs i j) (λ e. side b e)
   where
-    side : (c : Bool) → u ≡ w → Promise typing (Accepted u) (branch_on n (Truth c) cs i j)
+    side : (c : Bool) → u ≡ w → Promise typing (Ok u) (branch_on n (Truth c) cs i j)
     side true e = p
-    side false e = subst (λ (k : ℕ). Promise typing (Accepted k) (j cs)) (sym e) q
-if_kept n (Accepted u) (Accepted w) i j f (is_location a h) p q = free
+    side false e = subst (λ (k : ℕ). Promise typing (Ok k) (j cs)) (sym e) q
+if_kept n (Ok u) (Ok w) i j f (is_location a h) p q = free
 
 -- ---- the start of a path
 

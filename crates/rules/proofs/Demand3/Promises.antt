@@ -1,7 +1,6 @@
 -- What an answer of the rules promises of a run, where it is no refusal, and when a run follows a path of a decision tree. Each has one law of
 -- sequencing, which mirrors the sequencing of the definitions. Assumes nothing.
 use Rattle.std.specs.Prelude.{List, ℕ}
-use Rattle.script.specs.declared.Checked.{Checked}
 use Rattle.script.specs.declared.Value.{Value}
 use Rattle.rules.specs.Demand3.Meaning.{Entry}
 use Rattle.rules.specs.Demand3.Stands.{StandsFor}
@@ -12,6 +11,7 @@ use Rattle.rules.specs.TypedRules.{and_then}
 use Rattle.rules.specs.Typings.{HasType, Fits, Extends}
 use Rattle.rules.proofs.Typings.Laws.{extends_trans}
 use Rattle.rules.specs.Demand3.Promises.{Follows, Promise, State, at-stop, at_end_lem, first, free, kept, second}
+use Rattle.script.specs.Answers.Named.{Checked}
 
 pub promise_earlier : {old new : List ℕ} {c : Checked} {o : Outcome} → Extends old new → Promise new c o → Promise old c o
 promise_earlier e (kept q) = kept (record { extension = q.extension; extends = extends_trans e q.extends; fits = q.fits; typed = q.typed })

@@ -1,5 +1,5 @@
 -- A run follows a path of each operator's decision tree, of the decision at an `if`, and of a typed block's end. Assumes nothing.
-use Rattle.std.specs.Prelude.{◌≡◌, Bool, not, ◌&&◌, List, [], ◌∷◌, ◌++◌, ℕ, suc, ◌<◌, eqb, leb, length, set}
+use Rattle.std.specs.Prelude.{◌≡◌, Bool, not, ◌&&◌, List, [], ◌∷◌, ◌++◌, ℕ, suc, ◌<◌, eqb, leb, length, set, Err, Ok}
 use Rattle.std.proofs.Math.Path.{refl, ap, subst}
 use Rattle.std.proofs.Common.{sym, ◌∙◌, leb-true}
 use Rattle.std.proofs.Math.Bool.{true, false}
@@ -8,8 +8,6 @@ use Rattle.std.proofs.Math.ListN.{get_elem?}
 use Rattle.script.specs.Limits.{type_limit}
 use Rattle.script.specs.Rows.{UnaryOp, not_op, ref_op, get_op, BinaryOp, add_op, eq_op, and_op, set_op}
 use Rattle.script.specs.Tests.{pick}
-use Rattle.script.specs.declared.Checked.{Checked}
-use Rattle.script.specs.declared.Checked.TheVariants.{Accepted, Refused}
 use Rattle.script.specs.declared.Refusal.TheVariants.{WrongType, TooManyReferences, InconsistentLog, TooManyAtoms}
 use Rattle.script.specs.declared.Value.{Value}
 use Rattle.script.specs.declared.Value.TheVariants.{Truth, Location}
@@ -30,6 +28,7 @@ use Rattle.rules.specs.SymbolicRules.{got, unary_exec, binary_exec, branches, at
 use Rattle.rules.specs.TypedRules.{is_type}
 use Rattle.rules.specs.Typings.{At, HasType, Fits, Extends}
 use Rattle.rules.proofs.Typings.Laws.{at-found, at_last, below_at, extends_self, extends_trans, extends_append, extends-length, each_at, each-length}
+use Rattle.script.specs.Answers.Named.{Checked}
 
 -- the path ends here, with nothing new but the value
 pub ends_with : {typing : List ℕ} {ρ : List Entry} {v : Symbolic} {p : Path} {x : Value} {cs : List Value}
@@ -252,12 +251,12 @@ module _ {typing : List ℕ} {ρ : List Entry} {p : Path} {cs : List Value} (s :
 
   pub typed-follows : (n : ℕ) (c : Checked) {o : Outcome} → (Fits typing cs → Promise typing c o) → Follows typing ρ (typed_result n p c) o
   unfolding typed_result
-  typed-follows n (Accepted t) {o} k = go (consistent p) refl
+  typed-follows n (Ok t) {o} k = go (consistent p) refl
     where
-      block : Fits typing cs → {r : Outcome} → Promise typing (Accepted t) r → Follows typing ρ (fresh t (forget p)) r
+      block : Fits typing cs → {r : Outcome} → Promise typing (Ok t) r → Follows typing ρ (fresh t (forget p)) r
       block f (kept q) = resumed f q
 
       go : (b : Bool) → consistent p ≡ b → Follows typing ρ (pick b (fresh t (forget p)) (stops (InconsistentLog n))) o
       go true e = let f = consistent-fits s.memory e in block f (k f)
       go false e = at-stop
-  typed-follows n (Refused r) k = at-stop
+  typed-follows n (Err r) k = at-stop

@@ -1,11 +1,10 @@
 -- Rows that tell a cell that `ref` makes on a path from the cells of the variables (docs/CHECKS.md, 'The log'), and both from symbols of which nothing is known.
 -- What is known of a cell is seen by an `if` on what `get` gives: only where the stored value is known, one branch alone is followed. Proved together by
 -- computation. Assumes nothing.
-use Rattle.std.specs.Prelude.{◌≡◌, refl, List, [], ◌∷◌, ◌++◌, map, replicate}
+use Rattle.std.specs.Prelude.{◌≡◌, refl, List, [], ◌∷◌, ◌++◌, map, replicate, Some}
 use Rattle.script.specs.Answers.{value_is}
 use Rattle.script.specs.Table.Cases.{lend, int', true', var', add', eq', and', if', let', ref', get', set', typed', sym'}
 use Rattle.script.specs.declared.Node.{Node}
-use Rattle.script.specs.declared.Place.TheVariants.{At}
 use Rattle.rules.specs.Cases.{Case, run?, runs, five, asking, right, accepts, refuses, computed}
 
 abbrev stored_away : List Node
@@ -39,22 +38,22 @@ new_cells =
     -- in a typed block an inner `sym` begins paths of its own: the cell made outside is a variable's there, which may be the entry's
     ∷ refuses (2 ∷ [])
     (int' 6 ∷ ref' 0 ∷ var' 1 ∷ int' 7 ∷ set' 2 3 ∷ var' 0 ∷ int' 8 ∷ set' 5 6 ∷ var' 1 ∷ get' 8 ∷ int' 7 ∷ eq' 9 10 ∷ int' 1 ∷ true' ∷ if' 11 12 13 ∷ let' 7 14 ∷ let' 4 15 ∷ sym' 16 ∷ typed' 17 ∷ let' 1 18 ∷ sym' 19 ∷ [])
-    10 (At 17)
+    10 (Some 17)
     -- and is none that this inner block makes
     ∷ accepts []
     (int' 6 ∷ ref' 0 ∷ int' 7 ∷ ref' 2 ∷ var' 0 ∷ int' 8 ∷ set' 4 5 ∷ var' 1 ∷ get' 7 ∷ int' 7 ∷ eq' 8 9 ∷ int' 1 ∷ true' ∷ if' 10 11 12 ∷ let' 6 13 ∷ let' 3 14 ∷ sym' 15 ∷ typed' 16 ∷ let' 1 17 ∷ sym' 18 ∷ [])
     0
     -- what `get` makes may be any cell, a new one too: here the new one's location was stored where it reads, and the run stores 8 there
-    ∷ refuses (4 ∷ []) stored_away 10 (At 26)
+    ∷ refuses (4 ∷ []) stored_away 10 (Some 26)
     ∷ record { table = lend (4 ∷ []) stored_away; question = run? (five 2 0) (five 2 1 ++ five 0 5 ++ replicate 950 0) 2; answer = runs (value_is 1 1 3) (five 2 2 ++ five 0 5) }
     -- so may a typed block's value, here in a variable that a `let` of the path binds, also for a `sym` behind it
     ∷ refuses (2 ∷ [])
     (var' 0 ∷ typed' 0 ∷ int' 7 ∷ ref' 2 ∷ var' 1 ∷ int' 8 ∷ set' 4 5 ∷ var' 2 ∷ get' 7 ∷ int' 7 ∷ eq' 8 9 ∷ int' 1 ∷ true' ∷ if' 10 11 12 ∷ let' 6 13 ∷ let' 3 14 ∷ sym' 15 ∷ let' 1 16 ∷ sym' 17 ∷ [])
-    10 (At 18)
+    10 (Some 18)
     -- two entries may be one cell, also where a `ref` went before (and in `Traps`)
     ∷ refuses (2 ∷ 2 ∷ [])
     (int' 6 ∷ ref' 0 ∷ var' 0 ∷ int' 7 ∷ set' 2 3 ∷ var' 1 ∷ int' 8 ∷ set' 5 6 ∷ var' 0 ∷ get' 8 ∷ int' 7 ∷ eq' 9 10 ∷ int' 1 ∷ true' ∷ if' 11 12 13 ∷ let' 7 14 ∷ let' 4 15 ∷ let' 1 16 ∷ sym' 17 ∷ [])
-    10 (At 18)
+    10 (Some 18)
     ∷ []
 
 pub new_cells_hold : map asking new_cells ≡ map right new_cells

@@ -4,16 +4,16 @@ use Prim.Native.Nat.{ℕ, ◌≤◌}
 use Rattle.script.specs.Answers.{place_of}
 use Rattle.script.specs.Answers.Bounds.{PlaceBelow}
 use Rattle.script.specs.Limits.{type_limit}
-use Rattle.script.specs.declared.Checked.{Checked}
-use Rattle.script.specs.declared.Checked.TheVariants.{Accepted, Refused}
 use Rattle.script.specs.declared.Refusal.{Refusal}
+use Rattle.std.specs.Prelude.{Err, Ok}
+use Rattle.script.specs.Answers.Named.{Checked}
 
 -- ---- what is shown
 
 -- a type's code, or a refusal at a place below m
 pub data Bounded (m : ℕ) : Checked → Type 0 where
-  code : {t : ℕ} → t ≤ type_limit → Bounded m (Accepted t)
-  refusal : {r : Refusal} → PlaceBelow m (place_of r) → Bounded m (Refused r)
+  code : {t : ℕ} → t ≤ type_limit → Bounded m (Ok t)
+  refusal : {r : Refusal} → PlaceBelow m (place_of r) → Bounded m (Err r)
 
 pub record Code (t : ℕ) : Type 0 where
   pub most : t ≤ type_limit

@@ -1,8 +1,6 @@
 -- What an answer of the rules promises of a run, where it is no refusal, and when a run follows a path of a decision tree. Each has one law of
 -- sequencing, which mirrors the sequencing of the definitions. Assumes nothing.
-use Rattle.std.specs.Prelude.{◌≡◌, true, List, ℕ, length}
-use Rattle.script.specs.declared.Checked.{Checked}
-use Rattle.script.specs.declared.Checked.TheVariants.{Accepted, Refused}
+use Rattle.std.specs.Prelude.{◌≡◌, true, List, ℕ, length, Err, Ok}
 use Rattle.script.specs.declared.Refusal.{Refusal}
 use Rattle.script.specs.declared.Value.{Value}
 use Rattle.rules.specs.Demand3.Meaning.{Entry, atom_at}
@@ -13,6 +11,7 @@ use Rattle.rules.specs.Paths.{Path, Paths, ends, stops, forks}
 use Rattle.rules.specs.Satisfiable.{holds}
 use Rattle.rules.specs.Symbolic.{Symbolic}
 use Rattle.rules.specs.Typings.{HasType, Fits, Extends}
+use Rattle.script.specs.Answers.Named.{Checked}
 
 -- ---- typed mode
 
@@ -25,8 +24,8 @@ pub record Ends (typing : List ℕ) (type : ℕ) (value : Value) (cells : List V
 
 -- an accepted tree ends with a value as said; where the rules refuse, nothing is promised
 pub data Promise (typing : List ℕ) : Checked → Outcome → Type 0 where
-  kept : {t : ℕ} {v : Value} {cs : List Value} → Ends typing t v cs → Promise typing (Accepted t) (gave v cs)
-  free : {r : Refusal} {o : Outcome} → Promise typing (Refused r) o
+  kept : {t : ℕ} {v : Value} {cs : List Value} → Ends typing t v cs → Promise typing (Ok t) (gave v cs)
+  free : {r : Refusal} {o : Outcome} → Promise typing (Err r) o
 
 -- ---- symbolic mode
 

@@ -30,18 +30,18 @@ run_tested-requires c =
     (sym c.right_cells.ensures ∙ c.if-not-right_cells.false)
     (sym c.right_values.ensures ∙ c.if-not-right_values.false)
 
-pub returns-in-Gave : goal.returns-in-Gave
-returns-in-Gave c =
+pub returns-in-Ok : goal.returns-in-Ok
+returns-in-Ok c =
     let a = c.args in
     run_gave a.table.now a.nodes a.entries.now a.entry_count a.values.now a.cells.now a.used c.requires
     (sym c.right_cells.ensures ∙ c.if-not-right_cells.false)
     (sym c.right_values.ensures ∙ c.if-not-right_values.false)
-    c.run_tested.ensures c.in-Gave.is
+    c.run_tested.ensures c.in-Ok.is
 
-pub returns-in-Failed : goal.returns-in-Failed
-returns-in-Failed c =
+pub returns-in-Err : goal.returns-in-Err
+returns-in-Err c =
     let a = c.args in
     run_failed a.table.now a.nodes a.entries.now a.entry_count a.values.now a.cells.now a.used c.requires
     (sym c.right_cells.ensures ∙ c.if-not-right_cells.false)
     (sym c.right_values.ensures ∙ c.if-not-right_values.false)
-    c.run_tested.ensures c.in-Failed.is
+    c.run_tested.ensures c.in-Err.is

@@ -1,6 +1,6 @@
 -- Node n of a table whose nodes up to n are well formed: evaluation of its tree is that of a leaf, or that of its first operand and then what is left
 -- of it; its operands are earlier, and its tree has room for theirs. Assumes nothing.
-use Rattle.std.specs.Prelude.{true, false, List, [], ◌∷◌, ◌++◌, ◌≡◌, ℕ, suc, ◌+◌, ◌≤◌, ◌<◌}
+use Rattle.std.specs.Prelude.{true, false, List, [], ◌∷◌, ◌++◌, ◌≡◌, ℕ, suc, ◌+◌, ◌≤◌, ◌<◌, Some, None}
 use Rattle.std.proofs.Math.Path.{refl, sym, ap}
 use Rattle.std.proofs.Common.{subst, ◌∙◌}
 use native.Mathlib.Omega.{arith}
@@ -13,7 +13,6 @@ use Rattle.script.specs.declared.Value.{Value}
 use Rattle.script.specs.declared.Value.TheVariants.{Word, Truth, Location}
 use Rattle.rules.specs.Evaluation.{Outcome, gave, failed, after, unary_on, binary_on, branch_on, eval}
 use Rattle.operators.specs.Steps.{leaf_on, one_on, two_on, branch_of, next_on, rest_by, rest_on, rest_size_on, rest_size}
-use Rattle.operators.specs.declared.Next.TheVariants.{Operand, Wrong}
 
 -- ---- one step after the other
 
@@ -63,7 +62,7 @@ module _ (xs : List ℕ) (n : ℕ) where
     no_operand : count ≡ 0 → ((env cs : List Value) → eval t env cs ≡ leaf_on form n (node_in xs n) env cs) → Shaped t
     one_operand : count ≡ 1 → First t → ((env cs : List Value) → eval t env cs ≡ after (eval first env cs) (one_on form n)) → Shaped t
     more-operands : 2 ≤ count → First t → Rest t
-        → ((v : Value) (m : ℕ) → next_on form v (node_in xs n) ≡ Operand m → Follows m) → Shaped t
+        → ((v : Value) (m : ℕ) → next_on form v (node_in xs n) ≡ Some m → Follows m) → Shaped t
 
   -- ---- nodes of each form
 
@@ -82,13 +81,13 @@ module _ (xs : List ℕ) (n : ℕ) where
   unfolding rest_for rest_by next_on several_by two_on
   let_rest v cs env = after-gave (eval (tree_in xs (node_in xs n).b) (env ++ (v ∷ [])) cs) gave λ w cs₁. refl
 
-  same_operand : {m k : ℕ} → Operand m ≡ Operand k → m ≡ k
+  same_operand : {m k : ℕ} → Some m ≡ Some k → m ≡ k
   same_operand e = cc
 
-  operand-not-wrong : {m : ℕ} → Wrong ≡ Operand m → ⊥
+  operand-not-wrong : {m : ℕ} → None ≡ Some m → ⊥
   operand-not-wrong e = let z : ◌≡◌ {A = ℕ} 0 1 = cc in omega arith
 
-  follow_at : (k m : ℕ) → k < n → size (tree_in xs k) ≤ rest_size xs (node_in xs n) → Operand k ≡ Operand m → Follows m
+  follow_at : (k m : ℕ) → k < n → size (tree_in xs k) ≤ rest_size xs (node_in xs n) → Some k ≡ Some m → Follows m
   follow_at k m l s p =
       record {
         earlier = subst (λ (m : ℕ). m < n) (same_operand p) l;
@@ -110,7 +109,7 @@ module _ (xs : List ℕ) (n : ℕ) where
     next-form v = ap (λ (g : Form). next_on g v (node_in xs n)) q
 
   follow_branch : form ≡ if_form → (node_in xs n).b < n → (node_in xs n).c < n → (v : Value) (m : ℕ)
-      → branch_of v (node_in xs n).b (node_in xs n).c ≡ Operand m → Follows m
+      → branch_of v (node_in xs n).b (node_in xs n).c ≡ Some m → Follows m
   unfolding rest_size_on
   follow_branch q b c (Word w) m p = absurd (operand-not-wrong p)
   follow_branch q b c (Truth true) m p = let s = rest-size q in follow_at (node_in xs n).b m b (omega arith) p
@@ -201,7 +200,7 @@ module _ {xs : List ℕ} {n : ℕ} {t : Expr} where
   rest_of (more-operands z f e k) h = e
 
   pub follows : Shaped xs n t → 2 ≤ node_operands (node_in xs n).kind → (v : Value) {m : ℕ}
-      → next_on (form_of (node_in xs n).kind) v (node_in xs n) ≡ Operand m → Follows xs n m
+      → next_on (form_of (node_in xs n).kind) v (node_in xs n) ≡ Some m → Follows xs n m
   follows (no_operand z e) h v p = absurd (omega arith)
   follows (one_operand z f e) h v p = absurd (omega arith)
   follows (more-operands z f e k) h v {m} p = k v m p

@@ -1,9 +1,10 @@
 -- From one step of a run to the next: what is known once an operand gave a value or failed, and how the steps of a node make up its evaluation.
 -- Assumes nothing.
 use mathlib.Core.List.{List, [], ◌∷◌, ◌++◌}
-use Rattle.std.specs.Prelude.{◌≡◌, refl, ℕ, suc, ◌+◌, ◌*◌, ◌≤◌, ◌<◌, length, take}
+use Rattle.std.specs.Prelude.{◌≡◌, refl, ℕ, suc, ◌+◌, ◌*◌, ◌≤◌, ◌<◌, length, take, Some, None, Ok, Err}
 use Rattle.std.proofs.Common.{sym, subst, ◌∙◌, arith, length-append, take-take}
 use Rattle.std.proofs.Math.Path.{ap}
+use Rattle.script.specs.Answers.Named.{same_given}
 use Rattle.script.specs.Code.Forms.{form_of, several_by, leaf_kinds_lem, node_in, tree_in, formed_less, bound_on}
 use Rattle.script.specs.Rows.{Form, int_form, var_form, if_form, let_form, typed_form, sym_form, truth_form, unary_form, binary_form, node_operands}
 use Rattle.script.specs.Rows.Kinds.{leaf_kinds}
@@ -21,10 +22,7 @@ use Rattle.rules.proofs.Running.Ranges.{eval_in_range}
 use Rattle.operators.specs.Steps.{Holds, Cells, Variables, Does, Says, leaf_on, one_on, two_on, next_on, Bound, rest_by, rest_on, rest_size, Ready, Halfway, Runs}
 use Rattle.operators.specs.Steps.Operators.{does-says, does-failed}
 use Rattle.operators.specs.Steps.Values.{holds-values, holds_front, stored-holds, stored-length, stored_over}
-use Rattle.operators.specs.declared.Next.{Next}
-use Rattle.operators.specs.declared.Next.TheVariants.{Operand, Wrong}
-use Rattle.operators.specs.declared.Step.{Step}
-use Rattle.operators.specs.declared.Step.TheVariants.{Gave, Failed}
+use Rattle.operators.specs.Named.{Next, Step}
 use Rattle.runner.specs.Code.Nodes.{shaped, leaf-eval, first_of, one_eval, then_of, rest_of, follows}
 
 -- ---- after a step
@@ -35,18 +33,18 @@ pub record Given (o : Outcome) (v : Value) (u : ℕ) (left : List ℕ) : Type 0 
   pub ranged : InRange v
   pub held : Holds left (values_of u left)
 
-same-value : {v w : Value} {n m : ℕ} → Gave v n ≡ Gave w m → v ≡ w
-same-value e = cc
+same-value : {v w : Value} {n m : ℕ} → ◌≡◌ {A = Step} (Ok (v, n)) (Ok (w, m)) → v ≡ w
+same-value e = (same_given e).0
 
-same_count : {v w : Value} {n m : ℕ} → Gave v n ≡ Gave w m → n ≡ m
-same_count e = cc
+same_count : {v w : Value} {n m : ℕ} → ◌≡◌ {A = Step} (Ok (v, n)) (Ok (w, m)) → n ≡ m
+same_count e = (same_given e).1
 
-gave-not-failed : {v : Value} {n a m : ℕ} → Gave v n ≡ Failed a m → ⊥
+gave-not-failed : {v : Value} {n a m : ℕ} → ◌≡◌ {A = Step} (Ok (v, n)) (Err (a, m)) → ⊥
 gave-not-failed e = let z : ◌≡◌ {A = ℕ} 0 1 = cc in omega arith
 
-pub given : {o : Outcome} {r : Step} {cells left : List ℕ} {v : Value} {u : ℕ} → OutcomeInRange o → Does o r cells left → r ≡ Gave v u → Given o v u left
+pub given : {o : Outcome} {r : Step} {cells left : List ℕ} {v : Value} {u : ℕ} → OutcomeInRange o → Does o r cells left → r ≡ Ok (v, u) → Given o v u left
 given {cells = cells} {left = left} {v = v} {u = u} (gave_in_range {v = w} {cs = cs} k ks) d e =
-    let q : Gave w (length cs) ≡ Gave v u = sym d.answer ∙ e in
+    let q : ◌≡◌ {A = Step} (Ok (w, length cs)) (Ok (v, u)) = sym d.answer ∙ e in
     let held : Holds left cs = subst (λ (l : List ℕ). Holds l cs) (sym d.leaves) (stored-holds cells ks) in
     let here : values_of u left ≡ cs = ap (λ (n : ℕ). values_of n left) (sym (same_count q)) ∙ holds-values held in
     record {
@@ -57,8 +55,8 @@ given {cells = cells} {left = left} {v = v} {u = u} (gave_in_range {v = w} {cs =
 given (failed_in_range ks) d e = absurd (gave-not-failed (sym e ∙ d.answer))
 
 -- an error state is passed on
-pub failed_on : (o : Outcome) {r : Step} {cells left : List ℕ} {a u : ℕ} → Does o r cells left → r ≡ Failed a u → (k : Value → List Value → Outcome)
-    → Does (after o k) (Failed a u) cells left
+pub failed_on : (o : Outcome) {r : Step} {cells left : List ℕ} {a u : ℕ} → Does o r cells left → r ≡ Err (a, u) → (k : Value → List Value → Outcome)
+    → Does (after o k) (Err (a, u)) cells left
 failed_on (gave v cs) d e k = absurd (gave-not-failed (sym d.answer ∙ e))
 failed_on (failed n cs) d e k = record { answer = sym e ∙ d.answer; leaves = d.leaves }
 
@@ -139,10 +137,10 @@ two-grows (binary_form o) n v w cs = grows-binary n o v w cs
 
 rest-keeps : (x : Next) (xs : List ℕ) (f : Form) (n : ℕ) (v : Value) (env cs : List Value) → length cs ≤ length (cells_of (rest_by x xs f n v env cs))
 unfolding rest_by
-rest-keeps (Operand m) xs f n v env cs =
+rest-keeps (Some m) xs f n v env cs =
     (grows-after (length cs) (size (tree_in xs m)) 0 (eval (tree_in xs m) env cs) (λ w cs₁. two_on f n v w cs₁)
     (eval-grows (tree_in xs m) env cs) (λ w cs₁. two-grows f n v w cs₁)).keeps
-rest-keeps Wrong xs f n v env cs = (grows-failed n cs 0).keeps
+rest-keeps None xs f n v env cs = (grows-failed n cs 0).keeps
 
 -- ---- a node that can run
 
@@ -152,7 +150,7 @@ grows_from e env cells used =
 
 module _ {xs env : List ℕ} {depth : ℕ} {cells : List ℕ} {used n : ℕ} (q : Ready xs env depth cells used n) where
   pub gives : {left env_left : List ℕ} {r : Step} {v : Value} {u : ℕ}
-      → Runs (eval (tree_in xs n) (values_of depth env) (values_of used cells)) depth env env_left r cells left → r ≡ Gave v u
+      → Runs (eval (tree_in xs n) (values_of depth env) (values_of used cells)) depth env env_left r cells left → r ≡ Ok (v, u)
       → Given (eval (tree_in xs n) (values_of depth env) (values_of used cells)) v u left
   gives d e =
       given
@@ -189,18 +187,18 @@ module _ {xs env : List ℕ} {depth : ℕ} {cells : List ℕ} {used n : ℕ} (q 
     {env_left left : List ℕ} {r : Step}
     (d : Runs (eval (tree_in xs (node_in xs n).a) (values_of depth env) (values_of used cells)) depth env env_left r cells left) where
   -- it failed
-  pub first-failed : {a u : ℕ} → r ≡ Failed a u → Runs (eval (tree_in xs n) (values_of depth env) (values_of used cells)) depth env env_left (Failed a u) cells left
+  pub first-failed : {a u : ℕ} → r ≡ Err (a, u) → Runs (eval (tree_in xs n) (values_of depth env) (values_of used cells)) depth env env_left (Err (a, u)) cells left
   first-failed {a} {u} e =
       let t = then_of (shaped q.formed) h (values_of depth env) (values_of used cells) in
       record {
         does =
-            subst (λ (o : Outcome). Does o (Failed a u) cells left) (sym t.evaluates)
+            subst (λ (o : Outcome). Does o (Err (a, u)) cells left) (sym t.evaluates)
             (failed_on (eval (tree_in xs (node_in xs n).a) (values_of depth env) (values_of used cells)) d.does e t.rest);
         kept = d.kept;
       }
 
   -- it gave v
-  module _ {v : Value} {u : ℕ} (e : r ≡ Gave v u) where
+  module _ {v : Value} {u : ℕ} (e : r ≡ Ok (v, u)) where
     first_gives : Given (eval (tree_in xs (node_in xs n).a) (values_of depth env) (values_of used cells)) v u left
     first_gives = gives (ready_first q h) d e
 
@@ -273,8 +271,8 @@ bound-length m v env = go (form_of m.kind)
 
 module _ {xs env : List ℕ} {depth : ℕ} {cells : List ℕ} {used n : ℕ} {v : Value} (q : Halfway xs env depth cells used n v) where
   -- the condition is no truth
-  pub wrong-runs : next_on (form_of (node_in xs n).kind) v (node_in xs n) ≡ Wrong
-      → Runs (rest_on xs n (node_in xs n) v (values_of depth env) (values_of used cells)) depth env env (Failed n used) cells cells
+  pub wrong-runs : next_on (form_of (node_in xs n).kind) v (node_in xs n) ≡ None
+      → Runs (rest_on xs n (node_in xs n) v (values_of depth env) (values_of used cells)) depth env env (Err (n, used)) cells cells
   unfolding rest_by
   wrong-runs e =
       record {
@@ -288,7 +286,7 @@ module _ {xs env : List ℕ} {depth : ℕ} {cells : List ℕ} {used n : ℕ} {v 
   bind_ready = record { held = q.environment.held; room = omega (arith, q.environment.room) }
 
   -- the next operand is m, and the variables are bound
-  module _ {m : ℕ} (e : next_on (form_of (node_in xs n).kind) v (node_in xs n) ≡ Operand m) {env₁ : List ℕ} {inner : ℕ}
+  module _ {m : ℕ} (e : next_on (form_of (node_in xs n).kind) v (node_in xs n) ≡ Some m) {env₁ : List ℕ} {inner : ℕ}
       (b : Bound env depth (bound_on (node_in xs n) v (values_of depth env)) env₁ inner) where
     inner_values : values_of inner env₁ ≡ bound_on (node_in xs n) v (values_of depth env)
     inner_values = ap (λ (k : ℕ). values_of k env₁) b.counts ∙ holds-values b.holds
@@ -329,17 +327,17 @@ module _ {xs env : List ℕ} {depth : ℕ} {cells : List ℕ} {used n : ℕ} {v 
           ∙ take-take (5 * depth) (5 * inner) env₁ w
           ∙ b.kept
 
-      pub next-failed : {a u : ℕ} → r ≡ Failed a u
-          → Runs (rest_on xs n (node_in xs n) v (values_of depth env) (values_of used cells)) depth env env₂ (Failed a u) cells left
+      pub next-failed : {a u : ℕ} → r ≡ Err (a, u)
+          → Runs (rest_on xs n (node_in xs n) v (values_of depth env) (values_of used cells)) depth env env₂ (Err (a, u)) cells left
       next-failed {a} {u} p =
           record {
             does =
-                subst (λ (o : Outcome). Does o (Failed a u) cells left) (sym rest-is)
+                subst (λ (o : Outcome). Does o (Err (a, u)) cells left) (sym rest-is)
                 (failed_on (eval (tree_in xs m) (values_of inner env₁) (values_of used cells)) d.does p _);
             kept = kept-all;
           }
 
-      module _ {w : Value} {u : ℕ} (p : r ≡ Gave w u) where
+      module _ {w : Value} {u : ℕ} (p : r ≡ Ok (w, u)) where
         next-gives : Given (eval (tree_in xs m) (values_of inner env₁) (values_of used cells)) w u left
         next-gives = gives (next_ready l) d p
 

@@ -1,6 +1,6 @@
 -- The whole call as the code makes it: what a table that passes its tests, and values and cells that pass theirs, are to a run, and the answer of each
 -- way through the call. Assumes nothing.
-use Rattle.std.specs.Prelude.{true, false, List, ◌++◌, ◌≡◌, ℕ, suc, ◌+◌, ◌*◌, ◌≤◌, length, take}
+use Rattle.std.specs.Prelude.{true, false, List, ◌++◌, ◌≡◌, ℕ, suc, ◌+◌, ◌*◌, ◌≤◌, length, take, Ok, Err}
 use Rattle.std.proofs.Math.Option.{none, some}
 use Rattle.std.proofs.Math.Path.{refl, ap}
 use Rattle.std.proofs.Common.{sym, subst, ◌∙◌, arith}
@@ -13,7 +13,8 @@ use Rattle.script.specs.Limits.{node_limit, entry_limit}
 use Rattle.script.specs.Table.{table_test}
 use Rattle.script.specs.Table.Laws.{passes}
 use Rattle.script.specs.Tree.{Expr, root, tree_of}
-use Rattle.script.specs.declared.Ran.{Ran}
+use Rattle.script.specs.Answers.Named.{Ran}
+use Rattle.script.specs.declared.Ended.{Ended}
 use Rattle.script.specs.declared.Refusal.{Refusal}
 use Rattle.script.specs.declared.Value.{Value}
 use Rattle.rules.specs.Evaluation.{Outcome, gave, failed, eval}
@@ -23,8 +24,7 @@ use Rattle.rules.proofs.Running.Laws.{bytes-values, length-values, values_in_ran
 use Rattle.rules.proofs.Running.Room.{cells_fit, values_fit}
 use Rattle.operators.specs.Steps.{Holds, Does, Ready, Runs}
 use Rattle.operators.specs.Steps.Values.{holds-values}
-use Rattle.operators.specs.declared.Step.{Step}
-use Rattle.operators.specs.declared.Step.TheVariants.{Gave, Failed}
+use Rattle.operators.specs.Named.{Step}
 use Rattle.runner.specs.Answered.{Answered}
 
 -- a table, values and cells that a run can take
@@ -83,8 +83,8 @@ module _ {table : List ℕ} {nodes entries : ℕ} {values cells : List ℕ} {use
 -- ---- the ways through the call
 
 finished_by : Step → List ℕ → Run
-finished_by (Gave v u) left = record { answer = Ran.Gave v u; cells = left }
-finished_by (Failed n u) left = record { answer = Ran.Failed n u; cells = left }
+finished_by (Ok (v, u)) left = record { answer = Ok (Ended.Gave v u); cells = left }
+finished_by (Err (n, u)) left = record { answer = Ok (Ended.Failed n u); cells = left }
 
 finished-is : (o : Outcome) {r : Step} {cells left : List ℕ} → Does o r cells left → finished_by r left ≡ finished cells o
 unfolding finished_by
@@ -92,7 +92,7 @@ finished-is (gave v cs) d = rw (d.answer, d.leaves) refl
 finished-is (failed n cs) d = rw (d.answer, d.leaves) refl
 
 module _ (table : List ℕ) (nodes : ℕ) (es : List ℕ) (entries : ℕ) (values cells : List ℕ) (used : ℕ) where
-  pub table-refused : {e : Refusal} → table_test (table_in table nodes es entries) ≡ some e → Answered table nodes es entries values cells used (Ran.Refused e) cells
+  pub table-refused : {e : Refusal} → table_test (table_in table nodes es entries) ≡ some e → Answered table nodes es entries values cells used (Err e) cells
   unfolding run_table
   table-refused p = rw p refl
 
@@ -100,12 +100,12 @@ module _ (table : List ℕ) (nodes : ℕ) (es : List ℕ) (entries : ℕ) (value
     pub few-entries : entries ≤ entry_limit
     few-entries = (passes (table_in table nodes es entries) p).entries_most
 
-    pub cells-refused : right_cells cells used ≡ false → Answered table nodes es entries values cells used (Ran.Refused Refusal.BadCells) cells
+    pub cells-refused : right_cells cells used ≡ false → Answered table nodes es entries values cells used (Err Refusal.BadCells) cells
     unfolding run_table run_test
     cells-refused e = rw (p, e) refl
 
     module _ (c : right_cells cells used ≡ true) where
-      pub values-refused : right_values entries values cells used ≡ false → Answered table nodes es entries values cells used (Ran.Refused Refusal.BadValues) cells
+      pub values-refused : right_values entries values cells used ≡ false → Answered table nodes es entries values cells used (Err Refusal.BadValues) cells
       unfolding run_table run_test
       values-refused e = rw (p, c, e) refl
 
@@ -130,10 +130,10 @@ module _ (table : List ℕ) (nodes : ℕ) (es : List ℕ) (entries : ℕ) (value
 
         module _ {r : Step} {left : List ℕ}
             (d : Does (eval (root (take nodes (nodes_in table))) (values_of entries values) (values_of used cells)) r cells left) where
-          pub run_gave : {x : Value} {u : ℕ} → r ≡ Gave x u → Answered table nodes es entries values cells used (Ran.Gave x u) left
+          pub run_gave : {x : Value} {u : ℕ} → r ≡ Ok (x, u) → Answered table nodes es entries values cells used (Ok (Ended.Gave x u)) left
           unfolding finished_by
           run_gave e = ap (λ (s : Step). finished_by s left) (sym e) ∙ finished-is _ d ∙ run_is
 
-          pub run_failed : {n u : ℕ} → r ≡ Failed n u → Answered table nodes es entries values cells used (Ran.Failed n u) left
+          pub run_failed : {n u : ℕ} → r ≡ Err (n, u) → Answered table nodes es entries values cells used (Ok (Ended.Failed n u)) left
           unfolding finished_by
           run_failed e = ap (λ (s : Step). finished_by s left) (sym e) ∙ finished-is _ d ∙ run_is

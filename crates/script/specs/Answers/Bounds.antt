@@ -1,18 +1,17 @@
 -- Bounds of what answers say: a place below a number, the largest number of a refusal, the largest kind. Assumes nothing.
-use Rattle.std.specs.Prelude.{ℕ, ◌≤◌, ◌<◌}
+use Rattle.std.specs.Prelude.{ℕ, ◌≤◌, ◌<◌, None, Some}
 use Rattle.std.proofs.Common.{arith}
 use Rattle.script.specs.Answers.{number_of, kind_of}
-use Rattle.script.specs.declared.Place.{Place}
-use Rattle.script.specs.declared.Place.TheVariants.{Nowhere, At}
 use Rattle.script.specs.declared.Refusal.{Refusal}
 use Rattle.script.specs.declared.Refusal.TheVariants.{BadLine, TooManyAt, TooMany, NoNode, BadOperand, NotUsedOnce, WrongType, UnknownVariable, TooManyReferences, InconsistentLog, PathTypesDiffer, TooManyPaths, TooManyAtoms, TooDeep, TextTooLong, TableTooSmall, BadTypeCode, BadValues, BadCells, OutputTooShort}
 use Rattle.script.specs.declared.Value.{Value}
 use Rattle.script.specs.declared.Value.TheVariants.{Word, Truth, Location}
+use Rattle.script.specs.Answers.Named.{Place}
 
 -- a place below m, if there is one
 pub data PlaceBelow (m : ℕ) : Place → Type 0 where
-  no_place : PlaceBelow m Nowhere
-  place-below : {i : ℕ} → i < m → PlaceBelow m (At i)
+  no_place : PlaceBelow m None
+  place-below : {i : ℕ} → i < m → PlaceBelow m (Some i)
 
 pub place-more : {m n : ℕ} {p : Place} → m ≤ n → PlaceBelow m p → PlaceBelow n p
 place-more h no_place = no_place

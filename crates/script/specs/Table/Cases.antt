@@ -1,5 +1,5 @@
 -- Tables to try, and rows for the tests of tables: each cause, its place, and which comes first. Proved together by computation. Assumes nothing.
-use Rattle.std.specs.Prelude.{◌≡◌, refl, List, [], ◌∷◌, ◌++◌, map, ℕ, suc, ◌-◌, length, replicate}
+use Rattle.std.specs.Prelude.{◌≡◌, refl, List, [], ◌∷◌, ◌++◌, map, ℕ, suc, ◌-◌, length, replicate, None, Some}
 use Rattle.std.proofs.Math.Option.{Option, none, some}
 use Rattle.script.specs.Answers.{number_of, place_of}
 use Rattle.script.specs.Limits.{node_limit, entry_limit}
@@ -8,9 +8,8 @@ use Rattle.script.specs.Rows.Kinds.{kind_count}
 use Rattle.script.specs.Table.{Table, node_of, unused, well_formed, operands, times_in, uses, syms_around, too_deep, tree_test, nodes_test, table_test}
 use Rattle.script.specs.Tests.{lowest_from}
 use Rattle.script.specs.declared.Node.{Node}
-use Rattle.script.specs.declared.Place.{Place}
-use Rattle.script.specs.declared.Place.TheVariants.{Nowhere, At}
 use Rattle.script.specs.declared.Refusal.{Refusal}
+use Rattle.script.specs.Answers.Named.{Place}
 
 -- ---- a table with its unused places
 
@@ -96,31 +95,31 @@ lent_as ns n es m a = record { table = record { lent_nodes = replicate ns unused
 unfoldable pub cases : List Case
 cases =
     -- 32 before 2 before 3
-    lent_as 127 129 16 0 (unsound 32 Nowhere)
-    ∷ lent_as 128 0 15 0 (unsound 32 Nowhere)
-    ∷ lent_as 129 129 16 0 (unsound 2 Nowhere)
-    ∷ lent_as 128 0 17 17 (unsound 2 Nowhere)
-    ∷ lent_as 128 0 16 16 (unsound 3 Nowhere)
+    lent_as 127 129 16 0 (unsound 32 None)
+    ∷ lent_as 128 0 15 0 (unsound 32 None)
+    ∷ lent_as 129 129 16 0 (unsound 2 None)
+    ∷ lent_as 128 0 17 17 (unsound 2 None)
+    ∷ lent_as 128 0 16 16 (unsound 3 None)
     -- 33 before 4
-    ∷ tests (31 ∷ 32 ∷ []) (add' 0 1 ∷ []) (unsound 33 Nowhere)
+    ∷ tests (31 ∷ 32 ∷ []) (add' 0 1 ∷ []) (unsound 33 None)
     ∷ tests (31 ∷ []) (true' ∷ []) sound
     -- 4: an operand that is no earlier node, also the node itself; a kind with no word; a number out of its range; an unused operand; before 5
-    ∷ tests [] (true' ∷ true' ∷ add' 1 2 ∷ []) (unsound 4 (At 2))
-    ∷ tests [] (sym' 0 ∷ []) (unsound 4 (At 0))
-    ∷ tests [] (true' ∷ node_of kind_count 0 0 0 ∷ node_of (suc kind_count) 0 0 0 ∷ []) (unsound 4 (At 1))
-    ∷ tests [] (var' 144 ∷ []) (unsound 4 (At 0))
+    ∷ tests [] (true' ∷ true' ∷ add' 1 2 ∷ []) (unsound 4 (Some 2))
+    ∷ tests [] (sym' 0 ∷ []) (unsound 4 (Some 0))
+    ∷ tests [] (true' ∷ node_of kind_count 0 0 0 ∷ node_of (suc kind_count) 0 0 0 ∷ []) (unsound 4 (Some 1))
+    ∷ tests [] (var' 144 ∷ []) (unsound 4 (Some 0))
     ∷ tests [] (var' 143 ∷ []) sound
-    ∷ tests [] (int' 4294967296 ∷ []) (unsound 4 (At 0))
+    ∷ tests [] (int' 4294967296 ∷ []) (unsound 4 (Some 0))
     ∷ tests [] (int' 4294967295 ∷ []) sound
-    ∷ tests [] (node_of 1 0 0 7 ∷ []) (unsound 4 (At 0))
+    ∷ tests [] (node_of 1 0 0 7 ∷ []) (unsound 4 (Some 0))
     -- 5: a node used twice, in one node or in two, and one that is not used
-    ∷ tests [] (int' 1 ∷ add' 0 0 ∷ []) (unsound 5 (At 0))
-    ∷ tests [] (int' 1 ∷ int' 2 ∷ add' 0 1 ∷ add' 2 1 ∷ []) (unsound 5 (At 1))
-    ∷ tests [] (int' 1 ∷ int' 2 ∷ sym' 1 ∷ []) (unsound 5 (At 0))
+    ∷ tests [] (int' 1 ∷ add' 0 0 ∷ []) (unsound 5 (Some 0))
+    ∷ tests [] (int' 1 ∷ int' 2 ∷ add' 0 1 ∷ add' 2 1 ∷ []) (unsound 5 (Some 1))
+    ∷ tests [] (int' 1 ∷ int' 2 ∷ sym' 1 ∷ []) (unsound 5 (Some 0))
     -- 13: four `sym` may be nested, a fifth may not, and a typed block between them changes nothing
     ∷ tests [] (int' 1 ∷ sym' 0 ∷ sym' 1 ∷ sym' 2 ∷ sym' 3 ∷ []) sound
-    ∷ tests [] (int' 1 ∷ sym' 0 ∷ sym' 1 ∷ sym' 2 ∷ sym' 3 ∷ sym' 4 ∷ []) (unsound 13 (At 1))
-    ∷ tests [] (int' 1 ∷ sym' 0 ∷ typed' 1 ∷ sym' 2 ∷ sym' 3 ∷ sym' 4 ∷ sym' 5 ∷ []) (unsound 13 (At 1))
+    ∷ tests [] (int' 1 ∷ sym' 0 ∷ sym' 1 ∷ sym' 2 ∷ sym' 3 ∷ sym' 4 ∷ []) (unsound 13 (Some 1))
+    ∷ tests [] (int' 1 ∷ sym' 0 ∷ typed' 1 ∷ sym' 2 ∷ sym' 3 ∷ sym' 4 ∷ sym' 5 ∷ []) (unsound 13 (Some 1))
     ∷ []
 
 pub cases_hold : map asking cases ≡ map right cases

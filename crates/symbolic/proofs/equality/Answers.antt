@@ -1,22 +1,10 @@
 -- `symbolic::equality` meets its contract: a row for the equality of two values of one type. Assumes nothing.
 use native.Mathlib.Omega.{arith}
-use Rattle.workspace.specs.Rules.Operators.{equality-wrong, truths-equal, words_required, words-equal, references-equal}
-use Rattle.workspace.specs.State.Laws.{room-space}
+use Rattle.workspace.specs.Rules.Operators.{equality-wrong, truths-equal, words-equal, references-equal}
 use Rattle.symbolic.proofs.equality.Goals as goal
 
 pub returns-then-t-u : goal.returns-then-t-u
 returns-then-t-u c = equality-wrong c.args.n c.args.t c.args.q c.args.u c.args.s c.if-t-u.true
-
-pub equal_words-requires : goal.equal_words-requires
-equal_words-requires c =
-    words_required c.args.n c.args.t c.args.q c.args.u c.args.s c.requires
-    c.in-0.is c.if-t-u.false
-
-pub push-requires : goal.push-requires
-push-requires c = room-space c.requires.room
-
-pub equal_references-requires : goal.equal_references-requires
-equal_references-requires c = room-space c.requires.room
 
 pub returns-in-0 : goal.returns-in-0
 returns-in-0 c =

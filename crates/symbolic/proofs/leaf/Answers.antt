@@ -1,17 +1,7 @@
 -- `symbolic::leaf` meets its contract: a row for a number or a constant, the value of a variable. Assumes nothing.
 use Rattle.script.specs.Rows.Laws.{none_left, but}
 use Rattle.workspace.specs.Rules.Operators.{leaf-int, leaf-true, leaf-var, leaf-other}
-use Rattle.workspace.specs.State.Laws.{room-space}
 use Rattle.symbolic.proofs.leaf.Goals as goal
-
-pub push-requires : goal.push-requires
-push-requires c = room-space c.requires.room
-
-pub push-requires-in-1 : goal.push-requires-in-1
-push-requires-in-1 c = room-space c.requires.room
-
-pub push-requires-in_default : goal.push-requires-in_default
-push-requires-in_default c = room-space c.requires.room
 
 pub returns-in-0 : goal.returns-in-0
 returns-in-0 c =

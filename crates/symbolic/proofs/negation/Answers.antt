@@ -1,13 +1,9 @@
 -- `symbolic::negation` meets its contract: a row for the negation of a truth. Assumes nothing.
 use Rattle.workspace.specs.Rules.Operators.{negation-wrong, negation-made}
-use Rattle.workspace.specs.State.Laws.{room-space}
 use Rattle.symbolic.proofs.negation.Goals as goal
 
 pub returns-then-t-ne1 : goal.returns-then-t-ne1
 returns-then-t-ne1 c = negation-wrong c.args.n c.args.t c.args.q c.if-t-ne1.true
-
-pub push-requires : goal.push-requires
-push-requires c = room-space c.requires
 
 pub returns : goal.returns
 returns c = negation-made c.args.n c.args.t c.args.q c.if-t-ne1.false c.requires c.push.ensures.value c.push.ensures.space_after

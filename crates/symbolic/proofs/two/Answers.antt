@@ -2,24 +2,12 @@
 use Rattle.script.specs.Code.Forms.{form_of}
 use Rattle.script.specs.Rows.{rows, row_of}
 use Rattle.script.specs.Rows.Laws.{none_left, but}
-use Rattle.workspace.specs.Rules.Operators.{two-other}
+use Rattle.workspace.specs.Rules.Operators.{two-other, both_sum, both_conjunction}
 use Rattle.symbolic.proofs.two.Goals as goal
-
-pub sum-requires : goal.sum-requires
-sum-requires c = c.requires.room
-
-pub equality-requires : goal.equality-requires
-equality-requires c = c.requires
-
-pub conjunction-requires : goal.conjunction-requires
-conjunction-requires c = c.requires.room
-
-pub write_cell-requires : goal.write_cell-requires
-write_cell-requires c = c.requires.room
 
 pub returns-in-4 : goal.returns-in-4
 unfolding form_of row_of rows
-returns-in-4 c = rw c.in-4.is c.sum.ensures
+returns-in-4 c = let a = c.args in rw c.in-4.is (both_sum a.n a.t a.q a.u a.s c.requires.room c.both.ensures)
 
 pub returns-in-5 : goal.returns-in-5
 unfolding form_of row_of rows
@@ -27,7 +15,7 @@ returns-in-5 c = rw c.in-5.is c.equality.ensures
 
 pub returns-in-7 : goal.returns-in-7
 unfolding form_of row_of rows
-returns-in-7 c = rw c.in-7.is c.conjunction.ensures
+returns-in-7 c = let a = c.args in rw c.in-7.is (both_conjunction a.n a.t a.q a.u a.s c.requires.room c.both-in-7.ensures)
 
 pub returns-in-12 : goal.returns-in-12
 unfolding form_of row_of rows

@@ -7,5 +7,3 @@ use Rattle.tests.proofs.count_operands.Given as goal
 abbrev pub invariant-loop-k : goal.invariant-loop-k
 invariant-loop-k l = (l.k ≤ l.m) × Counted (take l.k (operands l.n)) l.initial.counts l.counts
 
-abbrev pub decreases-loop-k : goal.decreases-loop-k
-decreases-loop-k l = l.m - l.k

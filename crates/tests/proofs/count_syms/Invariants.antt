@@ -8,5 +8,3 @@ use Rattle.tests.proofs.count_syms.Given as goal
 abbrev pub invariant-loop-i : goal.invariant-loop-i
 invariant-loop-i l = (l.i ≤ l.nodes) × (l.count ≤ l.i) × (l.count + syms_in (drop l.i (take l.nodes (nodes_in l.table))) ≡ syms_in (take l.nodes (nodes_in l.table)))
 
-abbrev pub decreases-loop-i : goal.decreases-loop-i
-decreases-loop-i l = l.nodes - l.i

@@ -7,5 +7,3 @@ use Rattle.tests.proofs.count_uses.Given as goal
 abbrev pub invariant-loop-j : goal.invariant-loop-j
 invariant-loop-j l = (l.j ≤ l.nodes) × UsedBy (take l.nodes (nodes_in l.table)) l.j (length l.initial.counts) l.counts
 
-abbrev pub decreases-loop-j : goal.decreases-loop-j
-decreases-loop-j l = l.nodes - l.j

@@ -7,5 +7,3 @@ use Rattle.tests.proofs.note_depths.Given as goal
 abbrev pub invariant-loop-j : goal.invariant-loop-j
 invariant-loop-j l = (l.j ≤ l.nodes) × NestedFrom (take l.nodes (nodes_in l.table)) l.j (length l.initial.depths) l.depths
 
-abbrev pub decreases-loop-j : goal.decreases-loop-j
-decreases-loop-j l = l.j

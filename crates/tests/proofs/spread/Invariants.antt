@@ -7,5 +7,3 @@ use Rattle.tests.proofs.spread.Given as goal
 abbrev pub invariant-loop-k : goal.invariant-loop-k
 invariant-loop-k l = (l.k ≤ l.m) × Spread (take l.k (operands l.n)) l.v l.initial.depths l.depths
 
-abbrev pub decreases-loop-k : goal.decreases-loop-k
-decreases-loop-k l = l.m - l.k

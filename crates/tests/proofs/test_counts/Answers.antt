@@ -9,11 +9,10 @@ pub loop-i-init : goal.loop-i-init
 loop-i-init c = (omega arith, look (not_once c.args.counts.now) (pred c.args.nodes))
 
 pub returns-then-counts-i-ne1 : goal.returns-then-counts-i-ne1
-returns-then-counts-i-ne1 c = count-wrong c.args.counts.now c.args.nodes c.loop-i.i c.loop-i.invariant.1 c.loop-i-test.true c.if-counts-i-ne1.true
+returns-then-counts-i-ne1 c = count-wrong c.args.counts.now c.args.nodes c.loop-i.i c.loop-i.invariant.1 (omega arith) c.if-counts-i-ne1.true
 
 pub loop-i-preserved : goal.loop-i-preserved
-loop-i-preserved c =
-    (omega arith, count-right c.args.counts.now c.args.nodes c.loop-i.i c.loop-i.invariant.1 c.loop-i-test.true c.if-counts-i-ne1.false)
+loop-i-preserved c = (omega arith, count-right c.args.counts.now c.args.nodes c.loop-i.i c.loop-i.invariant.1 (omega arith) c.if-counts-i-ne1.false)
 
 pub returns : goal.returns
-returns c = counts-passed c.args.counts.now c.args.nodes c.loop-i.i c.loop-i.invariant.1 c.loop-i-test.false
+returns c = counts-passed c.args.counts.now c.args.nodes c.loop-i.i c.loop-i.invariant.1 (omega arith)

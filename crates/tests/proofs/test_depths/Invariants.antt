@@ -6,5 +6,3 @@ use Rattle.tests.proofs.test_depths.Given as goal
 abbrev pub invariant-loop-i : goal.invariant-loop-i
 invariant-loop-i l = Looked (deep_by l.table l.nodes l.depths) l.nodes l.i
 
-abbrev pub decreases-loop-i : goal.decreases-loop-i
-decreases-loop-i l = l.nodes - l.i

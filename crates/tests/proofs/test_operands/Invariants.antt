@@ -6,5 +6,3 @@ use Rattle.tests.proofs.test_operands.Given as goal
 abbrev pub invariant-loop-i : goal.invariant-loop-i
 invariant-loop-i l = Looked (malformed l.table l.nodes) l.nodes l.i
 
-abbrev pub decreases-loop-i : goal.decreases-loop-i
-decreases-loop-i l = l.nodes - l.i

@@ -1,6 +1,6 @@
 -- What the writer may count on after the tests: the used places are lent, every kind has a word, and the text is short; and from there to the
 -- outcome of a call. Assumes nothing.
-use Rattle.std.specs.Prelude.{true, false, List, ◌≡◌, ℕ, ◌+◌, ◌*◌, ◌≤◌, ◌<◌, length, take}
+use Rattle.std.specs.Prelude.{true, false, List, ◌≡◌, ℕ, ◌+◌, ◌*◌, ◌≤◌, ◌<◌, length, take, Err, Ok}
 use Rattle.std.proofs.Math.Option.{none}
 use Rattle.std.proofs.Math.Path.{refl}
 use Rattle.std.proofs.Common.{zero-add, arith, get_or-take}
@@ -15,13 +15,13 @@ use Rattle.script.specs.Flat.{tested_by}
 use Rattle.script.specs.Code.TableTests.Laws.{refused-some}
 use Rattle.script.specs.declared.Refusal.{Refusal}
 use Rattle.script.specs.declared.Refusal.TheVariants.{OutputTooShort}
-use Rattle.script.specs.declared.Writing.{Writing}
-use Rattle.script.specs.declared.table.Tested.{Tested}
 use Rattle.text.specs.Code.Output.{Put, text_in}
 use Rattle.text.specs.Code.Output.Laws.{put_then, put_text}
 use Rattle.text.specs.SameTable.{text-most}
 use Rattle.text.proofs.Writing.Laws.{enough-fits}
 use Rattle.text.specs.Writing.{outcome, text_of, entries_text, nodes_text, long_enough, writing}
+use Rattle.script.specs.Answers.Named.{Tested}
+use Rattle.script.specs.Answers.Named.{Writing}
 
 module _ (xs : List ℕ) (n : ℕ) (es : List ℕ) (m : ℕ) (e : table_test (table_in xs n es m) ≡ none) where
   pub entries-lent : m ≤ length es
@@ -49,15 +49,15 @@ put_parts t p q = put_then p q
 -- ---- the outcome of a call
 
 module _ (t : Table) {out : List ℕ} where
-  pub wrote : {n : ℕ} {out' : List ℕ} → table_test t ≡ none → long_enough out (text_in t) ≡ true → Put (text_in t) 0 out n out' → outcome (Writing.Wrote n) out' ≡ writing t out
+  pub wrote : {n : ℕ} {out' : List ℕ} → table_test t ≡ none → long_enough out (text_in t) ≡ true → Put (text_in t) 0 out n out' → outcome (Ok n) out' ≡ writing t out
   unfolding writing
   wrote {n} {out'} e f p =
       rw (e, f, put_text p (enough-fits out (text_in t) f), p.next-is, zero-add) refl
 
-  pub short : table_test t ≡ none → long_enough out (text_in t) ≡ false → outcome (Writing.Refused OutputTooShort) out ≡ writing t out
+  pub short : table_test t ≡ none → long_enough out (text_in t) ≡ false → outcome (Err OutputTooShort) out ≡ writing t out
   unfolding writing
   short e f = rw (e, f) refl
 
-  pub turned_down : (r : Refusal) → tested_by (table_test t) ≡ Tested.Refused r → outcome (Writing.Refused r) out ≡ writing t out
+  pub turned_down : (r : Refusal) → tested_by (table_test t) ≡ Err r → outcome (Err r) out ≡ writing t out
   unfolding writing
   turned_down r e = rw (refused-some (table_test t) r e) refl

@@ -1,22 +1,23 @@
 -- What stands at a place of a text, for the contracts of the reader's parts: each is given the rest of the text from there on. Nothing here has to be
 -- believed: the laws tie it to the grammar. Assumes nothing.
-use Rattle.std.specs.Prelude.{Bool, true, false, ◌&&◌, ◌||◌, List, [], ◌∷◌, ℕ, ◌+◌, leb, eqb, length}
+use Rattle.std.specs.Prelude.{Bool, true, false, ◌&&◌, ◌||◌, List, [], ◌∷◌, ℕ, ◌+◌, leb, eqb, length, None, Some}
 use Rattle.std.proofs.Math.Option.{Option, none, some}
 use Rattle.script.specs.Rows.{Row, row_of, number_up_to}
 use Rattle.script.specs.Tests.{pick, all}
 use Rattle.text.specs.Bytes.{lf, tab}
 use Rattle.text.specs.Fields.{given, is_digit, value_after, decimal_up_to}
 use Rattle.text.specs.Grammar.{Line, entry_line, node_line, up_to, node_by, entry_from, line_of, parts}
-use Rattle.text.specs.declared.Said.{Said}
-use Rattle.text.specs.declared.Operand.{Operand}
+use Rattle.text.specs.Code.Named.{Operand}
 use Rattle.text.specs.declared.Scanned.{Scanned}
+use Rattle.text.specs.Code.Named.{Located}
+use Rattle.text.specs.Code.Named.{Said}
 pub mod Laws
 pub mod Lines
 pub mod Nodes
 
 abbrev pub said_by : Option ℕ → Said
-said_by none = Said.Nothing
-said_by (some n) = Said.Number n
+said_by none = None
+said_by (some n) = Some n
 
 -- ---- bytes
 
@@ -65,28 +66,28 @@ largest_by (some r) = up_to (number_up_to r.form)
 -- ---- lines
 
 abbrev pub operand_by : Option ℕ → ℕ → Operand
-operand_by none at = Operand.Bad
-operand_by (some n) at = Operand.Is n at
+operand_by none at = None
+operand_by (some n) at = Some (n , at)
 
 -- an operand, if one is wanted, and the place after it
 abbrev pub operand_at : Bool → ℕ → ℕ → List ℕ → Operand
-operand_at false m at cs = Operand.Is 0 at
-operand_at true m at [] = Operand.Bad
-operand_at true m at (c ∷ cs) = pick (eqb c tab) (operand_by (decimal_up_to m (field_in cs)) (at + 1 + length (field_in cs))) Operand.Bad
+operand_at false m at cs = Some (0 , at)
+operand_at true m at [] = None
+operand_at true m at (c ∷ cs) = pick (eqb c tab) (operand_by (decimal_up_to m (field_in cs)) (at + 1 + length (field_in cs))) None
 
 -- a line that ends in LF, and the place after it
-abbrev pub located : Bool → Option Line → ℕ → Scanned
-located false l at = Scanned.Bad
-located true none at = Scanned.Bad
-located true (some (entry_line t)) at = Scanned.Entry t at
-located true (some (node_line n)) at = Scanned.Node n at
+abbrev pub located : Bool → Option Line → ℕ → Located
+located false l at = None
+located true none at = None
+located true (some (entry_line t)) at = Some (Scanned.Entry t , at)
+located true (some (node_line n)) at = Some (Scanned.Node n , at)
 
 -- a line, and its rest after the word `entry` or the word of a kind
-unfoldable pub line_at : ℕ → List ℕ → Scanned
+unfoldable pub line_at : ℕ → List ℕ → Located
 line_at at cs = located (line_ends cs) (line_of (line_in cs)) (at + length (line_in cs) + 1)
 
-unfoldable pub entry_after : ℕ → List ℕ → Scanned
+unfoldable pub entry_after : ℕ → List ℕ → Located
 entry_after at cs = located (line_ends cs) (entry_from (fields_after cs)) (at + length (line_in cs) + 1)
 
-unfoldable pub node_after : ℕ → ℕ → List ℕ → Scanned
+unfoldable pub node_after : ℕ → ℕ → List ℕ → Located
 node_after k at cs = located (line_ends cs) (node_by k (row_of k) (fields_after cs)) (at + length (line_in cs) + 1)

@@ -1,6 +1,6 @@
 -- The reader's state from line to line, for the contracts of its parts: the used places of the lent table and entries are the nodes and entries so far.
 -- Nothing here has to be believed: the laws tie it to the grammar. Assumes nothing.
-use Rattle.std.specs.Prelude.{true, List, ◌≡◌, ℕ, ◌+◌, ◌*◌, ◌≤◌, ◌<◌, ltb, eqb, length, take, drop, set}
+use Rattle.std.specs.Prelude.{true, List, ◌≡◌, ℕ, ◌+◌, ◌*◌, ◌≤◌, ◌<◌, ltb, eqb, length, take, drop, set, Err, Ok}
 use Rattle.std.proofs.Math.Option.{Option, none, some}
 use Rattle.std.proofs.lemmas.List.Edits.{sets}
 use Rattle.script.specs.Flat.{numbers_of, node_width, nodes_in}
@@ -9,7 +9,6 @@ use Rattle.script.specs.Rows.{row_of}
 use Rattle.script.specs.Table.{right_node, well_formed}
 use Rattle.script.specs.Tests.{pick}
 use Rattle.script.specs.declared.Node.{Node}
-use Rattle.script.specs.declared.Reading.{Reading}
 use Rattle.script.specs.declared.Refusal.{Refusal}
 use Rattle.script.specs.declared.Refusal.TheVariants.{BadLine, TooManyAt, BadOperand}
 use Rattle.script.specs.declared.Script.{Script}
@@ -17,7 +16,8 @@ use Rattle.text.specs.Grammar as Grammar
 use Rattle.text.specs.Grammar.{Line, Meaning, go_on, stop, admit, line_of}
 use Rattle.text.specs.Reading.{answer_of, nodes_read, entries_read}
 use Rattle.text.specs.Code.Scan.{line_in, line_ends}
-use Rattle.text.specs.declared.Step.{Step}
+use Rattle.text.specs.Code.Named.{Step}
+use Rattle.script.specs.Answers.Named.{Reading}
 pub mod Laws
 pub mod Taken
 pub mod Walk
@@ -52,8 +52,8 @@ pub record Framed (xs es xs' es' : List ℕ) : Type 0 where
 abbrev pub entry_step : Script → ℕ → ℕ → Step
 entry_step s next i =
     pick (eqb s.nodes 0)
-    (pick (ltb s.entries entry_limit) (Step.Next (size_of s.nodes (s.entries + 1)) next) (Step.Refused (TooManyAt i)))
-    (Step.Refused (BadLine i))
+    (pick (ltb s.entries entry_limit) (Ok (size_of s.nodes (s.entries + 1) , next)) (Err (TooManyAt i)))
+    (Err (BadLine i))
 
 abbrev pub entry_stored : Script → ℕ → List ℕ → List ℕ
 entry_stored s t es = pick (eqb s.nodes 0) (pick (ltb s.entries entry_limit) (set es s.entries t) es) es
@@ -62,8 +62,8 @@ entry_stored s t es = pick (eqb s.nodes 0) (pick (ltb s.entries entry_limit) (se
 abbrev pub node_step : Script → Node → ℕ → ℕ → Step
 node_step s n next i =
     pick (ltb s.nodes node_limit)
-    (pick (right_node (row_of n.kind) s.nodes n) (Step.Next (size_of (s.nodes + 1) s.entries) next) (Step.Refused (BadOperand i)))
-    (Step.Refused (TooManyAt i))
+    (pick (right_node (row_of n.kind) s.nodes n) (Ok (size_of (s.nodes + 1) s.entries , next)) (Err (BadOperand i)))
+    (Err (TooManyAt i))
 
 abbrev pub node_stored : Script → Node → List ℕ → List ℕ
 node_stored s n xs =
@@ -77,13 +77,13 @@ line_here cs = pick (line_ends cs) (line_of (line_in cs)) none
 
 -- an answer with the lent numbers, as the grammar says it
 abbrev pub step_of : Step → List ℕ → List ℕ → Grammar.Step
-step_of (Step.Next s next) xs es = go_on (entries_by s es) (nodes_by s xs)
-step_of (Step.Refused r) xs es = stop r
+step_of (Ok (s , next)) xs es = go_on (entries_by s es) (nodes_by s xs)
+step_of (Err r) xs es = stop r
 
 -- where the text goes on, which has `most` bytes
 pub data GoesTo (at next most : ℕ) (xs es : List ℕ) : Step → Type 0 where
-  goes-next : {s : Script} → Kept s xs es → at < next → next ≤ most → GoesTo at next most xs es (Step.Next s next)
-  refused : {r : Refusal} → GoesTo at next most xs es (Step.Refused r)
+  goes-next : {s : Script} → Kept s xs es → at < next → next ≤ most → GoesTo at next most xs es (Ok (s , next))
+  refused : {r : Refusal} → GoesTo at next most xs es (Err r)
 
 -- line i, which starts at `at`, has been read
 pub record Took (text : List ℕ) (at i : ℕ) (s : Script) (xs es : List ℕ) (r : Step) (xs' es' : List ℕ) : Type 0 where
@@ -94,17 +94,17 @@ pub record Took (text : List ℕ) (at i : ℕ) (s : Script) (xs es : List ℕ) (
 -- ---- all lines
 
 abbrev pub used_nodes : Reading → ℕ
-used_nodes (Reading.Read s) = s.nodes
-used_nodes (Reading.Refused r) = 0
+used_nodes (Ok s) = s.nodes
+used_nodes (Err r) = 0
 
 abbrev pub used_entries : Reading → ℕ
-used_entries (Reading.Read s) = s.entries
-used_entries (Reading.Refused r) = 0
+used_entries (Ok s) = s.entries
+used_entries (Err r) = 0
 
 -- the 3, 5 or 13 after the last line, or the script
 abbrev pub ended_by : Option Refusal → Script → Reading
-ended_by none s = Reading.Read s
-ended_by (some r) s = Reading.Refused r
+ended_by none s = Ok s
+ended_by (some r) s = Err r
 
 -- a text of this meaning has been read: the used places hold it
 pub record Holds (m : Meaning) (xs es : List ℕ) (r : Reading) (xs' es' : List ℕ) : Type 0 where

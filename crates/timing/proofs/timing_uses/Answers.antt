@@ -13,16 +13,16 @@ returns-then-nodes-gt-NODES c = too_many (nodes_in c.args.table.now) c.args.node
 pub returns-then-table-nodes : goal.returns-then-table-nodes
 returns-then-table-nodes c = let l = length-nodes_in c.args.table.now in too_few (nodes_in c.args.table.now) c.args.nodes c.if-nodes-gt-NODES.false (omega arith)
 
-pub returns-in-At : goal.returns-in-At
-returns-in-At c =
+pub returns-in-Some : goal.returns-in-Some
+returns-in-Some c =
     let a = c.args in
     let l = length-nodes_in a.table.now in
     let m : a.nodes ≤ length (nodes_in a.table.now) = omega (arith, c.if-table-nodes.false) in
-    node-named (nodes_in a.table.now) a.nodes c.if-nodes-gt-NODES.false m c.walk-after.result c.walk-after.ensures _ c.in-At.is
+    node-named (nodes_in a.table.now) a.nodes c.if-nodes-gt-NODES.false m c.walk-after.result c.walk-after.ensures _ c.in-Some.is
 
-pub returns-in-Nowhere : goal.returns-in-Nowhere
-returns-in-Nowhere c =
+pub returns-in-None : goal.returns-in-None
+returns-in-None c =
     let a = c.args in
     let l = length-nodes_in a.table.now in
     let m : a.nodes ≤ length (nodes_in a.table.now) = omega (arith, c.if-table-nodes.false) in
-    none_named (nodes_in a.table.now) a.nodes c.if-nodes-gt-NODES.false m c.walk-after.result c.walk-after.ensures c.in-Nowhere.is
+    none_named (nodes_in a.table.now) a.nodes c.if-nodes-gt-NODES.false m c.walk-after.result c.walk-after.ensures c.in-None.is

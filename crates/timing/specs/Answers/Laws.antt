@@ -1,6 +1,6 @@
 -- What test 5 alone answers, case by case. Assumes nothing.
 use Rattle.std.proofs.Math.Bool.{not}
-use Rattle.std.specs.Prelude.{List, ◌≡◌, ℕ, ◌+◌, ◌≤◌, ◌<◌, pred, eqb, length, take}
+use Rattle.std.specs.Prelude.{List, ◌≡◌, ℕ, ◌+◌, ◌≤◌, ◌<◌, pred, eqb, length, take, None, Some}
 use Rattle.std.proofs.Math.Option.{Option, none, some}
 use Rattle.std.proofs.Math.Path.{refl, ap}
 use Rattle.std.proofs.Common.{sym, ◌∙◌, arith}
@@ -10,16 +10,15 @@ use Rattle.script.specs.Limits.{node_limit}
 use Rattle.script.specs.Table.{uses}
 use Rattle.script.specs.Tests.{lowest}
 use Rattle.script.specs.declared.Node.{Node}
-use Rattle.script.specs.declared.Place.{Place}
-use Rattle.script.specs.declared.Place.TheVariants.{At, Nowhere}
 use Rattle.uses.proofs.LowestWrong.{walk-lowest}
 use Rattle.uses.specs.Walk.{place_found, walk}
 use Rattle.uses.specs.declared.State.{State}
 use Rattle.timing.specs.Answers.{node_named, wrong_use}
+use Rattle.script.specs.Answers.Named.{Place}
 
 abbrev number_at : Place → ℕ
-number_at Nowhere = 0
-number_at (At i) = i + 1
+number_at None = 0
+number_at (Some i) = i + 1
 
 module _ (ns : List Node) (n : ℕ) where
   pub too_many : node_limit < n → 0 ≡ wrong_use ns n
@@ -43,8 +42,8 @@ module _ (ns : List Node) (n : ℕ) where
           go none = refl
           go (some i) = refl
 
-      pub node-named : (i : ℕ) → s.wrong ≡ At i → i + 1 ≡ wrong_use ns n
-      node-named i f = walk-number (At i) f
+      pub node-named : (i : ℕ) → s.wrong ≡ Some i → i + 1 ≡ wrong_use ns n
+      node-named i f = walk-number (Some i) f
 
-      pub none_named : s.wrong ≡ Nowhere → 0 ≡ wrong_use ns n
-      none_named f = walk-number Nowhere f
+      pub none_named : s.wrong ≡ None → 0 ≡ wrong_use ns n
+      none_named f = walk-number None f

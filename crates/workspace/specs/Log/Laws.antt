@@ -1,5 +1,5 @@
 -- The log as the code reads it is the log of the path: consistency, what `get` finds, and a write. Assumes nothing.
-use Rattle.std.specs.Prelude.{Bool, true, false, ◌&&◌, ◌||◌, List, [], ◌∷◌, ◌≡◌, refl, ℕ, suc, ◌+◌, ◌-◌, ◌≤◌, ◌<◌, leb, eqb, length, get_or, set}
+use Rattle.std.specs.Prelude.{Bool, true, false, ◌&&◌, ◌||◌, List, [], ◌∷◌, ◌≡◌, refl, ℕ, suc, ◌+◌, ◌-◌, ◌≤◌, ◌<◌, leb, eqb, length, get_or, set, Some, None}
 use Rattle.std.proofs.Math.Option.{none, some}
 use Rattle.std.proofs.Common.{sym, ap, ◌∙◌, add-one, arith, length-set, get_or-set_same, get_or-set_other, eqb-true, le-leb, eq-eqb, ne_eqb}
 use Rattle.std.proofs.lemmas.Bool.{eqb-false}
@@ -18,7 +18,6 @@ use Rattle.workspace.specs.Places.{base_at, condition_at, depth_at, next_at, spa
 use Rattle.workspace.specs.Rules.{Ruled}
 use Rattle.workspace.specs.State.{writes_in, Means, reference_place, Log, no_write, a_write, PathIn}
 use Rattle.workspace.specs.State.Laws.{still_known, path_moved, means-type, means-at, log-kept}
-use Rattle.workspace.specs.declared.Found.TheVariants.{Value, Nothing}
 
 -- ---- a reference by its place
 
@@ -87,7 +86,7 @@ lookup-is {ws} {begin} {q = q} {s = s} {o = o} (a_write {k = k} {o = p} {s = u} 
   where
     go : (d same : Bool) → FoundAs ws (lookup_on ws begin q (k - begin)) (lookup o s l)
         → FoundAs ws
-        (pick d (lookup_on ws begin q (k - begin)) (pick same (Value (get_or ws (write_at k + 2) 0) (get_or ws (write_at k + 3) 0)) Nothing))
+        (pick d (lookup_on ws begin q (k - begin)) (pick same (Some (get_or ws (write_at k + 2) 0, get_or ws (write_at k + 3) 0)) None))
         (pick d (lookup o s l) (pick same (some v) none))
     go true same f = f
     go false true f = found_some b

@@ -1,5 +1,5 @@
 -- The loops over the log: what a turn leaves of the whole. Assumes nothing.
-use Rattle.std.specs.Prelude.{true, false, ◌&&◌, ◌||◌, List, ◌≡◌, leb, eqb, get_or}
+use Rattle.std.specs.Prelude.{true, false, ◌&&◌, ◌||◌, List, ◌≡◌, leb, eqb, get_or, Some, None}
 use Rattle.std.proofs.Math.Path.{refl, sym}
 use Rattle.std.proofs.Common.{ap, ◌∙◌, add-one, le-leb, eq-eqb, ne_eqb}
 use Prim.Native.Nat.{ℕ, suc, ◌+◌, ◌-◌, ◌≤◌, ◌<◌}
@@ -7,10 +7,9 @@ use native.Mathlib.Omega.{arith}
 use Rattle.std.proofs.lemmas.Bool.{lt-leb}
 use Rattle.script.specs.Tests.{pick}
 use Rattle.terms.specs.References.{apart_at, symbol_at}
+use Rattle.workspace.specs.Answers.{Found}
 use Rattle.workspace.specs.Log.{right_on, mends_on, mended_on, settled_on, consistent_on, lookup_at, lookup_on}
 use Rattle.workspace.specs.Places.{write_at}
-use Rattle.workspace.specs.declared.Found.{Found}
-use Rattle.workspace.specs.declared.Found.TheVariants.{Value, Nothing}
 
 -- ---- a later write that mends
 
@@ -78,7 +77,7 @@ module _ (ws : List ℕ) (begin count : ℕ) where
 -- ---- what `get` finds
 
 module _ (ws : List ℕ) (begin q : ℕ) where
-  pub lookup-none : (k : ℕ) → k ≤ begin → lookup_on ws begin q (k - begin) ≡ Nothing
+  pub lookup-none : (k : ℕ) → k ≤ begin → lookup_on ws begin q (k - begin) ≡ None
   unfolding lookup_on
   lookup-none k l = let e : k - begin ≡ 0 = omega arith in rw e refl
 
@@ -98,10 +97,10 @@ module _ (ws : List ℕ) (begin q count : ℕ) where
   through_on j = get_or ws (write_at j + 1) 0
 
   abbrev value_on : ℕ → Found
-  value_on j = Value (get_or ws (write_at j + 2) 0) (get_or ws (write_at j + 3) 0)
+  value_on j = Some (get_or ws (write_at j + 2) 0, get_or ws (write_at j + 3) 0)
 
   looking-by : (i j : ℕ) → i ≡ suc j → begin < i → lookup_on ws begin q (i - begin)
-      ≡ pick (apart_at (through_on j) q) (lookup_on ws begin q (j - begin)) (pick (eqb (symbol_at (through_on j)) (symbol_at q)) (value_on j) Nothing)
+      ≡ pick (apart_at (through_on j) q) (lookup_on ws begin q (j - begin)) (pick (eqb (symbol_at (through_on j)) (symbol_at q)) (value_on j) None)
   looking-by i j e b = rw e (lookup-some ws begin q j (omega arith))
 
   pub looking-start : Looking ws begin q count count
@@ -112,13 +111,13 @@ module _ (ws : List ℕ) (begin q count : ℕ) where
   looking-found i j e b m f t = sym (m.rest ∙ looking-by i j e b ∙ rw (f, eq-eqb (symbol_at (through_on j)) (symbol_at q) t) refl)
 
   pub looking-none : (i j : ℕ) → i ≡ suc j → begin < i → Looking ws begin q count i → apart_at (through_on j) q ≡ false → (symbol_at (through_on j) ≡ symbol_at q → ⊥)
-      → Nothing ≡ lookup_on ws begin q (count - begin)
+      → None ≡ lookup_on ws begin q (count - begin)
   looking-none i j e b m f t = sym (m.rest ∙ looking-by i j e b ∙ rw (f, ne_eqb (symbol_at (through_on j)) (symbol_at q) t) refl)
 
   pub looking_on : (i j : ℕ) → i ≡ suc j → begin < i → Looking ws begin q count i → apart_at (through_on j) q ≡ true → Looking ws begin q count j
   looking_on i j e b m t = record { within = omega (arith, e, m.within); rest = m.rest ∙ looking-by i j e b ∙ rw t refl }
 
-  pub looking_end : (i : ℕ) → i ≤ begin → Looking ws begin q count i → Nothing ≡ lookup_on ws begin q (count - begin)
+  pub looking_end : (i : ℕ) → i ≤ begin → Looking ws begin q count i → None ≡ lookup_on ws begin q (count - begin)
   looking_end i l m = sym (m.rest ∙ lookup-none ws begin q i l)
 
 -- ---- tests of a write

@@ -1,5 +1,5 @@
 -- Making a note: the loop over the variables that it names, that it is right, and that the other notes stay right. Assumes nothing.
-use Rattle.std.specs.Prelude.{Bool, List, ◌⊎◌, ◌≡◌, length, get_or, set}
+use Rattle.std.specs.Prelude.{Bool, List, ◌⊎◌, ◌≡◌, length, get_or, set, Some, None, Ok}
 use Rattle.std.proofs.Math.Bool.{true, false}
 use Rattle.std.proofs.Common.{inl, inr, ap, ◌∙◌, eq-or-lt_of_le, get_or-set_same, get_or-set_other}
 use Rattle.std.proofs.Math.Option.{some}
@@ -13,11 +13,11 @@ use borrow.Author.Tests.{eqb-true, eqb-false, ne_eqb, leb-true, leb-false, le-le
 use Rattle.script.specs.Code.Forms.{tree_in}
 use Rattle.script.specs.Tests.Laws.{true_or_false}
 use Rattle.script.specs.Tree.{Expr}
-use Rattle.script.specs.declared.Checked.TheVariants.{Accepted}
 use Rattle.rules.specs.Checking.{check}
 use Rattle.rules.specs.Checking.Mentions.{mentions}
 use Rattle.rules.proofs.Checking.Mentions.{check-same}
 use Rattle.terms.specs.Places.{symbol_limit}
+use Rattle.workspace.specs.Answers.{Count}
 use Rattle.workspace.specs.Notes.{base_in, operand_in, note_depth, type_in, names_in, name_in, named_type, Named, named, Nameable, names_from, names_to, Naming, Names, noted_as, Agrees, NoteOf, Kept, Noted}
 use Rattle.workspace.specs.Notes.Keeping.{note_same}
 use Rattle.workspace.specs.Places.{base_at, name_limit, note_at, note_limit, note_width, notes_at, space_size, turn_at}
@@ -167,7 +167,7 @@ module _ (e : Expr) (depth at : ℕ) (ws : List ℕ) where
 
   -- k is one too many
   pub upto_full : (k count : ℕ) (left : List ℕ) → Upto e depth at ws k count left → k < depth → mentions e k ≡ true → count ≡ 6
-      → Names e depth at ws 7 left
+      → Names e depth at ws None left
   unfolding names_from
   upto_full k count left u low m six =
       let o : depth - k ≡ suc (depth - (k + 1)) = omega arith in
@@ -175,10 +175,11 @@ module _ (e : Expr) (depth at : ℕ) (ws : List ℕ) where
         is = rw (o, m, six) at u.is;
         same = u.naming.same;
         others = u.naming.others;
-        naming = λ l h. absurd (omega arith);
+        few = λ q. cc;
+        naming = λ q h. cc;
       }
 
-  pub upto_end : (k count : ℕ) (left : List ℕ) → Upto e depth at ws k count left → depth ≤ k → Names e depth at ws count left
+  pub upto_end : (k count : ℕ) (left : List ℕ) → Upto e depth at ws k count left → depth ≤ k → Names e depth at ws (Some count) left
   unfolding names_from
   upto_end k count left u h =
       let o : depth - k ≡ 0 = omega arith in
@@ -186,7 +187,8 @@ module _ (e : Expr) (depth at : ℕ) (ws : List ℕ) where
         is = rw o at u.is;
         same = u.naming.same;
         others = u.naming.others;
-        naming = λ l b. let w = u.within b in let q : k ≡ depth = omega arith in rw q at u.naming;
+        few = λ {count = m} p. let n : m ≡ count = cc in rw n u.naming.few;
+        naming = λ {count = m} p b. let w = u.within b in let q : k ≡ depth = omega arith in let n : m ≡ count = cc in rw n (rw q at u.naming);
       }
 
 -- ---- the other notes stay right
@@ -276,7 +278,7 @@ module _ {e : Expr} {depth at a t count : ℕ} {ws middle left : List ℕ} (low 
         go (inr h) (inl z) = named-at k z (n.all k h z m)
         go (inr h) (inr z) = beyond-at k z
 
-  put_right : {limit : ℕ} {table : List ℕ} → e ≡ tree_in table a → check limit e (types_on ws depth) ≡ Accepted t → NoteOf limit table left at depth
+  put_right : {limit : ℕ} {table : List ℕ} → e ≡ tree_in table a → check limit e (types_on ws depth) ≡ Ok t → NoteOf limit table left at depth
   put_right {limit} f c =
       record {
         few = omega (arith, p.names, n.few);
@@ -301,7 +303,7 @@ module _ (ws : List ℕ) (depth turn : ℕ) (its : turn ≡ get_or ws turn_at 0 
   pub cleared_nameable : Nameable cleared depth (note_at turn)
   cleared_nameable = record { lent = omega (arith, lent, cleared_length); small = small; low = omega arith; high = omega arith }
 
-  module _ (table : List ℕ) (a t : ℕ) {count : ℕ} {middle : List ℕ} (n : Names (tree_in table a) depth (note_at turn) cleared count middle) where
+  module _ (table : List ℕ) (a t : ℕ) {r : Count} {middle : List ℕ} (n : Names (tree_in table a) depth (note_at turn) cleared r middle) where
     middle_other : (k : ℕ) → (note_at turn ≤ k → k < note_at turn + note_width → ⊥) → get_or middle k 0 ≡ get_or ws k 0
     middle_other k d =
         n.others k (λ x y. d (omega arith) (omega arith)) ∙ cleared_other k (λ e. d (omega arith) (omega arith))
@@ -313,10 +315,9 @@ module _ (ws : List ℕ) (depth turn : ℕ) (its : turn ≡ get_or ws turn_at 0 
     middle_length = n.same ∙ cleared_length
 
     -- there are too many variables to name: the note still says nothing
-    pub noted_nothing : 6 < count → Noted table depth a t ws middle
+    pub noted_nothing : r ≡ None → Noted table depth a t ws middle
     unfolding noted_as
-    noted_nothing many =
-        let o : leb count name_limit ≡ false = lt-leb count name_limit many in
+    noted_nothing o =
         record {
           is = rw (sym its, sym n.is, o) refl;
           same = middle_length;
@@ -327,72 +328,72 @@ module _ (ws : List ℕ) (depth turn : ℕ) (its : turn ≡ get_or ws turn_at 0 
         }
 
     -- all are named: the note is whole with five stores more
-    abbrev one : List ℕ
-    one = set middle (note_at turn) a
+    module _ {count : ℕ} (o : r ≡ Some count) where
+      abbrev one : List ℕ
+      one = set middle (note_at turn) a
 
-    abbrev two : List ℕ
-    two = set one (note_at turn + 1) (depth + 1)
+      abbrev two : List ℕ
+      two = set one (note_at turn + 1) (depth + 1)
 
-    abbrev three : List ℕ
-    three = set two (note_at turn + 2) t
+      abbrev three : List ℕ
+      three = set two (note_at turn + 2) t
 
-    abbrev four : List ℕ
-    four = set three (note_at turn + 3) count
+      abbrev four : List ℕ
+      four = set three (note_at turn + 3) count
 
-    abbrev whole : List ℕ
-    whole = set four turn_at (turn + 1)
+      abbrev whole : List ℕ
+      whole = set four turn_at (turn + 1)
 
-    whole_put : Put (note_at turn) depth a t count middle whole
-    whole_put =
-        let at = note_at turn in
-        let l = middle_length in
-        record {
-          operand =
-              get_or-set_other four turn_at at (turn + 1) 0 (λ e. omega arith)
-              ∙ get_or-set_other three (at + 3) at count 0 (λ e. omega arith)
-              ∙ get_or-set_other two (at + 2) at t 0 (λ e. omega arith)
-              ∙ get_or-set_other one (at + 1) at (depth + 1) 0 (λ e. omega arith)
-              ∙ get_or-set_same middle at a 0 (omega arith);
-          variables =
-              get_or-set_other four turn_at (at + 1) (turn + 1) 0 (λ e. omega arith)
-              ∙ get_or-set_other three (at + 3) (at + 1) count 0 (λ e. omega arith)
-              ∙ get_or-set_other two (at + 2) (at + 1) t 0 (λ e. omega arith)
-              ∙ get_or-set_same one (at + 1) (depth + 1) 0 (simp length-set (omega arith));
-          type =
-              get_or-set_other four turn_at (at + 2) (turn + 1) 0 (λ e. omega arith)
-              ∙ get_or-set_other three (at + 3) (at + 2) count 0 (λ e. omega arith)
-              ∙ get_or-set_same two (at + 2) t 0 (simp length-set (omega arith));
-          names =
-              get_or-set_other four turn_at (at + 3) (turn + 1) 0 (λ e. omega arith)
-              ∙ get_or-set_same three (at + 3) count 0 (simp length-set (omega arith));
-          others = λ k d e.
-              get_or-set_other four turn_at k (turn + 1) 0 d
-              ∙ get_or-set_other three (at + 3) k count 0 (λ q. e (omega arith) (omega arith))
-              ∙ get_or-set_other two (at + 2) k t 0 (λ q. e (omega arith) (omega arith))
-              ∙ get_or-set_other one (at + 1) k (depth + 1) 0 (λ q. e (omega arith) (omega arith))
-              ∙ get_or-set_other middle at k a 0 (λ q. e (omega arith) (omega arith));
-        }
+      whole_put : Put (note_at turn) depth a t count middle whole
+      whole_put =
+          let at = note_at turn in
+          let l = middle_length in
+          record {
+            operand =
+                get_or-set_other four turn_at at (turn + 1) 0 (λ e. omega arith)
+                ∙ get_or-set_other three (at + 3) at count 0 (λ e. omega arith)
+                ∙ get_or-set_other two (at + 2) at t 0 (λ e. omega arith)
+                ∙ get_or-set_other one (at + 1) at (depth + 1) 0 (λ e. omega arith)
+                ∙ get_or-set_same middle at a 0 (omega arith);
+            variables =
+                get_or-set_other four turn_at (at + 1) (turn + 1) 0 (λ e. omega arith)
+                ∙ get_or-set_other three (at + 3) (at + 1) count 0 (λ e. omega arith)
+                ∙ get_or-set_other two (at + 2) (at + 1) t 0 (λ e. omega arith)
+                ∙ get_or-set_same one (at + 1) (depth + 1) 0 (simp length-set (omega arith));
+            type =
+                get_or-set_other four turn_at (at + 2) (turn + 1) 0 (λ e. omega arith)
+                ∙ get_or-set_other three (at + 3) (at + 2) count 0 (λ e. omega arith)
+                ∙ get_or-set_same two (at + 2) t 0 (simp length-set (omega arith));
+            names =
+                get_or-set_other four turn_at (at + 3) (turn + 1) 0 (λ e. omega arith)
+                ∙ get_or-set_same three (at + 3) count 0 (simp length-set (omega arith));
+            others = λ k d e.
+                get_or-set_other four turn_at k (turn + 1) 0 d
+                ∙ get_or-set_other three (at + 3) k count 0 (λ q. e (omega arith) (omega arith))
+                ∙ get_or-set_other two (at + 2) k t 0 (λ q. e (omega arith) (omega arith))
+                ∙ get_or-set_other one (at + 1) k (depth + 1) 0 (λ q. e (omega arith) (omega arith))
+                ∙ get_or-set_other middle at k a 0 (λ q. e (omega arith) (omega arith));
+          }
 
-    whole-elsewhere : Elsewhere (note_at turn) ws whole
-    whole-elsewhere =
-        record { each = λ k d e. whole_put.others k d (λ x y. e (omega arith) (omega arith)) ∙ middle_other k e }
+      whole-elsewhere : Elsewhere (note_at turn) ws whole
+      whole-elsewhere =
+          record { each = λ k d e. whole_put.others k d (λ x y. e (omega arith) (omega arith)) ∙ middle_other k e }
 
-    pub noted_all : count ≤ name_limit → Noted table depth a t ws whole
-    unfolding noted_as
-    noted_all few =
-        let o : leb count name_limit ≡ true = le-leb count name_limit few in
-        record {
-          is = rw (sym its, sym n.is, o) refl;
-          same = simp length-set middle_length;
-          before = λ k l. whole-elsewhere.each k (λ e. omega arith) (λ x y. omega arith);
-          beyond = λ k l. whole-elsewhere.each k (λ e. omega arith) (λ x y. omega arith);
-          kept = λ limit base c k. kept_still turn whole-elsewhere (omega arith) k (λ d e. whole-right limit base c d e);
-        }
-      where
-        whole-right : (limit : ℕ) → base_in ws ≤ depth → check limit (tree_in table a) (types_on ws depth) ≡ Accepted t → (d : ℕ)
-            → note_depth whole (note_at turn) ≡ suc d → NoteOf limit table whole (note_at turn) d
-        whole-right limit base c d e =
-            let b : base_in cleared ≤ depth = omega (arith, base, cleared_other base_at (λ q. omega arith)) in
-            let f : types_on cleared depth ≡ types_on ws depth = types-kept ws cleared depth (λ k l. cleared_other k (λ q. omega arith)) in
-            let q : d ≡ depth = omega (arith, e, whole_put.variables) in
-            rw q (put_right (omega arith) small b (n.naming few b) whole_put refl (rw f c))
+      pub noted_all : Noted table depth a t ws whole
+      unfolding noted_as
+      noted_all =
+          record {
+            is = rw (sym its, sym n.is, o) refl;
+            same = simp length-set middle_length;
+            before = λ k l. whole-elsewhere.each k (λ e. omega arith) (λ x y. omega arith);
+            beyond = λ k l. whole-elsewhere.each k (λ e. omega arith) (λ x y. omega arith);
+            kept = λ limit base c k. kept_still turn whole-elsewhere (omega arith) k (λ d e. whole-right limit base c d e);
+          }
+        where
+          whole-right : (limit : ℕ) → base_in ws ≤ depth → check limit (tree_in table a) (types_on ws depth) ≡ Ok t → (d : ℕ)
+              → note_depth whole (note_at turn) ≡ suc d → NoteOf limit table whole (note_at turn) d
+          whole-right limit base c d e =
+              let b : base_in cleared ≤ depth = omega (arith, base, cleared_other base_at (λ q. omega arith)) in
+              let f : types_on cleared depth ≡ types_on ws depth = types-kept ws cleared depth (λ k l. cleared_other k (λ q. omega arith)) in
+              let q : d ≡ depth = omega (arith, e, whole_put.variables) in
+              rw q (put_right (omega arith) small b (n.naming o b) whole_put refl (rw f c))

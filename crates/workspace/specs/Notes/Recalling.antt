@@ -1,6 +1,6 @@
 -- Reading notes: the loops over a note and over the notes, that what a right note says of a block is its type, and that right notes can be read.
 -- Assumes nothing.
-use Rattle.std.specs.Prelude.{Bool, ◌&&◌, List, eqb, length, get_or}
+use Rattle.std.specs.Prelude.{Bool, ◌&&◌, List, eqb, length, get_or, Some, None, Ok}
 use Rattle.std.proofs.Math.Bool.{true, false}
 use Rattle.std.proofs.Math.Option.{some}
 use Rattle.std.proofs.Math.Path.{◌≡◌, refl, sym}
@@ -11,14 +11,12 @@ use Rattle.std.proofs.lemmas.Bool.{eqb-false}
 use Rattle.script.specs.Code.Forms.{tree_in}
 use Rattle.script.specs.Tests.{pick}
 use Rattle.script.specs.Tests.Laws.{both_true}
-use Rattle.script.specs.declared.Checked.TheVariants.{Accepted}
 use Rattle.rules.specs.Checking.{check}
 use Rattle.terms.specs.Places.{symbol_limit}
 use Rattle.workspace.specs.Notes.{base_in, operand_in, note_depth, type_in, names_in, name_in, named_type, Recallables, agrees_from, agrees_on, is_of, recalled_on, Agrees, NoteOf, Kept}
 use Rattle.workspace.specs.Places.{note_at, note_limit, space_size}
 use Rattle.workspace.specs.State.{types_on}
 use Rattle.workspace.specs.State.Laws.{types-at, types-length}
-use Rattle.workspace.specs.declared.Known.TheVariants.{Typed, Nothing}
 
 -- ---- the loop over the variables of a note
 
@@ -70,7 +68,7 @@ pub record Recalling (ws : List ℕ) (depth a i : ℕ) : Type 0 where
 
 module _ (ws : List ℕ) (depth a : ℕ) where
   recalling-by : (i : ℕ) → i < note_limit → recalled_on ws depth a i (note_limit - i)
-      ≡ pick (is_of ws (note_at i) depth a) (Typed (type_in ws (note_at i))) (recalled_on ws depth a (suc i) (8 - suc i))
+      ≡ pick (is_of ws (note_at i) depth a) (Some (type_in ws (note_at i))) (recalled_on ws depth a (suc i) (8 - suc i))
   unfolding recalled_on
   recalling-by i l = let e : 8 - i ≡ suc (8 - suc i) = omega arith in rw e refl
 
@@ -78,13 +76,13 @@ module _ (ws : List ℕ) (depth a : ℕ) where
   recalling-start = record { within = omega arith; rest = refl }
 
   module _ (i : ℕ) (m : Recalling ws depth a i) where
-    pub recalling-found : i < note_limit → is_of ws (note_at i) depth a ≡ true → Typed (type_in ws (note_at i)) ≡ recalled_on ws depth a 0 note_limit
+    pub recalling-found : i < note_limit → is_of ws (note_at i) depth a ≡ true → Some (type_in ws (note_at i)) ≡ recalled_on ws depth a 0 note_limit
     recalling-found l e = sym (m.rest ∙ recalling-by i l ∙ rw e refl)
 
     pub recalling_on : i < note_limit → is_of ws (note_at i) depth a ≡ false → Recalling ws depth a (i + 1)
     recalling_on l e = rw (add-one i) (record { within = omega arith; rest = m.rest ∙ recalling-by i l ∙ rw e refl })
 
-    pub recalling_end : 8 ≤ i → Nothing ≡ recalled_on ws depth a 0 note_limit
+    pub recalling_end : 8 ≤ i → None ≡ recalled_on ws depth a 0 note_limit
     unfolding recalled_on
     recalling_end l = let e : 8 - i ≡ 0 = omega arith in sym (m.rest ∙ rw e refl)
 
@@ -112,27 +110,27 @@ module _ {limit : ℕ} {table ws : List ℕ} {depth : ℕ} (k : Kept limit table
         others = λ i l. types-at ws depth (name_in ws at i) (n.inside i l) ∙ ap some (agrees-each ws at 0 (names_in ws at) e i (omega arith) (omega arith));
       }
 
-  note_right : (i : ℕ) → i < note_limit → is_of ws (note_at i) depth a ≡ true → check limit (tree_in table a) (types_on ws depth) ≡ Accepted (type_in ws (note_at i))
+  note_right : (i : ℕ) → i < note_limit → is_of ws (note_at i) depth a ≡ true → check limit (tree_in table a) (types_on ws depth) ≡ Ok (type_in ws (note_at i))
   note_right i l e =
       let p = both_true (eqb (operand_in ws (note_at i)) a) _ e in
       let q = both_true (eqb (note_depth ws (note_at i)) (depth + 1)) (agrees_on ws (note_at i)) p.1 in
       let n = k.notes i l depth (eqb-true _ _ q.0 ∙ add-one depth) in
       rw (eqb-true (operand_in ws (note_at i)) a p.0) at (n.right (types_on ws depth) (types-length ws depth) (note_agrees (note_at i) n q.1))
 
-  recalled-from : (i more t : ℕ) → i + more ≤ note_limit → recalled_on ws depth a i more ≡ Typed t → check limit (tree_in table a) (types_on ws depth) ≡ Accepted t
+  recalled-from : (i more t : ℕ) → i + more ≤ note_limit → recalled_on ws depth a i more ≡ Some t → check limit (tree_in table a) (types_on ws depth) ≡ Ok t
   unfolding recalled_on
   recalled-from i zero t l e = absurd (let z : ◌≡◌ {A = ℕ} 0 1 = cc in omega arith)
   recalled-from i (suc more) t l e = go (is_of ws (note_at i) depth a) refl e (recalled-from (suc i) more t (omega arith))
     where
-      go : (b : Bool) → is_of ws (note_at i) depth a ≡ b → pick b (Typed (type_in ws (note_at i))) (recalled_on ws depth a (suc i) more) ≡ Typed t
-          → (recalled_on ws depth a (suc i) more ≡ Typed t → check limit (tree_in table a) (types_on ws depth) ≡ Accepted t)
-          → check limit (tree_in table a) (types_on ws depth) ≡ Accepted t
+      go : (b : Bool) → is_of ws (note_at i) depth a ≡ b → pick b (Some (type_in ws (note_at i))) (recalled_on ws depth a (suc i) more) ≡ Some t
+          → (recalled_on ws depth a (suc i) more ≡ Some t → check limit (tree_in table a) (types_on ws depth) ≡ Ok t)
+          → check limit (tree_in table a) (types_on ws depth) ≡ Ok t
       go true q s f = let u : type_in ws (note_at i) ≡ t = cc in rw u at (note_right i (omega arith) q)
       go false q s f = f s
 
 -- what is recalled is the block's type
-pub recalled-right : {limit : ℕ} {table ws : List ℕ} {depth t : ℕ} (a : ℕ) → Kept limit table ws → base_in ws ≤ depth → recalled_on ws depth a 0 note_limit ≡ Typed t
-    → check limit (tree_in table a) (types_on ws depth) ≡ Accepted t
+pub recalled-right : {limit : ℕ} {table ws : List ℕ} {depth t : ℕ} (a : ℕ) → Kept limit table ws → base_in ws ≤ depth → recalled_on ws depth a 0 note_limit ≡ Some t
+    → check limit (tree_in table a) (types_on ws depth) ≡ Ok t
 recalled-right {t = t} a k low e = recalled-from k low a 0 8 t (omega arith) e
 
 -- right notes can be read

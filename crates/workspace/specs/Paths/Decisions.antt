@@ -1,5 +1,5 @@
 -- The decision at an `if`: each answer of the code is the branch that the rules take. Assumes nothing.
-use Rattle.std.specs.Prelude.{Bool, true, false, List, ◌≡◌, refl, ℕ, ◌≤◌, ◌<◌, leb, length}
+use Rattle.std.specs.Prelude.{Bool, true, false, List, ◌≡◌, refl, ℕ, ◌≤◌, ◌<◌, leb, length, Ok, Err}
 use Rattle.std.proofs.Common.{sym, ap, ◌∙◌, arith}
 use Rattle.script.specs.Tests.{pick}
 use Rattle.script.specs.declared.Refusal.TheVariants.{WrongType, TooManyAtoms}
@@ -14,6 +14,7 @@ use Rattle.rows.specs.declared.Decision.{Decision}
 use Rattle.rows.specs.declared.Decision.TheVariants.{TooMany, Both, OnlyTrue, OnlyFalse}
 use Rattle.rows.specs.Known.{remembers-sound}
 use Rattle.rows.specs.Promise.{Asked, Decides, Decidable as DecidableRows}
+use Rattle.workspace.specs.Answers.{Choice}
 use Rattle.workspace.specs.Paths.{assumed, Learns}
 use Rattle.workspace.specs.Paths.Conditions.{ruled-refl, learnt_room, assumed-ruled, assumed_with, assumed-without}
 use Rattle.workspace.specs.Places.{known_at, space_size}
@@ -21,7 +22,7 @@ use Rattle.workspace.specs.Rules.{Decidable, with_guard, without_guard, Chosen, 
 use Rattle.workspace.specs.State.{condition_in, Means, word_row, truth_row, reference_place, PathIn, Room}
 use Rattle.workspace.specs.State.Laws.{room-space}
 use Rattle.workspace.specs.declared.Branch.{Branch}
-use Rattle.workspace.specs.declared.Branch.TheVariants.{First, Second, Neither}
+use Rattle.workspace.specs.declared.Branch.TheVariants.{First, Second}
 
 -- ---- the decision of the rules
 
@@ -87,13 +88,13 @@ module _ (f g : Formula) where
 
 -- ---- the answers
 
-no_truth : {ws : List ℕ} {n t q : ℕ} {v : Symbolic} {p : Path} → (t ≡ 1 → ⊥) → Means ws t q v → Chosen ws ws n v p (Neither (WrongType n))
+no_truth : {ws : List ℕ} {n t q : ℕ} {v : Symbolic} {p : Path} → (t ≡ 1 → ⊥) → Means ws t q v → Chosen ws ws n v p (Err (WrongType n))
 unfolding decide
 no_truth d (word_row l r) = neither λ e f. refl
 no_truth d (truth_row l r) = absurd (d refl)
 no_truth d (reference_place x) = neither λ e f. refl
 
-pub chooses_no_truth : (n t q : ℕ) (ws : List ℕ) → (t ≡ 1 → ⊥) → Chooses n t q ws (Neither (WrongType n)) ws
+pub chooses_no_truth : (n t q : ℕ) (ws : List ℕ) → (t ≡ 1 → ⊥) → Chooses n t q ws (Err (WrongType n)) ws
 chooses_no_truth n t q ws d = record { ruled = ruled-refl ws; chosen = λ v p m h. no_truth d m }
 
 below_row : {ws : List ℕ} {q : ℕ} {v : Symbolic} → Means ws 1 q v → q < count_in ws
@@ -126,19 +127,19 @@ module _ {q : ℕ} {ws xs : List ℕ} {D : Decision} (room : Room ws 1) (d : Dec
       → decide n (a_truth g) p e f ≡ tree_of E n (e (with_guard g p)) (f (without_guard g p))
   tree_is n {g} {p} {E} is u l h e f = decide-tree n g p e f E (decision_is is u l h)
 
-  many : (n : ℕ) → D ≡ TooMany → (v : Symbolic) (p : Path) → Means ws 1 q v → PathIn ws p → Chosen ws ws n v p (Neither (TooManyAtoms n))
+  many : (n : ℕ) → D ≡ TooMany → (v : Symbolic) (p : Path) → Means ws 1 q v → PathIn ws p → Chosen ws ws n v p (Err (TooManyAtoms n))
   many n is v p (truth_row l u) h = neither λ e f. tree_is n is u l h e f
 
-  pub chooses_many : (n t : ℕ) → t ≡ 1 → D ≡ TooMany → Chooses n t q ws (Neither (TooManyAtoms n)) xs
+  pub chooses_many : (n t : ℕ) → t ≡ 1 → D ≡ TooMany → Chooses n t q ws (Err (TooManyAtoms n)) xs
   chooses_many n t x is = rw (d.many is) (record { ruled = ruled-refl ws; chosen = λ v p m h. many n is v p (rw x at m) h })
 
   -- nothing is assumed yet
-  two_ways : (n : ℕ) → D ≡ Both → (v : Symbolic) (p : Path) → Means ws 1 q v → PathIn ws p → Chosen ws ws n v p Branch.Both
+  two_ways : (n : ℕ) → D ≡ Both → (v : Symbolic) (p : Path) → Means ws 1 q v → PathIn ws p → Chosen ws ws n v p (Ok Branch.Both)
   two_ways n is v p (truth_row {f = g} l u) h =
       let a = both-allowed p.condition g (decision_is is u l h) in
       both refl refl a.0 a.1 λ e f. tree_is n is u l h e f
 
-  pub chooses_both : (n t : ℕ) → t ≡ 1 → D ≡ Both → Chooses n t q ws Branch.Both xs
+  pub chooses_both : (n t : ℕ) → t ≡ 1 → D ≡ Both → Chooses n t q ws (Ok Branch.Both) xs
   chooses_both n t x is = rw (d.both is) (record { ruled = ruled-refl ws; chosen = λ v p m h. two_ways n is v p (rw x at m) h })
 
   -- a workspace with room for a row, as before
@@ -149,27 +150,27 @@ module _ {q : ℕ} {ws xs : List ℕ} {D : Decision} (room : Room ws 1) (d : Dec
   decided-lent = (learnt_room room learns).lent
 
   -- what is known then is the condition's with the guard, or without it
-  only-true : (n : ℕ) → D ≡ OnlyTrue → (v : Symbolic) (p : Path) → Means ws 1 q v → PathIn ws p → Chosen ws (assumed xs of_conjunction q) n v p First
+  only-true : (n : ℕ) → D ≡ OnlyTrue → (v : Symbolic) (p : Path) → Means ws 1 q v → PathIn ws p → Chosen ws (assumed xs of_conjunction q) n v p (Ok First)
   only-true n is v p (truth_row {f = g} l u) h =
       let a = true-allowed p.condition g (decision_is is u l h) in
       let k = d.with_guard_lem p.condition g (asked room u l h) h.remembers is in
       first (assumed_with room learns (truth_row l u) a k h) λ e f. tree_is n is u l h e f
 
-  pub chooses_true : (n t : ℕ) → t ≡ 1 → D ≡ OnlyTrue → Chooses n t q ws First (assumed xs of_conjunction q)
+  pub chooses_true : (n t : ℕ) → t ≡ 1 → D ≡ OnlyTrue → Chooses n t q ws (Ok First) (assumed xs of_conjunction q)
   chooses_true n t x is = record { ruled = assumed-ruled room learns 5 q; chosen = λ v p m h. only-true n is v p (rw x at m) h }
 
-  only-false : (n : ℕ) → D ≡ OnlyFalse → (v : Symbolic) (p : Path) → Means ws 1 q v → PathIn ws p → Chosen ws (assumed xs of_exclusion q) n v p Second
+  only-false : (n : ℕ) → D ≡ OnlyFalse → (v : Symbolic) (p : Path) → Means ws 1 q v → PathIn ws p → Chosen ws (assumed xs of_exclusion q) n v p (Ok Second)
   only-false n is v p (truth_row {f = g} l u) h =
       let a = false-allowed p.condition g h.allowed (decision_is is u l h) in
       let k = d.without-guard p.condition g (asked room u l h) h.remembers is in
       second (assumed-without room learns (truth_row l u) a k h) λ e f. tree_is n is u l h e f
 
-  pub chooses_false : (n t : ℕ) → t ≡ 1 → D ≡ OnlyFalse → Chooses n t q ws Second (assumed xs of_exclusion q)
+  pub chooses_false : (n t : ℕ) → t ≡ 1 → D ≡ OnlyFalse → Chooses n t q ws (Ok Second) (assumed xs of_exclusion q)
   chooses_false n t x is = record { ruled = assumed-ruled room learns 7 q; chosen = λ v p m h. only-false n is v p (rw x at m) h }
 
 -- ---- as the code has it
 
-pub chooses_as : {n t q : ℕ} {ws left xs : List ℕ} {r : Branch} → left ≡ xs → Chooses n t q ws r xs → Chooses n t q ws r left
+pub chooses_as : {n t q : ℕ} {ws left xs : List ℕ} {r : Choice} → left ≡ xs → Chooses n t q ws r xs → Chooses n t q ws r left
 chooses_as e k = rw e k
 
 -- what the decision asks

@@ -1,11 +1,11 @@
 -- A typed block on a path, as the notes answer it, or else the typed rules, whose answer is then noted. Assumes nothing.
-use Rattle.std.specs.Prelude.{List, ◌≡◌, refl, ℕ, ◌≤◌, length}
+use Rattle.std.specs.Prelude.{List, ◌≡◌, refl, ℕ, ◌≤◌, length, Some, Ok}
 use Rattle.std.proofs.Common.{sym, ◌∙◌, arith}
 use Rattle.script.specs.Code.Forms.{tree_in}
-use Rattle.script.specs.declared.Checked.{Checked}
-use Rattle.script.specs.declared.Checked.TheVariants.{Accepted}
+use Rattle.script.specs.Answers.Named.{Checked}
 use Rattle.rules.specs.Checking.{check}
 use Rattle.terms.specs.Places.{symbol_limit}
+use Rattle.workspace.specs.Answers.{Known}
 use Rattle.workspace.specs.Notes.{Recallables, recalled_on, Kept, Noted, Noting, Blocked}
 use Rattle.workspace.specs.Notes.Keeping.{still_holding}
 use Rattle.workspace.specs.Notes.Recalling.{kept_recallables, recalled-right}
@@ -13,8 +13,6 @@ use Rattle.workspace.specs.Places.{base_at, space_size}
 use Rattle.workspace.specs.Rules.{Checkable, Judged}
 use Rattle.workspace.specs.State.{types_on}
 use Rattle.workspace.specs.State.Laws.{types-kept}
-use Rattle.workspace.specs.declared.Known.{Known}
-use Rattle.workspace.specs.declared.Known.TheVariants.{Typed}
 
 module _ {limit : ℕ} {table ws : List ℕ} {depth a : ℕ} (q : Checkable table ws depth a) (n : Noting limit table ws depth) where
   pub block_small : depth ≤ symbol_limit
@@ -24,8 +22,8 @@ module _ {limit : ℕ} {table ws : List ℕ} {depth a : ℕ} (q : Checkable tabl
   block_recallables = kept_recallables n.lent block_small n.kept
 
   -- a note has its type
-  pub block_recalled : {k : Known} {t : ℕ} → k ≡ recalled_on ws depth a 0 8 → k ≡ Typed t
-      → Blocked limit table (check limit (tree_in table a) (types_on ws depth)) depth ws (Accepted t) ws
+  pub block_recalled : {k : Known} {t : ℕ} → k ≡ recalled_on ws depth a 0 8 → k ≡ Some t
+      → Blocked limit table (check limit (tree_in table a) (types_on ws depth)) depth ws (Ok t) ws
   block_recalled e f =
       record {
         answer = sym (recalled-right a n.kept n.based (sym e ∙ f));
@@ -56,8 +54,8 @@ module _ {limit : ℕ} {table ws : List ℕ} {depth a : ℕ} (q : Checkable tabl
         }
 
     -- and the answer is noted
-    pub block_noted : {t : ℕ} {left₂ : List ℕ} → r ≡ Accepted t → Noted table depth a t left left₂
-        → Blocked limit table (check limit (tree_in table a) (types_on ws depth)) depth ws (Accepted t) left₂
+    pub block_noted : {t : ℕ} {left₂ : List ℕ} → r ≡ Ok t → Noted table depth a t left left₂
+        → Blocked limit table (check limit (tree_in table a) (types_on ws depth)) depth ws (Ok t) left₂
     block_noted {t} e o =
         let b = block_judged e in
         let base = b.between base_at (omega arith) (omega arith) in

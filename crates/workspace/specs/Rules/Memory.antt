@@ -1,5 +1,5 @@
 -- The rules of `ref`, `get`, `set` and of a typed block on the log in its numbers. Assumes nothing.
-use Rattle.std.specs.Prelude.{Bool, true, false, List, ◌≡◌, length, get_or}
+use Rattle.std.specs.Prelude.{Bool, true, false, List, ◌≡◌, length, get_or, Some, None, Ok, Err}
 use Rattle.std.proofs.Math.Option.{Option, none, some}
 use Rattle.std.proofs.Math.Path.{refl, sym}
 use Rattle.std.proofs.Common.{◌∙◌, length-set, get_or-set_same, get_or-set_other}
@@ -16,6 +16,7 @@ use Rattle.rules.specs.SymbolicRules.{got, unary_exec, binary_exec, typed_result
 use Rattle.terms.specs.Places.{count_at, symbol_limit, row_limit}
 use Rattle.terms.specs.Terms.{count_in, Grown}
 use Rattle.terms.specs.Terms.Laws.{grown_trans, still_distinct}
+use Rattle.workspace.specs.Answers.{Found, Step}
 use Rattle.workspace.specs.Log.{written, FoundAs, found_none, found_some, emptied, consistent_in, lookup_in}
 use Rattle.workspace.specs.Log.Laws.{consistent-is, lookup-is, written-grown, written-before, written-ruled, written-path}
 use Rattle.workspace.specs.Numbers.{got_gives, unary_gives, one_gives, binary_gives, two_gives}
@@ -25,10 +26,6 @@ use Rattle.workspace.specs.Places.{condition_at, depth_at, next_at, space_size, 
 use Rattle.workspace.specs.Rules.{one_exec, two_exec, Ruled, One, Two, After}
 use Rattle.workspace.specs.State.{next_in, writes_in, start_in, depth_in, Means, word_row, truth_row, reference_place, no_write, PathIn, Room, Went, Unnoted, Yields, ending, stopping, deepest}
 use Rattle.workspace.specs.State.Laws.{still_known, path_moved, means-type, means-kept, went_trans, room_on, unnoted_trans, Refers, refer, refers}
-use Rattle.workspace.specs.declared.Found.{Found}
-use Rattle.workspace.specs.declared.Found.TheVariants.{Value, Nothing}
-use Rattle.workspace.specs.declared.Step.{Step}
-use Rattle.workspace.specs.declared.Step.TheVariants.{Gave, Stopped}
 
 -- ---- references
 
@@ -47,13 +44,13 @@ ruled_then d k v w = record { went = w; depth = v.depth ∙ d; notes = unnoted_t
 
 -- ---- `set`
 
-set-refused : (n : ℕ) {ws : List ℕ} {v : Symbolic} (w : Symbolic) (p : Path) → NoReference v → Yields ws (Stopped (WrongType n)) (binary_exec n set_op v w p)
+set-refused : (n : ℕ) {ws : List ℕ} {v : Symbolic} (w : Symbolic) (p : Path) → NoReference v → Yields ws (Err (WrongType n)) (binary_exec n set_op v w p)
 unfolding binary_exec
 set-refused n w p a_word_lem = stopping
 set-refused n w p a_truth_lem = stopping
 
 set-yields : (n q u s : ℕ) {ws : List ℕ} → Room ws 1 → {t : ℕ} {v w : Symbolic} {p : Path} → Refers t q v → Means ws t q v → Means ws u s w → PathIn ws p
-    → Yields (written ws t q u s) (Gave u s) (binary_exec n set_op v w p)
+    → Yields (written ws t q u s) (Ok (u, s)) (binary_exec n set_op v w p)
 unfolding binary_exec
 set-yields n q u s {ws} x {p = p} (refers {c = c} r) m k h =
     let t = suc (suc c) in
@@ -61,11 +58,11 @@ set-yields n q u s {ws} x {p = p} (refers {c = c} r) m k h =
     (written-path ws t q u s x.lent (omega (arith, x.writes)) (omega (arith, x.rows)) p h m k)
 
 module _ (n t q u s : ℕ) {ws : List ℕ} where
-  pub set-wrong : t < 2 → Two (binary_form set_op) n t q u s ws (Stopped (WrongType n)) ws
+  pub set-wrong : t < 2 → Two (binary_form set_op) n t q u s ws (Err (WrongType n)) ws
   unfolding two_exec two_gives binary_gives
   set-wrong l = record { ruled = ruled-refl ws; yields = λ v w p m k h. set-refused n w p (no_reference l m); exactly = rw (lt-ltb t 2 l) refl }
 
-  pub set-made : 2 ≤ t → Room ws 1 → {left : List ℕ} → left ≡ written ws t q u s → Two (binary_form set_op) n t q u s ws (Gave u s) left
+  pub set-made : 2 ≤ t → Room ws 1 → {left : List ℕ} → left ≡ written ws t q u s → Two (binary_form set_op) n t q u s ws (Ok (u, s)) left
   unfolding two_exec two_gives binary_gives
   set-made l x e =
       rw e
@@ -78,7 +75,7 @@ module _ (n t q u s : ℕ) {ws : List ℕ} where
 -- ---- `ref`
 
 module _ (n t q : ℕ) {ws : List ℕ} where
-  pub ref-wrong : deepest ≤ t → One (unary_form ref_op) n t q ws (Stopped (TooManyReferences n)) ws
+  pub ref-wrong : deepest ≤ t → One (unary_form ref_op) n t q ws (Err (TooManyReferences n)) ws
   unfolding one_exec unary_exec one_gives unary_gives
   ref-wrong l =
       record {
@@ -125,14 +122,14 @@ module _ (n t q : ℕ) {ws : List ℕ} where
     made-here : (p : Path) → PathIn ws p → Means xs (t + 2) i (a_reference made t p.next)
     made-here p h = rw (ref-symbol (next_in ws), h.next) at (f.means h.distinct)
 
-    ref-yields : (v : Symbolic) (p : Path) → Means ws t q v → PathIn ws p → Yields left (Gave (t + 2) i) (unary_exec n ref_op v p)
+    ref-yields : (v : Symbolic) (p : Path) → Means ws t q v → PathIn ws p → Yields left (Ok (t + 2, i)) (unary_exec n ref_op v p)
     unfolding unary_exec
     ref-yields v p m h =
         rw (means-type m, le-leb (suc (suc t)) type_limit (omega arith))
         (ending (means-kept (written-grown xs (t + 2) i t q ref-lent ref-few ref-rows) (made-here p h))
         (written-path xs (t + 2) i t q ref-lent ref-few ref-rows (taken p) (f.path p h) (made-here p h) (means-kept f.ruled.went.grown m)))
 
-    pub ref-made : {zs : List ℕ} → zs ≡ left → One (unary_form ref_op) n t q ws (Gave (t + 2) i) zs
+    pub ref-made : {zs : List ℕ} → zs ≡ left → One (unary_form ref_op) n t q ws (Ok (t + 2, i)) zs
     unfolding one_exec one_gives unary_gives
     ref-made e =
         rw e
@@ -147,58 +144,49 @@ module _ (n t q : ℕ) {ws : List ℕ} where
 log_is : {ws : List ℕ} {b c : Bool} {p : Path} → b ≡ consistent_in ws → PathIn ws p → b ≡ c → consistent p ≡ c
 log_is e h z = sym (consistent-is h.log) ∙ sym e ∙ z
 
-nothing-found : {u i : ℕ} → Nothing ≡ Value u i → ⊥
-nothing-found e = let z : ◌≡◌ {A = ℕ} 0 1 = cc in omega arith
-
-found_type : {u i w j : ℕ} → Value w j ≡ Value u i → w ≡ u
-found_type e = cc
-
-found-place : {u i w j : ℕ} → Value w j ≡ Value u i → j ≡ i
-found-place e = cc
-
 fresh-yields : {ws left : List ℕ} {i : ℕ} (t c : ℕ) → t ≡ c → Fresh other t ws i left → {p : Path} → PathIn ws p
-    → Yields left (Gave t i) (ends (symbol other c p.next) (taken p))
+    → Yields left (Ok (t, i)) (ends (symbol other c p.next) (taken p))
 fresh-yields t c e x {p} h = rw (sym e) (ending (rw h.next at (x.means h.distinct)) (x.path p h))
 
 -- ---- `get`
 
-get_refused : (n : ℕ) {ws : List ℕ} {v : Symbolic} (p : Path) → NoReference v → Yields ws (Stopped (WrongType n)) (unary_exec n get_op v p)
+get_refused : (n : ℕ) {ws : List ℕ} {v : Symbolic} (p : Path) → NoReference v → Yields ws (Err (WrongType n)) (unary_exec n get_op v p)
 unfolding unary_exec
 get_refused n p a_word_lem = stopping
 get_refused n p a_truth_lem = stopping
 
 -- what is found is the value
 get_found : (n q : ℕ) {ws : List ℕ} {t u i : ℕ} {v : Symbolic} (p : Path) → PathIn ws p → Refers t q v → Means ws t q v
-    → lookup_in ws q ≡ Value u i → Yields ws (Gave u i) (unary_exec n get_op v p)
+    → lookup_in ws q ≡ Some (u, i) → Yields ws (Ok (u, i)) (unary_exec n get_op v p)
 unfolding unary_exec
 get_found n q {ws} {u = u} {i = i} p h (refers {o = o} {c = c} {s = s} r) m e = go (lookup_in ws q) (lookup o s p.log) (lookup-is h.log m) e
   where
-    go : (f : Found) (r : Option Symbolic) → FoundAs ws f r → f ≡ Value u i → Yields ws (Gave u i) (got n r c p)
-    go Nothing none found_none y = absurd (nothing-found y)
-    go (Value w j) (some x) (found_some k) y = rw (sym (found_type y), sym (found-place y)) (ending k h)
-    go (Value w j) none x15 y = elim x15 [ ]
-    go Nothing (some x) x17 y = elim x17 [ ]
+    go : (f : Found) (r : Option Symbolic) → FoundAs ws f r → f ≡ Some (u, i) → Yields ws (Ok (u, i)) (got n r c p)
+    go None none found_none y = cc
+    go (Some (w, j)) (some x) (found_some k) y = let e : ◌≡◌ {A = ℕ × ℕ} (u, i) (w, j) = cc in rw e (ending k h)
+    go (Some (w, j)) none x15 y = elim x15 [ ]
+    go None (some x) x17 y = elim x17 [ ]
 
 -- where nothing is found, the log is looked at
 get_nothing : (n q : ℕ) {ws left : List ℕ} {t : ℕ} {r : Step} {v : Symbolic} (p : Path) → PathIn ws p → Refers t q v → Means ws t q v
-    → lookup_in ws q ≡ Nothing → ((c : ℕ) → t ≡ suc (suc c) → Yields left r (pick (consistent p) (fresh c p) (stops (InconsistentLog n))))
+    → lookup_in ws q ≡ None → ((c : ℕ) → t ≡ suc (suc c) → Yields left r (pick (consistent p) (fresh c p) (stops (InconsistentLog n))))
     → Yields left r (unary_exec n get_op v p)
 unfolding unary_exec
 get_nothing n q {ws} {left} {r = r} p h (refers {o = o} {c = c} {s = s} z) m e k = go (lookup_in ws q) (lookup o s p.log) (lookup-is h.log m) e
   where
-    go : (f : Found) (x : Option Symbolic) → FoundAs ws f x → f ≡ Nothing → Yields left r (got n x c p)
-    go Nothing none found_none y = k c refl
-    go (Value w j) (some x) (found_some i) y = absurd (nothing-found (sym y))
-    go (Value w j) none x21 y = elim x21 [ ]
-    go Nothing (some x) x23 y = elim x23 [ ]
+    go : (f : Found) (x : Option Symbolic) → FoundAs ws f x → f ≡ None → Yields left r (got n x c p)
+    go None none found_none y = k c refl
+    go (Some (w, j)) (some x) (found_some i) y = cc
+    go (Some (w, j)) none x21 y = elim x21 [ ]
+    go None (some x) x23 y = elim x23 [ ]
 
 module _ (n t q : ℕ) {ws : List ℕ} where
-  pub get_wrong : t < 2 → One (unary_form get_op) n t q ws (Stopped (WrongType n)) ws
+  pub get_wrong : t < 2 → One (unary_form get_op) n t q ws (Err (WrongType n)) ws
   unfolding one_exec one_gives unary_gives
   get_wrong l = record { ruled = ruled-refl ws; yields = λ v p m h. get_refused n p (no_reference l m); exactly = rw (lt-ltb t 2 l) refl }
 
   module _ (l : 2 ≤ t) {f : Found} (d : f ≡ lookup_in ws q) where
-    pub get_value : {u i : ℕ} → f ≡ Value u i → One (unary_form get_op) n t q ws (Gave u i) ws
+    pub get_value : {u i : ℕ} → f ≡ Some (u, i) → One (unary_form get_op) n t q ws (Ok (u, i)) ws
     unfolding one_exec one_gives unary_gives got_gives
     get_value y =
         record {
@@ -207,8 +195,8 @@ module _ (n t q : ℕ) {ws : List ℕ} where
           exactly = rw (le-ltb t 2 l, sym d ∙ y) refl;
         }
 
-    module _ (y : f ≡ Nothing) {b : Bool} (e : b ≡ consistent_in ws) where
-      pub get_stopped : b ≡ false → One (unary_form get_op) n t q ws (Stopped (InconsistentLog n)) ws
+    module _ (y : f ≡ None) {b : Bool} (e : b ≡ consistent_in ws) where
+      pub get_stopped : b ≡ false → One (unary_form get_op) n t q ws (Err (InconsistentLog n)) ws
       unfolding one_exec one_gives unary_gives got_gives
       get_stopped z =
           record {
@@ -217,7 +205,7 @@ module _ (n t q : ℕ) {ws : List ℕ} where
             exactly = rw (le-ltb t 2 l, sym d ∙ y, sym e ∙ z) refl;
           }
 
-      pub get_fresh : b ≡ true → {i : ℕ} {left : List ℕ} → Fresh other (t - 2) ws i left → One (unary_form get_op) n t q ws (Gave (t - 2) i) left
+      pub get_fresh : b ≡ true → {i : ℕ} {left : List ℕ} → Fresh other (t - 2) ws i left → One (unary_form get_op) n t q ws (Ok (t - 2, i)) left
       unfolding one_exec one_gives unary_gives got_gives
       get_fresh z x =
           record {
@@ -229,7 +217,7 @@ module _ (n t q : ℕ) {ws : List ℕ} where
 -- ---- after a typed block
 
 module _ (n t : ℕ) {ws : List ℕ} {b : Bool} (e : b ≡ consistent_in ws) where
-  pub block_stopped : b ≡ false → After n t ws (Stopped (InconsistentLog n)) ws
+  pub block_stopped : b ≡ false → After n t ws (Err (InconsistentLog n)) ws
   unfolding typed_result
   block_stopped z =
       record {
@@ -277,7 +265,7 @@ module _ (n t : ℕ) {ws : List ℕ} {b : Bool} (e : b ≡ consistent_in ws) whe
     pub emptied-room : Room (emptied ws) 1
     emptied-room = room_on x emptied-went
 
-    pub block_made : b ≡ true → {i : ℕ} {left : List ℕ} → Fresh other t (emptied ws) i left → After n t ws (Gave t i) left
+    pub block_made : b ≡ true → {i : ℕ} {left : List ℕ} → Fresh other t (emptied ws) i left → After n t ws (Ok (t, i)) left
     unfolding typed_result
     block_made z y =
         record {

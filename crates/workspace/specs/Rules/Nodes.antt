@@ -1,6 +1,6 @@
 -- Node n of a table whose nodes up to n are well formed, as the code takes it apart: its rules are those of a leaf, of a block, of one operand, or of its
 -- first operand and then what is left of it; its operands are earlier, and its tree has room for theirs. Assumes nothing.
-use Rattle.std.specs.Prelude.{List, [], ◌∷◌, ◌++◌, map, ◌≡◌, ℕ, suc, ◌+◌, ◌≤◌, ◌<◌, length}
+use Rattle.std.specs.Prelude.{List, [], ◌∷◌, ◌++◌, map, ◌≡◌, ℕ, suc, ◌+◌, ◌≤◌, ◌<◌, length, Err, Ok}
 use Rattle.std.proofs.Math.Path.{refl, sym, ap}
 use Rattle.std.proofs.Common.{◌∙◌}
 use native.Mathlib.Omega.{arith}
@@ -10,8 +10,6 @@ use Rattle.script.specs.Rows.{Form, if_form, let_form, typed_form, sym_form, una
 use Rattle.script.specs.Rows.Kinds.{kind_for}
 use Rattle.script.specs.Tree.{Expr, size}
 use Rattle.script.specs.Tree.Laws.{Unrolled, is-int, is-truth, is-var, is-unary, is-binary, is_if, is_let, is-typed, is-sym}
-use Rattle.script.specs.declared.Checked.{Checked}
-use Rattle.script.specs.declared.Checked.TheVariants.{Accepted, Refused}
 use Rattle.script.specs.declared.Node.{Node}
 use Rattle.rules.specs.Checking.{check, exec}
 use Rattle.rules.proofs.Checking.Mentions.{then_same, bind-same}
@@ -20,12 +18,13 @@ use Rattle.rules.specs.Symbolic.{Symbolic, type_of, symbols}
 use Rattle.rules.specs.SymbolicRules.{unary_exec, binary_exec, decide, typed_result, verdict}
 use Rattle.rules.specs.TypedRules.{and_then, unary_type, binary_type, if_type}
 use Rattle.workspace.specs.Rules.{leaf_type, one_type, two_type, rest_type, leaf_exec, one_exec, two_exec, rest_exec, rest_size_on, rest_size}
+use Rattle.script.specs.Answers.Named.{Checked}
 
 -- ---- going on with what there is
 
-pub then_accepted : (c : Checked) (k : ℕ → Checked) → ((t : ℕ) → k t ≡ Accepted t) → c ≡ and_then c k
-then_accepted (Accepted t) k h = sym (h t)
-then_accepted (Refused r) k h = refl
+pub then_accepted : (c : Checked) (k : ℕ → Checked) → ((t : ℕ) → k t ≡ Ok t) → c ≡ and_then c k
+then_accepted (Ok t) k h = sym (h t)
+then_accepted (Err r) k h = refl
 
 pub bind-ends : (t : Paths) (k : Symbolic → Path → Paths) → ((v : Symbolic) (p : Path) → k v p ≡ ends v p) → t ≡ bind t k
 unfolding bind
@@ -297,7 +296,7 @@ module _ {limit : ℕ} {xs : List ℕ} {n : ℕ} where
         ≡ and_then (check limit e (bound_on (node_in xs n) t env)) (two_type (form_of (node_in xs n).kind) n t)
     unfolding rest_type several_by two_type
     two-rest-check (several_if q b) e f t env = absurd (no_form if_form _ refl d q)
-    two-rest-check (several_let q) e f t env = rw q (then_accepted _ Accepted λ u. refl)
+    two-rest-check (several_let q) e f t env = rw q (then_accepted _ Ok λ u. refl)
     two-rest-check (several-binary q) e f t env = rw q
 
     pub two-rest-exec : Several limit xs n → (e f : Expr) (v : Symbolic) (env : List Symbolic) (p : Path)

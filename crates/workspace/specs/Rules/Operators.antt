@@ -1,5 +1,5 @@
 -- The rules of operators on rows: what each makes, and where it refuses. Assumes nothing.
-use Rattle.std.specs.Prelude.{Bool, List, [], ◌∷◌, ◌≡◌, ℕ, zero, suc, ◌+◌, ◌*◌, ◌≤◌, ◌<◌, get_or, eqb}
+use Rattle.std.specs.Prelude.{Bool, List, [], ◌∷◌, ◌≡◌, ℕ, zero, suc, ◌+◌, ◌*◌, ◌≤◌, ◌<◌, get_or, eqb, Ok, Err}
 use Rattle.std.proofs.Math.Bool.{true, false}
 use Rattle.std.proofs.Math.Path.{refl, sym}
 use Rattle.std.proofs.Common.{ap, subst, ◌∙◌, arith}
@@ -23,14 +23,13 @@ use Rattle.terms.specs.Terms.Laws.{pushed-length, pushed-added, made-number, mad
 use Rattle.words.specs.Words.{Words, equal_row, equal_left}
 use Rattle.words.specs.Words.Laws.{equal-length, words-asked}
 use Rattle.words.specs.Words.Made.{made-equal}
+use Rattle.workspace.specs.Answers.{Step}
 use Rattle.workspace.specs.Numbers.{Outcome, gives, leaf_gives, unary_gives, one_gives, equal_place, equal_numbers, both_of, binary_gives, two_gives}
 use Rattle.workspace.specs.Paths.Conditions.{ruled-refl}
 use Rattle.workspace.specs.Places.{depth_at, next_at, writes_at}
-use Rattle.workspace.specs.Rules.{leaf_exec, one_exec, two_exec, Ruled, Leaf, One, Two, Operable}
+use Rattle.workspace.specs.Rules.{leaf_exec, one_exec, two_exec, Ruled, Leaf, One, Two, OfBoth, both-wrong, both-made, Operable}
 use Rattle.workspace.specs.State.{Means, word_row, truth_row, reference_place, PathIn, Room, Yields, ending, stopping}
 use Rattle.workspace.specs.State.Laws.{path-added, variables-at, variables-length, none-at, room-space, Refers, refer, refers}
-use Rattle.workspace.specs.declared.Step.{Step}
-use Rattle.workspace.specs.declared.Step.TheVariants.{Gave, Stopped}
 
 -- ---- rows
 
@@ -53,10 +52,10 @@ added-ruled l a =
       notes = record { each = λ k i m. a.beyond k (omega arith) };
     }
 
-pub truth-yields : {ws left : List ℕ} {r : ℕ} {f : Formula} {p : Path} → Made ws left r f → PathIn ws p → Yields left (Gave 1 r) (ends (a_truth f) p)
+pub truth-yields : {ws left : List ℕ} {r : ℕ} {f : Formula} {p : Path} → Made ws left r f → PathIn ws p → Yields left (Ok (1, r)) (ends (a_truth f) p)
 truth-yields m h = ending (truth_row m.inside m.is) (path-added m.added m.distinct h)
 
-pub word-yields : {ws left : List ℕ} {r : ℕ} {s : Sum} {p : Path} → MadeWord ws left r s → PathIn ws p → Yields left (Gave 0 r) (ends (a_word s) p)
+pub word-yields : {ws left : List ℕ} {r : ℕ} {s : Sum} {p : Path} → MadeWord ws left r s → PathIn ws p → Yields left (Ok (0, r)) (ends (a_word s) p)
 word-yields m h = ending (word_row m.inside m.is) (path-added m.added m.distinct h)
 
 pub pushed-ruled : {ws left : List ℕ} → Space ws 1 → (op a b : ℕ) → left ≡ pushed ws op a b → Ruled ws left
@@ -65,7 +64,7 @@ pushed-ruled s op a b e = rw e (added-ruled (pushed-length s op a b) (pushed-add
 -- ---- leaves
 
 module _ (n : ℕ) (m : Node) (depth : ℕ) {ws left : List ℕ} {r : ℕ} (q : Room ws 1) (er : r ≡ count_in ws) where
-  pub leaf-int : m.kind ≡ kind_for int_form → left ≡ pushed ws of_number m.a 0 → Leaf (form_of m.kind) n m depth ws (Gave 0 r) left
+  pub leaf-int : m.kind ≡ kind_for int_form → left ≡ pushed ws of_number m.a 0 → Leaf (form_of m.kind) n m depth ws (Ok (0, r)) left
   unfolding leaf_exec leaf_gives form_of row_of rows
   leaf-int z e =
       record {
@@ -74,7 +73,7 @@ module _ (n : ℕ) (m : Node) (depth : ℕ) {ws left : List ℕ} {r : ℕ} (q : 
         exactly = rw (z, er, e) refl;
       }
 
-  pub leaf-true : m.kind ≡ kind_for (truth_form true) → left ≡ pushed ws of_constant 1 0 → Leaf (form_of m.kind) n m depth ws (Gave 1 r) left
+  pub leaf-true : m.kind ≡ kind_for (truth_form true) → left ≡ pushed ws of_constant 1 0 → Leaf (form_of m.kind) n m depth ws (Ok (1, r)) left
   unfolding leaf_exec leaf_gives form_of row_of rows
   leaf-true z e =
       record {
@@ -83,7 +82,7 @@ module _ (n : ℕ) (m : Node) (depth : ℕ) {ws left : List ℕ} {r : ℕ} (q : 
         exactly = rw (z, er, e) refl;
       }
 
-  pub leaf-other : NoneOf m.kind (int_form ∷ truth_form true ∷ var_form ∷ []) → left ≡ pushed ws of_constant 0 0 → Leaf (form_of m.kind) n m depth ws (Gave 1 r) left
+  pub leaf-other : NoneOf m.kind (int_form ∷ truth_form true ∷ var_form ∷ []) → left ≡ pushed ws of_constant 0 0 → Leaf (form_of m.kind) n m depth ws (Ok (1, r)) left
   unfolding leaf_exec leaf_gives rows
   leaf-other d e =
       record {
@@ -95,7 +94,7 @@ module _ (n : ℕ) (m : Node) (depth : ℕ) {ws left : List ℕ} {r : ℕ} (q : 
       }
 
 module _ (n : ℕ) (m : Node) (depth : ℕ) (ws : List ℕ) where
-  pub variable-found : m.a < depth → Leaf var_form n m depth ws (Gave (get_or ws (2 * m.a) 0) (get_or ws (2 * m.a + 1) 0)) ws
+  pub variable-found : m.a < depth → Leaf var_form n m depth ws (Ok (get_or ws (2 * m.a) 0, get_or ws (2 * m.a + 1) 0)) ws
   unfolding leaf_exec leaf_gives variable
   variable-found l =
       record {
@@ -104,7 +103,7 @@ module _ (n : ℕ) (m : Node) (depth : ℕ) (ws : List ℕ) where
         exactly = rw (lt-ltb m.a depth l) refl;
       }
 
-  pub variable-unknown : depth ≤ m.a → Leaf var_form n m depth ws (Stopped (UnknownVariable n)) ws
+  pub variable-unknown : depth ≤ m.a → Leaf var_form n m depth ws (Err (UnknownVariable n)) ws
   unfolding leaf_exec leaf_gives variable
   variable-unknown l =
       record {
@@ -119,24 +118,24 @@ leaf-var {n} {m} {depth} {ws} {left} {r} e l = subst (λ (f : Form). Leaf f n m 
 
 -- ---- one operand
 
-not_a_truth : (n : ℕ) {ws : List ℕ} {t q : ℕ} {v : Symbolic} (p : Path) → (t ≡ 1 → ⊥) → Means ws t q v → Yields ws (Stopped (WrongType n)) (unary_exec n not_op v p)
+not_a_truth : (n : ℕ) {ws : List ℕ} {t q : ℕ} {v : Symbolic} (p : Path) → (t ≡ 1 → ⊥) → Means ws t q v → Yields ws (Err (WrongType n)) (unary_exec n not_op v p)
 unfolding unary_exec
 not_a_truth n p d (word_row l r) = stopping
 not_a_truth n p d (truth_row l r) = absurd (d refl)
 not_a_truth n p d (reference_place e) = stopping
 
 a_truth_lem : (n : ℕ) {ws left : List ℕ} {r q : ℕ} {v : Symbolic} {p : Path} → Space ws 1 → r ≡ count_in ws → left ≡ pushed ws of_negation q 0 → PathIn ws p → Means ws 1 q v
-    → Yields left (Gave 1 r) (unary_exec n not_op v p)
+    → Yields left (Ok (1, r)) (unary_exec n not_op v p)
 unfolding unary_exec
 a_truth_lem n s er e h (truth_row l f) = rw (er, e) (truth-yields (made-negation s h.distinct 0 f l) h)
 
 module _ (n t q : ℕ) {ws : List ℕ} where
-  pub negation-wrong : (t ≡ 1 → ⊥) → One (unary_form not_op) n t q ws (Stopped (WrongType n)) ws
+  pub negation-wrong : (t ≡ 1 → ⊥) → One (unary_form not_op) n t q ws (Err (WrongType n)) ws
   unfolding one_exec one_gives unary_gives
   negation-wrong d = record { ruled = ruled-refl ws; yields = λ v p m h. not_a_truth n p d m; exactly = rw (ne_eqb t 1 d) refl }
 
   pub negation-made : t ≡ 1 → Room ws 1 → {left : List ℕ} {r : ℕ} → r ≡ count_in ws → left ≡ pushed ws of_negation q 0
-      → One (unary_form not_op) n t q ws (Gave 1 r) left
+      → One (unary_form not_op) n t q ws (Ok (1, r)) left
   unfolding one_exec one_gives unary_gives
   negation-made z s er e =
       record {
@@ -148,7 +147,7 @@ module _ (n t q : ℕ) {ws : List ℕ} where
 -- ---- two operands
 
 no_word : (n : ℕ) {ws : List ℕ} {t q u s : ℕ} {v w : Symbolic} (p : Path) → (t ≡ 0 → u ≡ 0 → ⊥) → Means ws t q v → Means ws u s w
-    → Yields ws (Stopped (WrongType n)) (binary_exec n add_op v w p)
+    → Yields ws (Err (WrongType n)) (binary_exec n add_op v w p)
 unfolding binary_exec
 no_word n p d (word_row l r) (word_row k s) = absurd (d refl refl)
 no_word n p d (word_row l r) (truth_row k s) = stopping
@@ -157,7 +156,7 @@ no_word n p d (truth_row l r) m = stopping
 no_word n p d (reference_place e) m = stopping
 
 no_truth : (n : ℕ) {ws : List ℕ} {t q u s : ℕ} {v w : Symbolic} (p : Path) → (t ≡ 1 → u ≡ 1 → ⊥) → Means ws t q v → Means ws u s w
-    → Yields ws (Stopped (WrongType n)) (binary_exec n and_op v w p)
+    → Yields ws (Err (WrongType n)) (binary_exec n and_op v w p)
 unfolding binary_exec
 no_truth n p d (word_row l r) m = stopping
 no_truth n p d (truth_row l r) (word_row k s) = stopping
@@ -166,33 +165,33 @@ no_truth n p d (truth_row l r) (reference_place e) = stopping
 no_truth n p d (reference_place e) m = stopping
 
 two-words : (n : ℕ) {ws left : List ℕ} {r q s : ℕ} {v w : Symbolic} {p : Path} → Space ws 1 → r ≡ count_in ws → left ≡ pushed ws of_sum q s → PathIn ws p
-    → Means ws 0 q v → Means ws 0 s w → Yields left (Gave 0 r) (binary_exec n add_op v w p)
+    → Means ws 0 q v → Means ws 0 s w → Yields left (Ok (0, r)) (binary_exec n add_op v w p)
 unfolding binary_exec
 two-words n x er e h (word_row l f) (word_row k g) = rw (er, e) (word-yields (made_sum x h.distinct f l g k) h)
 
 two-truths : (n : ℕ) {ws left : List ℕ} {r q s : ℕ} {v w : Symbolic} {p : Path} → Space ws 1 → r ≡ count_in ws → left ≡ pushed ws of_conjunction q s → PathIn ws p
-    → Means ws 1 q v → Means ws 1 s w → Yields left (Gave 1 r) (binary_exec n and_op v w p)
+    → Means ws 1 q v → Means ws 1 s w → Yields left (Ok (1, r)) (binary_exec n and_op v w p)
 unfolding binary_exec
 two-truths n x er e h (truth_row l f) (truth_row k g) = rw (er, e) (truth-yields (made-conjunction x h.distinct f l g k) h)
 
 same-truths : (n : ℕ) {ws left : List ℕ} {r q s : ℕ} {v w : Symbolic} {p : Path} → Space ws 1 → r ≡ count_in ws → left ≡ pushed ws of_equality q s → PathIn ws p
-    → Means ws 1 q v → Means ws 1 s w → Yields left (Gave 1 r) (binary_exec n eq_op v w p)
+    → Means ws 1 q v → Means ws 1 s w → Yields left (Ok (1, r)) (binary_exec n eq_op v w p)
 unfolding binary_exec
 same-truths n x er e h (truth_row l f) (truth_row k g) = rw (er, e) (truth-yields (made-equality x h.distinct f l g k) h)
 
 same-words : (n : ℕ) {ws left : List ℕ} {r q s : ℕ} {v w : Symbolic} {p : Path} → Space ws 1 → r ≡ equal_row ws q s → left ≡ equal_left ws q s → PathIn ws p
-    → Means ws 0 q v → Means ws 0 s w → Yields left (Gave 1 r) (binary_exec n eq_op v w p)
+    → Means ws 0 q v → Means ws 0 s w → Yields left (Ok (1, r)) (binary_exec n eq_op v w p)
 unfolding binary_exec
 same-words n x er e h (word_row l f) (word_row k g) = truth-yields (made-equal x h.distinct f g l k _ _ er e) h
 
 same_references : (n : ℕ) {ws left : List ℕ} {t r q s : ℕ} {v w : Symbolic} {p : Path} → Space ws 1 → r ≡ references_row ws q s → left ≡ references_left ws q s
-    → PathIn ws p → Refers t q v → Refers t s w → Yields left (Gave 1 r) (binary_exec n eq_op v w p)
+    → PathIn ws p → Refers t q v → Refers t s w → Yields left (Ok (1, r)) (binary_exec n eq_op v w p)
 unfolding binary_exec
 same_references n {t = t} x er e h (refers {o = o} {c = c} {s = a} f) (refers {o = u} {s = b} g) =
     rw (eq-eqb c c refl) (truth-yields (made-references x h.distinct o a u b _ _ (rw (f, g) at er) (rw (f, g) at e)) h)
 
 other-types : (n : ℕ) {ws : List ℕ} {t q u s : ℕ} {v w : Symbolic} (p : Path) → (t ≡ u → ⊥) → Means ws t q v → Means ws u s w
-    → Yields ws (Stopped (WrongType n)) (binary_exec n eq_op v w p)
+    → Yields ws (Err (WrongType n)) (binary_exec n eq_op v w p)
 unfolding binary_exec
 other-types n p d (word_row l r) (word_row k s) = absurd (d refl)
 other-types n p d (word_row l r) (truth_row k s) = stopping
@@ -214,10 +213,10 @@ references-added {ws} x d e (refers {o = o} {s = a} f) (refers {o = u} {s = b} g
     (made-references x d o a u b (references_row ws (reference_at o a) (reference_at u b)) _ refl (rw (f, g) at e)).added
 
 -- one of the two is of another type
-not-both : (k n t u : ℕ) (ws : List ℕ) (o : Outcome) → (t ≡ k → u ≡ k → ⊥) → both_of k n t u ws o ≡ gives (Stopped (WrongType n)) ws
+not-both : (k n t u : ℕ) (ws : List ℕ) (o : Outcome) → (t ≡ k → u ≡ k → ⊥) → both_of k n t u ws o ≡ gives (Err (WrongType n)) ws
 not-both k n t u ws o d = by (eqb t k) refl (eqb u k) refl
   where
-    by : (a : Bool) → eqb t k ≡ a → (b : Bool) → eqb u k ≡ b → both_of k n t u ws o ≡ gives (Stopped (WrongType n)) ws
+    by : (a : Bool) → eqb t k ≡ a → (b : Bool) → eqb u k ≡ b → both_of k n t u ws o ≡ gives (Err (WrongType n)) ws
     by true e true f = absurd (d (eqb-true t k e) (eqb-true u k f))
     by true e false f = rw (e, f) refl
     by false e b f = rw e refl
@@ -233,20 +232,20 @@ word-inside : {ws : List ℕ} {q : ℕ} {v : Symbolic} → Means ws 0 q v → q 
 word-inside (word_row l f) = l
 
 module _ (n t q u s : ℕ) {ws : List ℕ} where
-  pub sum_wrong : (t ≡ 0 → u ≡ 0 → ⊥) → Two (binary_form add_op) n t q u s ws (Stopped (WrongType n)) ws
+  sum_wrong : (t ≡ 0 → u ≡ 0 → ⊥) → Two (binary_form add_op) n t q u s ws (Err (WrongType n)) ws
   unfolding two_exec two_gives binary_gives
   sum_wrong d = record { ruled = ruled-refl ws; yields = λ v w p m k h. no_word n p d m k; exactly = sym (not-both 0 n t u ws _ d) }
 
-  pub conjunction-wrong : (t ≡ 1 → u ≡ 1 → ⊥) → Two (binary_form and_op) n t q u s ws (Stopped (WrongType n)) ws
+  conjunction-wrong : (t ≡ 1 → u ≡ 1 → ⊥) → Two (binary_form and_op) n t q u s ws (Err (WrongType n)) ws
   unfolding two_exec two_gives binary_gives
   conjunction-wrong d = record { ruled = ruled-refl ws; yields = λ v w p m k h. no_truth n p d m k; exactly = sym (not-both 1 n t u ws _ d) }
 
-  pub equality-wrong : (t ≡ u → ⊥) → Two (binary_form eq_op) n t q u s ws (Stopped (WrongType n)) ws
+  pub equality-wrong : (t ≡ u → ⊥) → Two (binary_form eq_op) n t q u s ws (Err (WrongType n)) ws
   unfolding two_exec two_gives binary_gives
   equality-wrong d = record { ruled = ruled-refl ws; yields = λ v w p m k h. other-types n p d m k; exactly = rw (ne_eqb t u d) refl }
 
   module _ {left : List ℕ} {r : ℕ} (x : Room ws 1) where
-    pub sum_made : t ≡ 0 → u ≡ 0 → r ≡ count_in ws → left ≡ pushed ws of_sum q s → Two (binary_form add_op) n t q u s ws (Gave 0 r) left
+    sum_made : t ≡ 0 → u ≡ 0 → r ≡ count_in ws → left ≡ pushed ws of_sum q s → Two (binary_form add_op) n t q u s ws (Ok (0, r)) left
     unfolding two_exec two_gives binary_gives
     sum_made a b er e =
         record {
@@ -255,7 +254,7 @@ module _ (n t q u s : ℕ) {ws : List ℕ} where
           exactly = rw (eq-eqb t 0 a, eq-eqb u 0 b, er, e) refl;
         }
 
-    pub conjunction-made : t ≡ 1 → u ≡ 1 → r ≡ count_in ws → left ≡ pushed ws of_conjunction q s → Two (binary_form and_op) n t q u s ws (Gave 1 r) left
+    conjunction-made : t ≡ 1 → u ≡ 1 → r ≡ count_in ws → left ≡ pushed ws of_conjunction q s → Two (binary_form and_op) n t q u s ws (Ok (1, r)) left
     unfolding two_exec two_gives binary_gives
     conjunction-made a b er e =
         record {
@@ -264,7 +263,7 @@ module _ (n t q u s : ℕ) {ws : List ℕ} where
           exactly = rw (eq-eqb t 1 a, eq-eqb u 1 b, er, e) refl;
         }
 
-    pub truths-equal : t ≡ 1 → t ≡ u → r ≡ count_in ws → left ≡ pushed ws of_equality q s → Two (binary_form eq_op) n t q u s ws (Gave 1 r) left
+    pub truths-equal : t ≡ 1 → t ≡ u → r ≡ count_in ws → left ≡ pushed ws of_equality q s → Two (binary_form eq_op) n t q u s ws (Ok (1, r)) left
     unfolding two_exec two_gives binary_gives equal_place equal_numbers
     truths-equal a b er e =
         record {
@@ -273,12 +272,20 @@ module _ (n t q u s : ℕ) {ws : List ℕ} where
           exactly = rw (eq-eqb t u b, a, er, e) refl;
         }
 
+  pub both_sum : {left : List ℕ} {r : Step} → Room ws 1 → OfBoth 0 of_sum n t q u s ws r left → Two (binary_form add_op) n t q u s ws r left
+  both_sum x (both-wrong d) = sum_wrong d
+  both_sum x (both-made a b er e) = sum_made x a b er e
+
+  pub both_conjunction : {left : List ℕ} {r : Step} → Room ws 1 → OfBoth 1 of_conjunction n t q u s ws r left → Two (binary_form and_op) n t q u s ws r left
+  both_conjunction x (both-wrong d) = conjunction-wrong d
+  both_conjunction x (both-made a b er e) = conjunction-made x a b er e
+
   pub words_required : Operable ws t q u s → t ≡ 0 → t ≡ u → Words ws q s
   words_required x a b =
       words-asked (room-space x.room) (word-inside (rw a at x.first.means)) (word-inside (rw (sym b ∙ a) at x.second.means))
 
   module _ {left : List ℕ} {r : ℕ} (x : Operable ws t q u s) where
-    pub words-equal : t ≡ 0 → t ≡ u → r ≡ equal_row ws q s → left ≡ equal_left ws q s → Two (binary_form eq_op) n t q u s ws (Gave 1 r) left
+    pub words-equal : t ≡ 0 → t ≡ u → r ≡ equal_row ws q s → left ≡ equal_left ws q s → Two (binary_form eq_op) n t q u s ws (Ok (1, r)) left
     unfolding two_exec two_gives binary_gives equal_place equal_numbers
     words-equal a b er e =
         record {
@@ -289,7 +296,7 @@ module _ (n t q u s : ℕ) {ws : List ℕ} where
           exactly = rw (eq-eqb t u b, a, er, e) refl;
         }
 
-    pub references-equal : 2 ≤ t → t ≡ u → r ≡ references_row ws q s → left ≡ references_left ws q s → Two (binary_form eq_op) n t q u s ws (Gave 1 r) left
+    pub references-equal : 2 ≤ t → t ≡ u → r ≡ references_row ws q s → left ≡ references_left ws q s → Two (binary_form eq_op) n t q u s ws (Ok (1, r)) left
     unfolding two_exec two_gives binary_gives
     references-equal a b er e =
         record {
@@ -302,7 +309,7 @@ module _ (n t q u s : ℕ) {ws : List ℕ} where
 
 -- ---- all kinds but some
 
-pub one_other : (n t q k : ℕ) {ws : List ℕ} → NoneOf k unary_forms → One (form_of k) n t q ws (Gave t q) ws
+pub one_other : (n t q k : ℕ) {ws : List ℕ} → NoneOf k unary_forms → One (form_of k) n t q ws (Ok (t, q)) ws
 unfolding one_exec one_gives rows
 one_other n t q k {ws} d =
     record {
@@ -311,7 +318,7 @@ one_other n t q k {ws} d =
       exactly = rw (other-form (λ f. one_gives f n t q ws) _ k refl d) refl;
     }
 
-pub two-other : (n t q u s k : ℕ) {ws : List ℕ} → NoneOf k binary_forms → Two (form_of k) n t q u s ws (Gave u s) ws
+pub two-other : (n t q u s k : ℕ) {ws : List ℕ} → NoneOf k binary_forms → Two (form_of k) n t q u s ws (Ok (u, s)) ws
 unfolding two_exec two_gives rows
 two-other n t q u s k {ws} d =
     record {

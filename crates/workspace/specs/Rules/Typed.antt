@@ -1,13 +1,11 @@
 -- From one step of the typed checker to the next: what is known once an operand has its type or is refused, and how the steps of a node make up its check.
 -- Assumes nothing.
-use Rattle.std.specs.Prelude.{Bool, true, false, List, ◌≡◌, refl, ℕ, suc, ◌≤◌, ◌<◌, eqb}
+use Rattle.std.specs.Prelude.{Bool, true, false, List, ◌≡◌, refl, ℕ, suc, ◌≤◌, ◌<◌, eqb, Err, Ok}
 use Rattle.std.proofs.Common.{sym, ap, ◌∙◌, arith, eqb-true}
 use Rattle.std.proofs.lemmas.Bool.{eqb-false}
 use Rattle.script.specs.Code.Forms.{form_of, kind-operands, leaf_kinds_lem, node_in, tree_in, formed_less, bound_on}
 use Rattle.script.specs.Rows.{if_form, sym_form, node_operands}
 use Rattle.script.specs.Rows.Kinds.{kind_for, leaf_kinds}
-use Rattle.script.specs.declared.Checked.{Checked}
-use Rattle.script.specs.declared.Checked.TheVariants.{Accepted, Refused}
 use Rattle.script.specs.declared.Refusal.{Refusal}
 use Rattle.rules.specs.Checking.{check, exec}
 use Rattle.rules.specs.Paths.{start, leaves}
@@ -19,6 +17,7 @@ use Rattle.workspace.specs.Rules.{leaf_type, one_type, two_type, rest_type, Chec
 use Rattle.workspace.specs.Rules.Nodes.{shaped, first_of, rest_of, several_of, leaf-check, sym-check, one_check, rest-check, branches_of_lem, if_rest-check, if_bound, two-rest-check}
 use Rattle.workspace.specs.State.{types_on}
 use Rattle.workspace.specs.State.Laws.{types-kept, types-length}
+use Rattle.script.specs.Answers.Named.{Checked}
 
 -- ---- what changes aside
 
@@ -82,8 +81,8 @@ module _ {xs ws : List ℕ} {depth n : ℕ} (q : Checkable xs ws depth n) where
   -- its first operand is checked
   module _ (h : 1 ≤ node_operands (node_in xs n).kind) (limit : ℕ) {r : Checked} {left : List ℕ}
       (d : Judged (check limit (tree_in xs (node_in xs n).a) (types_on ws depth)) depth ws r left) where
-    module _ {t : ℕ} (e : r ≡ Accepted t) where
-      first-is : check limit (tree_in xs (node_in xs n).a) (types_on ws depth) ≡ Accepted t
+    module _ {t : ℕ} (e : r ≡ Ok t) where
+      first-is : check limit (tree_in xs (node_in xs n).a) (types_on ws depth) ≡ Ok t
       first-is = sym d.answer ∙ e
 
       pub one_judged : node_operands (node_in xs n).kind ≡ 1 → ((node_in xs n).kind ≡ kind_for sym_form → ⊥) → {s : Checked} → s ≡ one_type (form_of (node_in xs n).kind) n t
@@ -116,14 +115,14 @@ module _ {xs ws : List ℕ} {depth n : ℕ} (q : Checkable xs ws depth n) where
           }
 
     -- it is refused
-    pub first-refused : {x : Refusal} → r ≡ Refused x → ((node_in xs n).kind ≡ kind_for sym_form → ⊥)
-        → Judged (check limit (tree_in xs n) (types_on ws depth)) depth ws (Refused x) left
+    pub first-refused : {x : Refusal} → r ≡ Err x → ((node_in xs n).kind ≡ kind_for sym_form → ⊥)
+        → Judged (check limit (tree_in xs n) (types_on ws depth)) depth ws (Err x) left
     first-refused {x} e k = record { answer = sym (go (eqb (node_operands (node_in xs n).kind) 1) refl); aside = d.aside }
       where
-        here : check limit (tree_in xs (node_in xs n).a) (types_on ws depth) ≡ Refused x
+        here : check limit (tree_in xs (node_in xs n).a) (types_on ws depth) ≡ Err x
         here = sym d.answer ∙ e
 
-        go : (b : Bool) → eqb (node_operands (node_in xs n).kind) 1 ≡ b → check limit (tree_in xs n) (types_on ws depth) ≡ Refused x
+        go : (b : Bool) → eqb (node_operands (node_in xs n).kind) 1 ≡ b → check limit (tree_in xs n) (types_on ws depth) ≡ Err x
         go true p = one_check (shaped limit q.formed) (eqb-true _ 1 p) k (types_on ws depth) ∙ rw here
         go false p =
             rest-check (shaped limit q.formed) (let z = eqb-false (node_operands (node_in xs n).kind) 1 p in omega arith) (types_on ws depth) ∙ rw here
@@ -179,19 +178,19 @@ module _ {xs ws : List ℕ} {depth n : ℕ} (q : CheckableRest xs ws depth n) wh
             ∙ ap (λ (c : Checked). and_then c λ u. and_then (check limit (tree_in xs (node_in xs n).c) (types_on ws depth)) (if_type n t u))
             (ap (check limit (tree_in xs (node_in xs n).b)) (sym (if_bound (node_in xs n) h t (types_on ws depth))) ∙ second_is e)
 
-        module _ {u : ℕ} (e : r ≡ Accepted u) {s : Checked} {left₂ : List ℕ}
+        module _ {u : ℕ} (e : r ≡ Ok u) {s : Checked} {left₂ : List ℕ}
             (k : Judged (check limit (tree_in xs (node_in xs n).c) (types_on left depth)) depth left s left₂) where
           third_is : {c : Checked} → s ≡ c → check limit (tree_in xs (node_in xs n).c) (types_on ws depth) ≡ c
           third_is f = rw (sym (aside-types second-aside)) (sym k.answer ∙ f)
 
-          pub if_judged : {v : ℕ} → s ≡ Accepted v → {w : Checked} → w ≡ if_type n t u v → Judged rest depth ws w left₂
+          pub if_judged : {v : ℕ} → s ≡ Ok v → {w : Checked} → w ≡ if_type n t u v → Judged rest depth ws w left₂
           if_judged f g =
               record {
                 answer = g ∙ sym (rest_if e ∙ rw (third_is f));
                 aside = aside_trans (omega arith) second-aside k.aside;
               }
 
-          pub third_refused : {x : Refusal} → s ≡ Refused x → Judged rest depth ws (Refused x) left₂
+          pub third_refused : {x : Refusal} → s ≡ Err x → Judged rest depth ws (Err x) left₂
           third_refused f =
               record {
                 answer = sym (rest_if e ∙ rw (third_is f));
@@ -199,7 +198,7 @@ module _ {xs ws : List ℕ} {depth n : ℕ} (q : CheckableRest xs ws depth n) wh
               }
 
       -- another form
-      pub two_judged : ((node_in xs n).kind ≡ kind_for if_form → ⊥) → {u : ℕ} → r ≡ Accepted u → {w : Checked} → w ≡ two_type (form_of (node_in xs n).kind) n t u
+      pub two_judged : ((node_in xs n).kind ≡ kind_for if_form → ⊥) → {u : ℕ} → r ≡ Ok u → {w : Checked} → w ≡ two_type (form_of (node_in xs n).kind) n t u
           → Judged rest depth ws w left
       two_judged h e g =
           record {
@@ -209,10 +208,10 @@ module _ {xs ws : List ℕ} {depth n : ℕ} (q : CheckableRest xs ws depth n) wh
             aside = second-aside;
           }
 
-      pub second-refused : {x : Refusal} → r ≡ Refused x → Judged rest depth ws (Refused x) left
+      pub second-refused : {x : Refusal} → r ≡ Err x → Judged rest depth ws (Err x) left
       second-refused {x} e = record { answer = sym (go (eqb (node_in xs n).kind (kind_for if_form)) refl); aside = second-aside }
         where
-          go : (b : Bool) → eqb (node_in xs n).kind (kind_for if_form) ≡ b → rest ≡ Refused x
+          go : (b : Bool) → eqb (node_in xs n).kind (kind_for if_form) ≡ b → rest ≡ Err x
           go true p = rest_if (eqb-true _ (kind_for if_form) p) e
           go false p =
               two-rest-check (eqb-false _ (kind_for if_form) p) (several_of (shaped limit q.formed) q.several) (tree_in xs (node_in xs n).b) (tree_in xs (node_in xs n).c) t (types_on ws depth)

@@ -1,5 +1,5 @@
 -- The type rules as the code tests for them, and what is said of all kinds but some. Assumes nothing.
-use Rattle.std.specs.Prelude.{List, [], ◌∷◌, ◌++◌, ◌≡◌, eqb, length, set}
+use Rattle.std.specs.Prelude.{List, [], ◌∷◌, ◌++◌, ◌≡◌, eqb, length, set, Err, Ok}
 use Rattle.std.proofs.Math.Path.{refl, ap}
 use Rattle.std.proofs.Common.{sym, ◌∙◌}
 use Prim.Native.Nat.{ℕ, zero, suc, ◌+◌, ◌*◌, ◌-◌, ◌≤◌, ◌<◌}
@@ -13,8 +13,6 @@ use Rattle.script.specs.Rows.{int_form, var_form, let_form, rows, not_op, ref_op
 use Rattle.script.specs.Rows.Kinds.{kind_for}
 use Rattle.script.specs.Rows.Laws.{NoneOf, none_left, but, unary_forms, binary_forms}
 use Rattle.script.specs.Tests.{pick}
-use Rattle.script.specs.declared.Checked.{Checked}
-use Rattle.script.specs.declared.Checked.TheVariants.{Accepted, Refused}
 use Rattle.script.specs.declared.Node.{Node}
 use Rattle.script.specs.declared.Refusal.TheVariants.{TooManyReferences}
 use Rattle.rules.specs.TypedRules.{wrong, unary_type, binary_type, if_type, truth_type, word_type}
@@ -23,11 +21,12 @@ use Rattle.workspace.specs.Rules.{leaf_type, one_type, two_type, BoundTypes}
 use Rattle.workspace.specs.Rules.Typed.{aside-refl}
 use Rattle.workspace.specs.State.{types_on, deepest}
 use Rattle.workspace.specs.State.Laws.{types-kept}
+use Rattle.script.specs.Answers.Named.{Checked}
 
 -- ---- the rules of operators
 
 module _ (n : ℕ) where
-  pub not_right : (t : ℕ) → t ≡ 1 → Accepted 1 ≡ unary_type n not_op t
+  pub not_right : (t : ℕ) → t ≡ 1 → Ok 1 ≡ unary_type n not_op t
   unfolding unary_type
   not_right t e = rw e
 
@@ -37,15 +36,15 @@ module _ (n : ℕ) where
   not-wrong (suc zero) d = absurd (d refl)
   not-wrong (suc (suc t)) d = refl
 
-  pub ref-right : (t : ℕ) → t < deepest → Accepted (t + 2) ≡ unary_type n ref_op t
+  pub ref-right : (t : ℕ) → t < deepest → Ok (t + 2) ≡ unary_type n ref_op t
   unfolding unary_type
   ref-right t l = let e : t + 2 ≡ suc (suc t) = omega arith in rw (e, le-leb (suc (suc t)) type_limit (omega arith)) refl
 
-  pub ref-wrong : (t : ℕ) → deepest ≤ t → Refused (TooManyReferences n) ≡ unary_type n ref_op t
+  pub ref-wrong : (t : ℕ) → deepest ≤ t → Err (TooManyReferences n) ≡ unary_type n ref_op t
   unfolding unary_type
   ref-wrong t l = rw (lt-leb (suc (suc t)) type_limit (omega arith)) refl
 
-  pub get_right : (t : ℕ) → 2 ≤ t → Accepted (t - 2) ≡ unary_type n get_op t
+  pub get_right : (t : ℕ) → 2 ≤ t → Ok (t - 2) ≡ unary_type n get_op t
   unfolding unary_type
   get_right zero l = absurd (omega arith)
   get_right (suc zero) l = absurd (omega arith)
@@ -67,15 +66,15 @@ module _ (n : ℕ) where
   truth_test (suc zero) other k = refl
   truth_test (suc (suc t)) other k = rw (ne_eqb (suc (suc t)) 1 λ e. omega arith) refl
 
-  pub add_both : (t u : ℕ) → pick (eqb t 0) (pick (eqb u 0) (Accepted 0) (wrong n)) (wrong n) ≡ binary_type n add_op t u
+  pub add_both : (t u : ℕ) → pick (eqb t 0) (pick (eqb u 0) (Ok 0) (wrong n)) (wrong n) ≡ binary_type n add_op t u
   unfolding binary_type
-  add_both t u = word_test t (wrong n) (pick (eqb u 0) (Accepted 0) (wrong n)) ∙ ap (word_type t (wrong n)) (word_test u (wrong n) (Accepted 0))
+  add_both t u = word_test t (wrong n) (pick (eqb u 0) (Ok 0) (wrong n)) ∙ ap (word_type t (wrong n)) (word_test u (wrong n) (Ok 0))
 
-  pub and_both : (t u : ℕ) → pick (eqb t 1) (pick (eqb u 1) (Accepted 1) (wrong n)) (wrong n) ≡ binary_type n and_op t u
+  pub and_both : (t u : ℕ) → pick (eqb t 1) (pick (eqb u 1) (Ok 1) (wrong n)) (wrong n) ≡ binary_type n and_op t u
   unfolding binary_type
-  and_both t u = truth_test t (wrong n) (pick (eqb u 1) (Accepted 1) (wrong n)) ∙ ap (truth_type t (wrong n)) (truth_test u (wrong n) (Accepted 1))
+  and_both t u = truth_test t (wrong n) (pick (eqb u 1) (Ok 1) (wrong n)) ∙ ap (truth_type t (wrong n)) (truth_test u (wrong n) (Ok 1))
 
-  pub eq_right : (t u : ℕ) → t ≡ u → Accepted 1 ≡ binary_type n eq_op t u
+  pub eq_right : (t u : ℕ) → t ≡ u → Ok 1 ≡ binary_type n eq_op t u
   unfolding binary_type
   eq_right t u e = rw (eq-eqb t u e) refl
 
@@ -83,7 +82,7 @@ module _ (n : ℕ) where
   unfolding binary_type
   eq_wrong t u d = rw (ne_eqb t u d) refl
 
-  pub set-right : (t u : ℕ) → 2 ≤ t → t - 2 ≡ u → Accepted u ≡ binary_type n set_op t u
+  pub set-right : (t u : ℕ) → 2 ≤ t → t - 2 ≡ u → Ok u ≡ binary_type n set_op t u
   unfolding binary_type
   set-right zero u l e = absurd (omega arith)
   set-right (suc zero) u l e = absurd (omega arith)
@@ -101,7 +100,7 @@ module _ (n : ℕ) where
   set_no_reference (suc zero) u l = refl
   set_no_reference (suc (suc t)) u l = absurd (omega arith)
 
-  pub if_right : (t u v : ℕ) → t ≡ 1 → u ≡ v → Accepted u ≡ if_type n t u v
+  pub if_right : (t u v : ℕ) → t ≡ 1 → u ≡ v → Ok u ≡ if_type n t u v
   unfolding if_type
   if_right t u v e f = rw (e, eq-eqb u v f) refl
 
@@ -117,15 +116,15 @@ module _ (n : ℕ) where
 
 -- ---- all kinds but some
 
-pub leaf-type-other : (n : ℕ) (m : Node) (env : List ℕ) → NoneOf m.kind (int_form ∷ var_form ∷ []) → Accepted 1 ≡ leaf_type (form_of m.kind) n m env
+pub leaf-type-other : (n : ℕ) (m : Node) (env : List ℕ) → NoneOf m.kind (int_form ∷ var_form ∷ []) → Ok 1 ≡ leaf_type (form_of m.kind) n m env
 unfolding leaf_type rows
 leaf-type-other n m env d = sym (other-form (λ f. leaf_type f n m env) _ m.kind refl d)
 
-pub one_type-other : (n t k : ℕ) → NoneOf k unary_forms → Accepted t ≡ one_type (form_of k) n t
+pub one_type-other : (n t k : ℕ) → NoneOf k unary_forms → Ok t ≡ one_type (form_of k) n t
 unfolding one_type rows
 one_type-other n t k d = sym (other-form (λ f. one_type f n t) _ k refl d)
 
-pub two-type-other : (n t u k : ℕ) → NoneOf k binary_forms → Accepted u ≡ two_type (form_of k) n t u
+pub two-type-other : (n t u k : ℕ) → NoneOf k binary_forms → Ok u ≡ two_type (form_of k) n t u
 unfolding two_type rows
 two-type-other n t u k d = sym (other-form (λ f. two_type f n t u) _ k refl d)
 

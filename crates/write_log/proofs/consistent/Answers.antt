@@ -1,17 +1,10 @@
--- `log::consistent` meets its contract. The loop's invariant: the writes from i on are settled. Assumes nothing.
+-- `write_log::consistent` meets its contract. The loop's invariant: the writes from i on are settled. Assumes nothing.
 use mathlib.Core.Path.{sym, ◌∙◌}
 use Prim.Native.Nat.{◌-◌}
 use native.Mathlib.Omega.{arith}
-use Rattle.workspace.specs.Log.Loops.{settling_start, settling_wrong, settling_on, settling_end}
-use Rattle.workspace.specs.Places.{start_at}
+use Rattle.workspace.specs.Log.Loops.{settling_wrong, settling_on, settling_end}
 use Rattle.workspace.specs.State.{writes_in, start_in}
 use Rattle.write_log.proofs.consistent.Goals as goal
-
-pub overflow_cast-first : goal.overflow_cast-first
-overflow_cast-first c = omega (arith, c.shared_slice_known-2-1.given start_at)
-
-pub loop-i-init : goal.loop-i-init
-loop-i-init c = let s = c.args.space.now in settling_start s (start_in s) (writes_in s)
 
 pub returns-then-not-settled : goal.returns-then-not-settled
 returns-then-not-settled c =

@@ -4,6 +4,3 @@ use Rattle.write_log.proofs.consistent.Given as goal
 
 abbrev pub invariant-loop-i : goal.invariant-loop-i
 invariant-loop-i l = Settling l.space (start_in l.space) (writes_in l.space) l.i
-
-abbrev pub decreases-loop-i : goal.decreases-loop-i
-decreases-loop-i l = l.i

@@ -1,17 +1,10 @@
--- `log::lookup` meets its contract. The loop's invariant: the writes from i on are passed over. Assumes nothing.
+-- `write_log::lookup` meets its contract. The loop's invariant: the writes from i on are passed over. Assumes nothing.
 use mathlib.Core.Path.{sym, ◌∙◌}
 use Prim.Native.Nat.{◌-◌}
 use native.Mathlib.Omega.{arith}
-use Rattle.workspace.specs.Log.Loops.{looking-start, looking-found, looking-none, looking_on, looking_end}
-use Rattle.workspace.specs.Places.{start_at}
+use Rattle.workspace.specs.Log.Loops.{looking-found, looking-none, looking_on, looking_end}
 use Rattle.workspace.specs.State.{writes_in, start_in}
 use Rattle.write_log.proofs.lookup.Goals as goal
-
-pub overflow_cast-first : goal.overflow_cast-first
-overflow_cast-first c = omega (arith, c.shared_slice_known-2-1.given start_at)
-
-pub loop-i-init : goal.loop-i-init
-loop-i-init c = let a = c.args in looking-start a.space.now (start_in a.space.now) a.place (writes_in a.space.now)
 
 pub returns-then-symbol_of : goal.returns-then-symbol_of
 returns-then-symbol_of c =

@@ -1,10 +1,7 @@
--- `log::mended` meets its contract. The loop's invariant: no write passed mends. Assumes nothing.
+-- `write_log::mended` meets its contract. The loop's invariant: no write passed mends. Assumes nothing.
 use mathlib.Core.Path.{sym, ◌∙◌}
-use Rattle.workspace.specs.Log.Loops.{mending_start, mending_found, mending_on, mending_end}
+use Rattle.workspace.specs.Log.Loops.{mending_found, mending_on, mending_end}
 use Rattle.write_log.proofs.mended.Goals as goal
-
-pub loop-j-init : goal.loop-j-init
-loop-j-init c = let a = c.args in mending_start a.space.now a.symbol a.i _ c.requires.i_bound
 
 pub returns-then-mends : goal.returns-then-mends
 returns-then-mends c =

@@ -10,7 +10,7 @@ use Rattle.text.specs.Writing.{node_text}
 use Rattle.writer.proofs.put_nodes.Goals as goal
 
 pub loop-i-init : goal.loop-i-init
-loop-i-init c = (omega arith, remains_all)
+loop-i-init c = remains_all
 
 pub node_at-n-requires : goal.node_at-n-requires
 node_at-n-requires c = omega arith
@@ -19,28 +19,22 @@ pub put_node_line-at-requires : goal.put_node_line-at-requires
 put_node_line-at-requires c =
     let ns = nodes_in c.args.table.now in
     let l = c.loop-i in
-    let r = rw (nodes-next ns c.args.count l.i (omega arith) (nodes_in-holds _ _ c.requires.count_in_bounds)) at l.invariant.1 in
+    let r = rw (nodes-next ns c.args.count l.i (omega arith) (nodes_in-holds _ _ c.requires.count_in_bounds)) at l.invariant in
     let m = remains_room (node_text (node_at ns l.i)) _ r in
     rw c.node_at-n.ensures record {
       kind_lt_kind_count = c.requires.by_index l.i (omega arith);
       n_bound = omega (arith, c.requires.table_bound);
     }
 
-pub overflow_add-i : goal.overflow_add-i
-overflow_add-i c = omega arith
-
-pub loop-i-smaller : goal.loop-i-smaller
-loop-i-smaller c = omega arith
-
 pub loop-i-preserved : goal.loop-i-preserved
 loop-i-preserved c =
     let ns = nodes_in c.args.table.now in
     let l = c.loop-i in
-    let r = rw (nodes-next ns c.args.count l.i (omega arith) (nodes_in-holds _ _ c.requires.count_in_bounds)) at l.invariant.1 in
-    (omega arith, remains_less r (rw c.node_at-n.ensures at c.put_node_line-at.ensures))
+    let r = rw (nodes-next ns c.args.count l.i (omega arith) (nodes_in-holds _ _ c.requires.count_in_bounds)) at l.invariant in
+    remains_less r (rw c.node_at-n.ensures at c.put_node_line-at.ensures)
 
 pub returns : goal.returns
 returns c =
     let l = c.loop-i in
     let e : l.i ≡ c.args.count = omega arith in
-    remains_none (rw (e, nodes_end (nodes_in c.args.table.now) c.args.count (nodes_in-holds _ _ c.requires.count_in_bounds)) at l.invariant.1)
+    remains_none (rw (e, nodes_end (nodes_in c.args.table.now) c.args.count (nodes_in-holds _ _ c.requires.count_in_bounds)) at l.invariant)

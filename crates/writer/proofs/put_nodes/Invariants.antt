@@ -6,7 +6,4 @@ use Rattle.text.specs.Writing.{nodes_text}
 use Rattle.writer.proofs.put_nodes.Given as goal
 
 abbrev pub invariant-loop-i : goal.invariant-loop-i
-invariant-loop-i l = (l.i ≤ l.count) × Remains (nodes_text (take l.count (nodes_in l.table))) l.from l.initial.out (nodes_text (drop l.i (take l.count (nodes_in l.table)))) l.at l.out
-
-abbrev pub decreases-loop-i : goal.decreases-loop-i
-decreases-loop-i l = l.count - l.i
+invariant-loop-i l = Remains (nodes_text (take l.count (nodes_in l.table))) l.from l.initial.out (nodes_text (drop l.i (take l.count (nodes_in l.table)))) l.at l.out

@@ -14,12 +14,6 @@ returns-then-not-valid c =
     let v = c.valid in
     passed_bad v.ensures c.if-not-valid.true c.loop-i-test.true c.loop-i.invariant
 
-pub overflow_add-i : goal.overflow_add-i
-overflow_add-i c = omega arith
-
-pub loop-i-smaller : goal.loop-i-smaller
-loop-i-smaller c = omega arith
-
 pub loop-i-preserved : goal.loop-i-preserved
 loop-i-preserved c =
     let v = c.valid in

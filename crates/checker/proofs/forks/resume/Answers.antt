@@ -41,8 +41,8 @@ bounds-frames-at c =
     let i = rewound_restorable c.requires c.rewind.ensures in
     omega (arith, i.inside, i.framed)
 
-pub without_guard-requires : goal.without_guard-requires
-without_guard-requires c =
+pub assume-requires : goal.assume-requires
+assume-requires c =
     record {
       space = guard-space c.requires c.rewind.ensures c.restore.ensures;
       space_size_in_bounds = guard-lent c.requires c.rewind.ensures c.restore.ensures;
@@ -69,4 +69,4 @@ node_at-requires c =
 pub returns : goal.returns
 returns c =
     rw c.node_at.ensures
-    (resumed c.requires c.rewind.ensures c.restore.ensures c.without_guard.ensures)
+    (resumed c.requires c.rewind.ensures c.restore.ensures c.assume.ensures)

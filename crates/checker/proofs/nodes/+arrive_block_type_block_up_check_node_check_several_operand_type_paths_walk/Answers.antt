@@ -3,6 +3,7 @@
 -- d what that one came to, or the way down to the inner node, w what holds at a turn of the loop, b what was bound, or what a block came to. Assumes nothing.
 use mathlib.Core.Path.{refl, sym, ◌∙◌}
 use native.Mathlib.Omega.{arith}
+use Rattle.script.specs.Answers.Named.{handed_on}
 use Rattle.script.specs.Code.Forms.{has_one, has_more, some-operand}
 use Rattle.workspace.specs.Frames.Laws.{waits_none}
 use Rattle.workspace.specs.Paths.Empty.{blank}
@@ -52,20 +53,20 @@ block_type-note-requires t c =
       space_size_in_bounds = judged_lent s.checkable s.noting j;
     }
 
-pub block_type-returns-in-Typed : goal.block_type-returns-in-Typed
-block_type-returns-in-Typed t c =
+pub block_type-returns-in-Some : goal.block_type-returns-in-Some
+block_type-returns-in-Some t c =
     let s = c.requires in
-    block_recalled s.checkable s.noting c.recall.ensures c.in-Typed.is
+    block_recalled s.checkable s.noting c.recall.ensures c.in-Some.is
 
-pub block_type-returns-in-Refused : goal.block_type-returns-in-Refused
-block_type-returns-in-Refused t c =
+pub block_type-returns-in_err-t : goal.block_type-returns-in_err-t
+block_type-returns-in_err-t t c =
     let s = c.requires in
-    block_judged s.checkable s.noting c.check_node.ensures c.in-Refused.is
+    rw (handed_on c.from_residual.result c.from_residual.ensures.1) (block_judged s.checkable s.noting c.check_node.ensures c.in_err-t.was)
 
-pub block_type-returns-in-Accepted : goal.block_type-returns-in-Accepted
-block_type-returns-in-Accepted t c =
+pub block_type-returns : goal.block_type-returns
+block_type-returns t c =
     let s = c.requires in
-    block_noted s.checkable s.noting c.check_node.ensures c.in-Accepted.is c.note.ensures
+    block_noted s.checkable s.noting c.check_node.ensures c.in_ok-t.was c.note.ensures
 
 pub block_up-node_at-a-requires : goal.block_up-node_at-a-requires
 block_up-node_at-a-requires t c = up-node c.requires.enterable c.requires.n_value
@@ -92,25 +93,25 @@ pub block_up-climb-requires : goal.block_up-climb-requires
 block_up-climb-requires t c =
     let s = c.requires in
     let b = rw c.node_at-a.ensures at c.block_type.ensures in
-    up-returnable s.enterable s.n_value b c.in-Accepted.is c.typed_result.ensures c.in-Gave.is
+    up-returnable s.enterable s.n_value b c.in_ok-t.was c.typed_result.ensures c.in_ok-u.was
 
-pub block_up-returns-in-Refused : goal.block_up-returns-in-Refused
-block_up-returns-in-Refused t c =
+pub block_up-returns-in_err-t : goal.block_up-returns-in_err-t
+block_up-returns-in_err-t t c =
     let s = c.requires in
     let b = rw c.node_at-a.ensures at c.block_type.ensures in
-    up-refused s.enterable s.n_value b c.in-Refused.is
+    rw (handed_on c.from_residual.result c.from_residual.ensures.1) (up-refused s.enterable s.n_value b c.in_err-t.was)
 
-pub block_up-returns-in-Stopped : goal.block_up-returns-in-Stopped
-block_up-returns-in-Stopped t c =
+pub block_up-returns-in_err-u : goal.block_up-returns-in_err-u
+block_up-returns-in_err-u t c =
     let s = c.requires in
     let b = rw c.node_at-a.ensures at c.block_type.ensures in
-    up-stopping s.enterable s.n_value b c.in-Accepted.is c.typed_result.ensures c.in-Stopped.is
+    rw (handed_on c.from_residual-in_err-u.result c.from_residual-in_err-u.ensures.1) (up-stopping s.enterable s.n_value b c.in_ok-t.was c.typed_result.ensures c.in_err-u.was)
 
-pub block_up-returns-in-Gave : goal.block_up-returns-in-Gave
-block_up-returns-in-Gave t c =
+pub block_up-returns : goal.block_up-returns
+block_up-returns t c =
     let s = c.requires in
     let b = rw c.node_at-a.ensures at c.block_type.ensures in
-    up_climbing s.enterable s.n_value b c.in-Accepted.is c.typed_result.ensures c.in-Gave.is c.climb.ensures
+    up_climbing s.enterable s.n_value b c.in_ok-t.was c.typed_result.ensures c.in_ok-u.was c.climb.ensures
 
 pub check_node-node_at-node-requires : goal.check_node-node_at-node-requires
 check_node-node_at-node-requires t c = omega (arith, c.requires.formed.room)
@@ -149,22 +150,22 @@ check_node-check_node-requires t c =
     let h = some-operand q.formed (rw node at c.if-node-lt-LEAVES.false) in
     rw node (omega (arith, first-earlier q h, c.decreases), first_checkable q h)
 
-pub check_node-returns-in-Refused : goal.check_node-returns-in-Refused
-check_node-returns-in-Refused t c =
+pub check_node-returns-in_err-t : goal.check_node-returns-in_err-t
+check_node-returns-in_err-t t c =
     let q = c.requires in
     let node = c.node_at-node.ensures in
     let h = some-operand q.formed (rw node at c.if-node-lt-LEAVES.false) in
     let d = rw node at c.check_node.ensures in
-    first-refused q h _ d c.in-Refused.is (rw node at c.if-node-eq-SYM.false)
+    rw (handed_on c.from_residual.result c.from_residual.ensures.1) (first-refused q h _ d c.in_err-t.was (rw node at c.if-node-eq-SYM.false))
 
-pub check_node-returns-in-Accepted : goal.check_node-returns-in-Accepted
-check_node-returns-in-Accepted t c =
+pub check_node-returns-then-has_one : goal.check_node-returns-then-has_one
+check_node-returns-then-has_one t c =
     let q = c.requires in
     let node = c.node_at-node.ensures in
     let h = some-operand q.formed (rw node at c.if-node-lt-LEAVES.false) in
     let d = rw node at c.check_node.ensures in
     let z = has_one _ (rw node at c.has_one.ensures) c.if-has_one.true in
-    one_judged q h _ d c.in-Accepted.is z (rw node at c.if-node-eq-SYM.false) (rw node at c.one_type.ensures)
+    one_judged q h _ d c.in_ok-t.was z (rw node at c.if-node-eq-SYM.false) (rw node at c.one_type.ensures)
 
 pub check_node-check_several-requires : goal.check_node-check_several-requires
 check_node-check_several-requires t c =
@@ -196,20 +197,20 @@ check_several-bind_type-inner-requires t c =
     let h = some_of s.bound in
     let node = c.node_at-node.ensures in
     let d = rw node at c.operand_type.ensures in
-    let r = rest_checkable q h _ d c.in-Accepted.is s.bound in
+    let r = rest_checkable q h _ d c.in_ok-t.was s.bound in
     record {
       depth_lt_symbol_limit = bind-room r;
       variables_end_in_bounds = r.lent;
     }
 
-pub check_several-operand_type-requires-in-Accepted : goal.check_several-operand_type-requires-in-Accepted
-check_several-operand_type-requires-in-Accepted t c =
+pub check_several-operand_type-requires-2 : goal.check_several-operand_type-requires-2
+check_several-operand_type-requires-2 t c =
     let s = c.requires in
     let q = s.checkable in
     let h = some_of s.bound in
     let node = c.node_at-node.ensures in
     let d = rw node at c.operand_type.ensures in
-    let r = rest_checkable q h _ d c.in-Accepted.is s.bound in
+    let r = rest_checkable q h _ d c.in_ok-t.was s.bound in
     let b = rw node at c.bind_type-inner.ensures in
     rw node (omega (arith, second-earlier r, c.decreases), second_checkable r b)
 
@@ -220,73 +221,73 @@ check_several-operand_type-requires-then-node-eq-IF t c =
     let h = some_of s.bound in
     let node = c.node_at-node.ensures in
     let d = rw node at c.operand_type.ensures in
-    let r = rest_checkable q h _ d c.in-Accepted.is s.bound in
+    let r = rest_checkable q h _ d c.in_ok-t.was s.bound in
     let b = rw node at c.bind_type-inner.ensures in
-    let e = rw node at c.operand_type-in-Accepted.ensures in
+    let e = rw node at c.operand_type-2.ensures in
     let i = rw node at c.if-node-eq-IF.true in
     rw node (omega (arith, third_earlier r b _ e i, c.decreases), third_checkable r b _ e i)
 
-pub check_several-returns-in-Refused-operand_type-2 : goal.check_several-returns-in-Refused-operand_type-2
-check_several-returns-in-Refused-operand_type-2 t c =
+pub check_several-returns-in_err-v : goal.check_several-returns-in_err-v
+check_several-returns-in_err-v t c =
     let s = c.requires in
     let q = s.checkable in
     let h = some_of s.bound in
     let node = c.node_at-node.ensures in
     let d = rw node at c.operand_type.ensures in
-    let r = rest_checkable q h _ d c.in-Accepted.is s.bound in
+    let r = rest_checkable q h _ d c.in_ok-t.was s.bound in
     let b = rw node at c.bind_type-inner.ensures in
-    let e = rw node at c.operand_type-in-Accepted.ensures in
+    let e = rw node at c.operand_type-2.ensures in
     let i = rw node at c.if-node-eq-IF.true in
-    rest_judged q h _ d c.in-Accepted.is s.bound
-    (third_refused r b _ e i c.in-Accepted-operand_type.is (rw node at c.operand_type-then-node-eq-IF.ensures) c.in-Refused-operand_type-2.is)
+    rw (handed_on c.from_residual-in_err-v.result c.from_residual-in_err-v.ensures.1) (rest_judged q h _ d c.in_ok-t.was s.bound
+    (third_refused r b _ e i c.in_ok-u.was (rw node at c.operand_type-then-node-eq-IF.ensures) c.in_err-v.was))
 
-pub check_several-returns-in-Accepted-operand_type-2 : goal.check_several-returns-in-Accepted-operand_type-2
-check_several-returns-in-Accepted-operand_type-2 t c =
+pub check_several-returns-then-node-eq-IF : goal.check_several-returns-then-node-eq-IF
+check_several-returns-then-node-eq-IF t c =
     let s = c.requires in
     let q = s.checkable in
     let h = some_of s.bound in
     let node = c.node_at-node.ensures in
     let d = rw node at c.operand_type.ensures in
-    let r = rest_checkable q h _ d c.in-Accepted.is s.bound in
+    let r = rest_checkable q h _ d c.in_ok-t.was s.bound in
     let b = rw node at c.bind_type-inner.ensures in
-    let e = rw node at c.operand_type-in-Accepted.ensures in
+    let e = rw node at c.operand_type-2.ensures in
     let i = rw node at c.if-node-eq-IF.true in
-    rest_judged q h _ d c.in-Accepted.is s.bound
-    (if_judged r b _ e i c.in-Accepted-operand_type.is (rw node at c.operand_type-then-node-eq-IF.ensures) c.in-Accepted-operand_type-2.is c.if_type.ensures)
+    rest_judged q h _ d c.in_ok-t.was s.bound
+    (if_judged r b _ e i c.in_ok-u.was (rw node at c.operand_type-then-node-eq-IF.ensures) c.in_ok-v.was c.if_type.ensures)
 
-pub check_several-returns-in-Refused : goal.check_several-returns-in-Refused
-check_several-returns-in-Refused t c =
+pub check_several-returns-in_err-t : goal.check_several-returns-in_err-t
+check_several-returns-in_err-t t c =
     let s = c.requires in
     let q = s.checkable in
     let h = some_of s.bound in
     let node = c.node_at-node.ensures in
     let d = rw node at c.operand_type.ensures in
-    first-refused q h _ d c.in-Refused.is (several_no_sym s.bound)
+    rw (handed_on c.from_residual.result c.from_residual.ensures.1) (first-refused q h _ d c.in_err-t.was (several_no_sym s.bound))
 
-pub check_several-returns-in-Refused-operand_type : goal.check_several-returns-in-Refused-operand_type
-check_several-returns-in-Refused-operand_type t c =
+pub check_several-returns-in_err-u : goal.check_several-returns-in_err-u
+check_several-returns-in_err-u t c =
     let s = c.requires in
     let q = s.checkable in
     let h = some_of s.bound in
     let node = c.node_at-node.ensures in
     let d = rw node at c.operand_type.ensures in
-    let r = rest_checkable q h _ d c.in-Accepted.is s.bound in
+    let r = rest_checkable q h _ d c.in_ok-t.was s.bound in
     let b = rw node at c.bind_type-inner.ensures in
-    let e = rw node at c.operand_type-in-Accepted.ensures in
-    rest_judged q h _ d c.in-Accepted.is s.bound (second-refused r b _ e c.in-Refused-operand_type.is)
+    let e = rw node at c.operand_type-2.ensures in
+    rw (handed_on c.from_residual-in_err-u.result c.from_residual-in_err-u.ensures.1) (rest_judged q h _ d c.in_ok-t.was s.bound (second-refused r b _ e c.in_err-u.was))
 
-pub check_several-returns-else-node-eq-IF : goal.check_several-returns-else-node-eq-IF
-check_several-returns-else-node-eq-IF t c =
+pub check_several-returns : goal.check_several-returns
+check_several-returns t c =
     let s = c.requires in
     let q = s.checkable in
     let h = some_of s.bound in
     let node = c.node_at-node.ensures in
     let d = rw node at c.operand_type.ensures in
-    let r = rest_checkable q h _ d c.in-Accepted.is s.bound in
+    let r = rest_checkable q h _ d c.in_ok-t.was s.bound in
     let b = rw node at c.bind_type-inner.ensures in
-    let e = rw node at c.operand_type-in-Accepted.ensures in
-    rest_judged q h _ d c.in-Accepted.is s.bound
-    (two_judged r b _ e (rw node at c.if-node-eq-IF.false) c.in-Accepted-operand_type.is (rw node at c.two_type.ensures))
+    let e = rw node at c.operand_type-2.ensures in
+    rest_judged q h _ d c.in_ok-t.was s.bound
+    (two_judged r b _ e (rw node at c.if-node-eq-IF.false) c.in_ok-u.was (rw node at c.two_type.ensures))
 
 pub operand_type-node_at-node-requires : goal.operand_type-node_at-node-requires
 operand_type-node_at-node-requires t c = omega (arith, c.requires.formed.room)
@@ -346,72 +347,67 @@ paths-slice_bounds-walk-end-in-loop-followed t c = sym c.loop-followed.invariant
 pub paths-walk-requires : goal.paths-walk-requires
 paths-walk-requires t c = (omega (arith, c.decreases), turn_walkable c.loop-followed.invariant)
 
-pub paths-returns-in-Wrong : goal.paths-returns-in-Wrong
-paths-returns-in-Wrong t c = turn-wrong c.loop-followed.invariant c.loop-followed-test.true c.walk.ensures c.in-Wrong.is
+pub paths-returns-in_err-t : goal.paths-returns-in_err-t
+paths-returns-in_err-t t c =
+    rw (handed_on c.from_residual.result c.from_residual.ensures.1) (turn-wrong c.loop-followed.invariant c.loop-followed-test.true c.walk.ensures c.in_err-t.was)
 
 pub paths-returns-in-Last : goal.paths-returns-in-Last
-paths-returns-in-Last t c = turn_last c.loop-followed.invariant c.loop-followed-test.true c.walk.ensures c.in-Last.is
-
-pub paths-overflow_add-followed : goal.paths-overflow_add-followed
-paths-overflow_add-followed t c = omega arith
-
-pub paths-loop-followed-smaller : goal.paths-loop-followed-smaller
-paths-loop-followed-smaller t c = omega arith
+paths-returns-in-Last t c = turn_last c.loop-followed.invariant c.loop-followed-test.true c.walk.ensures (rw c.in-Last.is at c.in_ok-t.was)
 
 pub paths-loop-followed-preserved : goal.paths-loop-followed-preserved
 paths-loop-followed-preserved t c =
-    turn_more c.loop-followed.invariant c.loop-followed-test.true c.walk.ensures c.in-More.is c.walk.auto.space
+    turn_more c.loop-followed.invariant c.loop-followed-test.true c.walk.ensures (rw c.in-More.is at c.in_ok-t.was) c.walk.auto.space
     c.walk.auto.frames
 
 pub paths-returns : goal.paths-returns
 paths-returns t c = turn-none c.loop-followed.invariant c.loop-followed-test.false
 
-pub walk-loop-why-init : goal.walk-loop-why-init
-walk-loop-why-init t c = walking_start c.requires
+pub walk-loop-u-init : goal.walk-loop-u-init
+walk-loop-u-init t c = walking_start c.requires
 
 pub walk-descend-inner-requires : goal.walk-descend-inner-requires
-walk-descend-inner-requires t c = walking_descendable c.loop-why.invariant
+walk-descend-inner-requires t c = walking_descendable c.loop-u.invariant
 
 pub walk-arrive-requires : goal.walk-arrive-requires
 walk-arrive-requires t c =
-    let w = c.loop-why.invariant in
+    let w = c.loop-u.invariant in
     let d = c.descend-inner.ensures in (
       omega (arith, walking-earlier w d, c.decreases),
       (walking-enterable w d, descends_other d),
     )
 
-pub walk-shape_of-space-in-Stopped : goal.walk-shape_of-space-in-Stopped
-walk-shape_of-space-in-Stopped t c = c.arrive.auto.space ∙ c.loop-why.invariant.same
+pub walk-shape_of-space-in_err-u : goal.walk-shape_of-space-in_err-u
+walk-shape_of-space-in_err-u t c = c.arrive.auto.space ∙ c.loop-u.invariant.same
 
-pub walk-shape_of-frames-in-Stopped : goal.walk-shape_of-frames-in-Stopped
-walk-shape_of-frames-in-Stopped t c =
-    c.arrive.auto.frames ∙ c.descend-inner.auto.frames ∙ c.loop-why.invariant.framed
+pub walk-shape_of-frames-in_err-u : goal.walk-shape_of-frames-in_err-u
+walk-shape_of-frames-in_err-u t c =
+    c.arrive.auto.frames ∙ c.descend-inner.auto.frames ∙ c.loop-u.invariant.framed
 
-pub walk-returns-in-Stopped : goal.walk-returns-in-Stopped
-walk-returns-in-Stopped t c =
-    walking-stopped c.loop-why.invariant c.descend-inner.ensures c.arrive.ensures c.in-Stopped.is
+pub walk-returns-in_err-u : goal.walk-returns-in_err-u
+walk-returns-in_err-u t c =
+    rw (handed_on c.from_residual.result c.from_residual.ensures.1) (walking-stopped c.loop-u.invariant c.descend-inner.ensures c.arrive.ensures c.in_err-u.was)
 
 pub walk-path_end-requires : goal.walk-path_end-requires
 walk-path_end-requires t c =
-    walking_end c.loop-why.invariant c.descend-inner.ensures c.arrive.ensures c.in-Value.is
+    walking_end c.loop-u.invariant c.descend-inner.ensures c.arrive.ensures (rw c.in-Value.is at c.in_ok-u.was)
 
 pub walk-shape_of-space-in-Value : goal.walk-shape_of-space-in-Value
 walk-shape_of-space-in-Value t c =
-    c.path_end.auto.space ∙ c.arrive.auto.space ∙ c.loop-why.invariant.same
+    c.path_end.auto.space ∙ c.arrive.auto.space ∙ c.loop-u.invariant.same
 
 pub walk-shape_of-frames-in-Value : goal.walk-shape_of-frames-in-Value
 walk-shape_of-frames-in-Value t c =
-    c.path_end.auto.frames ∙ c.arrive.auto.frames ∙ c.descend-inner.auto.frames ∙ c.loop-why.invariant.framed
+    c.path_end.auto.frames ∙ c.arrive.auto.frames ∙ c.descend-inner.auto.frames ∙ c.loop-u.invariant.framed
 
 pub walk-returns-in-Value : goal.walk-returns-in-Value
 walk-returns-in-Value t c =
-    walking-ended c.loop-why.invariant c.descend-inner.ensures c.arrive.ensures c.in-Value.is c.path_end.ensures
+    walking-ended c.loop-u.invariant c.descend-inner.ensures c.arrive.ensures (rw c.in-Value.is at c.in_ok-u.was) c.path_end.ensures
 
-pub walk-loop-why-smaller : goal.walk-loop-why-smaller
-walk-loop-why-smaller t c =
-    walking_less c.loop-why.invariant c.descend-inner.ensures c.arrive.ensures c.in-Operand.is
+pub walk-loop-u-smaller : goal.walk-loop-u-smaller
+walk-loop-u-smaller t c =
+    walking_less c.loop-u.invariant c.descend-inner.ensures c.arrive.ensures (rw c.in-Operand.is at c.in_ok-u.was)
 
-pub walk-loop-why-preserved : goal.walk-loop-why-preserved
-walk-loop-why-preserved t c =
-    walking_on c.loop-why.invariant c.descend-inner.ensures c.arrive.ensures c.in-Operand.is c.arrive.auto.space
+pub walk-loop-u-preserved : goal.walk-loop-u-preserved
+walk-loop-u-preserved t c =
+    walking_on c.loop-u.invariant c.descend-inner.ensures c.arrive.ensures (rw c.in-Operand.is at c.in_ok-u.was) c.arrive.auto.space
     (c.arrive.auto.frames ∙ c.descend-inner.auto.frames)

@@ -23,19 +23,16 @@ abbrev pub decreases-operand_type : goal.decreases-operand_type
 decreases-operand_type l = 4 * l.m + 4
 
 abbrev pub invariant-paths-loop-followed : goal.invariant-paths-loop-followed
-invariant-paths-loop-followed l = Turn l.table l.types l.depth l.limit l.n l.a l.space l.frames l.followed l.wanted l.next
-
-abbrev pub decreases-paths-loop-followed : goal.decreases-paths-loop-followed
-decreases-paths-loop-followed l = l.limit - l.followed
+invariant-paths-loop-followed l = Turn l.table l.types l.depth l.limit l.n l.a l.space l.frames l._followed l.wanted l.next
 
 abbrev pub decreases-paths : goal.decreases-paths
 decreases-paths l = 4 * l.n + 1
 
-abbrev pub invariant-walk-loop-why : goal.invariant-walk-loop-why
-invariant-walk-loop-why l = Walking l.limit l.table l.n l.m l.initial.space l.initial.frames l.space l.frames l.next
+abbrev pub invariant-walk-loop-u : goal.invariant-walk-loop-u
+invariant-walk-loop-u l = Walking l.limit l.table l.n l.m l.initial.space l.initial.frames l.space l.frames l.next
 
-abbrev pub decreases-walk-loop-why : goal.decreases-walk-loop-why
-decreases-walk-loop-why l = 128 - top_in l.frames
+abbrev pub decreases-walk-loop-u : goal.decreases-walk-loop-u
+decreases-walk-loop-u l = 128 - top_in l.frames
 
 abbrev pub decreases-walk : goal.decreases-walk
 decreases-walk l = 4 * l.n

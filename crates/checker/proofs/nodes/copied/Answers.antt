@@ -2,8 +2,8 @@
 use mathlib.Core.Path.{sym}
 use Rattle.checker.proofs.nodes.copied.Goals as goal
 
-pub returns-in-Accepted : goal.returns-in-Accepted
-returns-in-Accepted c = sym c.in-Accepted.is
+pub returns-in-Ok : goal.returns-in-Ok
+returns-in-Ok c = sym c.in-Ok.is
 
-pub returns-in-Refused : goal.returns-in-Refused
-returns-in-Refused c = sym c.in-Refused.is
+pub returns-in-Err : goal.returns-in-Err
+returns-in-Err c = sym c.in-Err.is

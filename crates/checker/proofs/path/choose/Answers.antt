@@ -8,15 +8,15 @@ returns-then-t-ne1 c = let a = c.args in chooses_no_truth a.n a.t a.q a.space.no
 pub decide-requires : goal.decide-requires
 decide-requires c = decide-needs c.args.space.now c.args.t c.args.q c.if-t-ne1.false c.requires
 
-pub with_guard-requires : goal.with_guard-requires
-with_guard-requires c =
+pub assume-requires : goal.assume-requires
+assume-requires c =
     let d = c.decide.ensures in let r = c.requires.room in record {
       space = decided-space r d;
       space_size_in_bounds = decided-lent r d;
     }
 
-pub without_guard-requires : goal.without_guard-requires
-without_guard-requires c =
+pub assume-requires-in-OnlyFalse : goal.assume-requires-in-OnlyFalse
+assume-requires-in-OnlyFalse c =
     let d = c.decide.ensures in let r = c.requires.room in record {
       space = decided-space r d;
       space_size_in_bounds = decided-lent r d;
@@ -32,12 +32,12 @@ returns-in-Both c =
 
 pub returns-in-OnlyTrue : goal.returns-in-OnlyTrue
 returns-in-OnlyTrue c =
-    chooses_as c.with_guard.ensures
+    chooses_as c.assume.ensures
     (chooses_true c.requires.room c.decide.ensures c.args.n c.args.t c.if-t-ne1.false
     c.in-OnlyTrue.is)
 
 pub returns-in-OnlyFalse : goal.returns-in-OnlyFalse
 returns-in-OnlyFalse c =
-    chooses_as c.without_guard.ensures
+    chooses_as c.assume-in-OnlyFalse.ensures
     (chooses_false c.requires.room c.decide.ensures c.args.n c.args.t c.if-t-ne1.false
     c.in-OnlyFalse.is)

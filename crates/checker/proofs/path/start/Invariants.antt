@@ -6,6 +6,3 @@ use Rattle.checker.proofs.path.start.Given as goal
 
 abbrev pub invariant-loop-i : goal.invariant-loop-i
 invariant-loop-i l = (length l.space ≡ length l.initial.space) × (l.i ≤ l.depth) × Starting l.types l.space l.i
-
-abbrev pub decreases-loop-i : goal.decreases-loop-i
-decreases-loop-i l = l.depth - l.i

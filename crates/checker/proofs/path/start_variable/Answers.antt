@@ -7,10 +7,7 @@ use Rattle.checker.proofs.path.start_variable.Goals as goal
 
 pub fresh-place-requires : goal.fresh-place-requires
 fresh-place-requires c =
-    let e = c.requires in record {
-      room = starting_room e.i_lt_symbol_limit e.starting;
-      origin = refl;
-    }
+    let e = c.requires in starting_room e.i_lt_symbol_limit e.starting
 
 pub bounds-space-i-2 : goal.bounds-space-i-2
 bounds-space-i-2 c =

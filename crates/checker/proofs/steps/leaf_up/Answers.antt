@@ -1,4 +1,5 @@
 -- `checker::steps::leaf_up` meets its contract: a leaf's value goes up. Assumes nothing.
+use Rattle.script.specs.Answers.Named.{handed_on}
 use Rattle.checker.specs.Code.Going.Arriving.{leaf_room, leaf-lent, leaf-returnable, leaf_climbing, leaf-stopping}
 use Rattle.checker.proofs.steps.leaf_up.Goals as goal
 
@@ -11,12 +12,12 @@ leaf-requires c =
 
 pub climb-requires : goal.climb-requires
 climb-requires c =
-    leaf-returnable c.requires (rw c.node_at-node.ensures at c.leaf.ensures) c.in-Gave.is
+    leaf-returnable c.requires (rw c.node_at-node.ensures at c.leaf.ensures) c.in_ok-t.was
 
-pub returns-in-Stopped : goal.returns-in-Stopped
-returns-in-Stopped c =
-    leaf-stopping c.requires (rw c.node_at-node.ensures at c.leaf.ensures) c.in-Stopped.is
+pub returns-in_err-t : goal.returns-in_err-t
+returns-in_err-t c =
+    rw (handed_on c.from_residual.result c.from_residual.ensures.1) (leaf-stopping c.requires (rw c.node_at-node.ensures at c.leaf.ensures) c.in_err-t.was)
 
-pub returns-in-Gave : goal.returns-in-Gave
-returns-in-Gave c =
-    leaf_climbing c.requires (rw c.node_at-node.ensures at c.leaf.ensures) c.in-Gave.is c.climb.ensures
+pub returns : goal.returns
+returns c =
+    leaf_climbing c.requires (rw c.node_at-node.ensures at c.leaf.ensures) c.in_ok-t.was c.climb.ensures

@@ -1,52 +1,33 @@
 -- A value that goes up frame by frame: what holds at each turn, and how it ends. Assumes nothing.
-use Rattle.std.specs.Prelude.{List, ◌∷◌, ◌≡◌, refl, ℕ, ◌≤◌, length}
+use Rattle.std.specs.Prelude.{List, ◌∷◌, ◌≡◌, refl, ℕ, ◌≤◌, length, Ok, Err}
 use Rattle.std.proofs.Common.{sym, ◌∙◌, arith}
 use Rattle.script.specs.declared.Refusal.{Refusal}
 use Rattle.rules.specs.Paths.{Leaf, stopped}
 use Rattle.rules.specs.Symbolic.{Symbolic}
 use Rattle.workspace.specs.Frames.{frame_in, top_in}
-use Rattle.checker.specs.Code.Going.{Entering, Returning, Returnable, Came, came-value, came-operand, came-stopped, Backs, Climbs}
-use Rattle.checker.specs.declared.steps.Move.{Move}
-use Rattle.checker.specs.declared.steps.Move.TheVariants.{Value, Operand, Stopped}
+use Rattle.checker.specs.Code.Going.{Moved, Entering, Returning, Returnable, Came, came-value, came-operand, came-stopped, Backs, Climbs}
+use Rattle.checker.specs.declared.steps.Move.TheVariants.{Value, Operand}
 
 -- ---- what came
 
-same-type : {t q u s : ℕ} → Value t q ≡ Value u s → t ≡ u
-same-type e = cc
-
-same_place : {t q u s : ℕ} → Value t q ≡ Value u s → q ≡ s
-same_place e = cc
-
-same_operand : {m k : ℕ} → Operand m ≡ Operand k → m ≡ k
-same_operand e = cc
-
-same_stop : {x y : Refusal} → Stopped x ≡ Stopped y → x ≡ y
-same_stop e = cc
-
-pub value-not-operand : {t q m : ℕ} → Value t q ≡ Operand m → ⊥
-value-not-operand e = let z : ◌≡◌ {A = ℕ} 0 1 = cc in omega arith
-
-pub stopped-not-operand : {x : Refusal} {m : ℕ} → Stopped x ≡ Operand m → ⊥
-stopped-not-operand e = let z : ◌≡◌ {A = ℕ} 0 1 = cc in omega arith
-
-pub stopped-not-value : {x : Refusal} {t q : ℕ} → Stopped x ≡ Value t q → ⊥
-stopped-not-value e = let z : ◌≡◌ {A = ℕ} 0 1 = cc in omega arith
-
 module _ {limit : ℕ} {table : List ℕ} {bound base : ℕ} {beneath : List Symbolic} {left gs : List ℕ} {ls : List Leaf} where
-  pub came-returning : {r : Move} {u s : ℕ} → Came limit table bound base beneath left gs ls r → r ≡ Value u s → Returning limit table bound base beneath left gs u s ls
-  came-returning (came-value x) e = rw (sym (same-type e), sym (same_place e)) x
-  came-returning (came-operand x) e = absurd (value-not-operand (sym e))
-  came-returning (came-stopped rest i) e = absurd (stopped-not-value e)
+  pub came-returning : {r : Moved} {u s : ℕ} → Came limit table bound base beneath left gs ls r → r ≡ Ok (Value u s) → Returning limit table bound base beneath left gs u s ls
+  came-returning {u = u} {s = s} (came-value {t = t} {q = q} x) e =
+      let a : u ≡ t = cc in
+      let b : s ≡ q = cc in
+      rw (a, b) x
+  came-returning (came-operand x) e = cc
+  came-returning (came-stopped rest i) e = cc
 
-  pub came-entering : {r : Move} {m : ℕ} → Came limit table bound base beneath left gs ls r → r ≡ Operand m → Entering limit table bound base beneath left gs m ls
-  came-entering (came-value x) e = absurd (value-not-operand e)
-  came-entering (came-operand x) e = rw (sym (same_operand e)) x
-  came-entering (came-stopped rest i) e = absurd (stopped-not-operand e)
+  pub came-entering : {r : Moved} {m : ℕ} → Came limit table bound base beneath left gs ls r → r ≡ Ok (Operand m) → Entering limit table bound base beneath left gs m ls
+  came-entering (came-value x) e = cc
+  came-entering {m = m} (came-operand {m = k} x) e = let a : m ≡ k = cc in rw a x
+  came-entering (came-stopped rest i) e = cc
 
-  pub came-none : {r : Move} {x : Refusal} → Came limit table bound base beneath left gs ls r → r ≡ Stopped x → (rest : List Leaf) × (ls ≡ stopped x ∷ rest)
-  came-none (came-value x) e = absurd (stopped-not-value (sym e))
-  came-none (came-operand x) e = absurd (stopped-not-operand (sym e))
-  came-none (came-stopped rest i) e = (rest, rw (sym (same_stop e)) i)
+  pub came-none : {r : Moved} {x : Refusal} → Came limit table bound base beneath left gs ls r → r ≡ Err x → (rest : List Leaf) × (ls ≡ stopped x ∷ rest)
+  came-none (came-value x) e = cc
+  came-none (came-operand x) e = cc
+  came-none {x = x} (came-stopped {x = y} rest i) e = let a : x ≡ y = cc in (rest, rw a i)
 
 -- ---- the turns
 
@@ -63,20 +44,20 @@ pub climbing_start : {table ws fs : List ℕ} {t q : ℕ} → Returnable table w
 climbing_start x = record { same = refl; framed = refl; tops = omega arith; can = x; goes = λ limit bound base beneath ls r. r }
 
 module _ {table ws fs left gs : List ℕ} {t q u s : ℕ} (c : Climbing table t q ws fs left gs u s) where
-  pub climbing_end : frame_in gs ≡ 0 → Climbs table t q ws fs (Value u s) left gs
+  pub climbing_end : frame_in gs ≡ 0 → Climbs table t q ws fs (Ok (Value u s)) left gs
   climbing_end z =
       record {
         came = λ limit bound base beneath ls r. came-value (c.goes limit bound base beneath ls r);
         ended = λ e. z;
-        rises = λ e. absurd (value-not-operand e);
+        rises = λ e. cc;
       }
 
-  module _ {r : Move} {left₂ hs : List ℕ} (b : Backs table u s left gs r left₂ hs) where
+  module _ {r : Moved} {left₂ hs : List ℕ} (b : Backs table u s left gs r left₂ hs) where
     came-now : (limit bound base : ℕ) (beneath : List Symbolic) (ls : List Leaf) → Returning limit table bound base beneath ws fs t q ls
         → Came limit table bound base beneath left₂ hs ls r
     came-now limit bound base beneath ls x = b.came limit bound base beneath ls (c.goes limit bound base beneath ls x)
 
-    pub climbing_on : {v w : ℕ} → r ≡ Value v w → length left₂ ≡ length left → length hs ≡ length gs → Climbing table t q ws fs left₂ hs v w
+    pub climbing_on : {v w : ℕ} → r ≡ Ok (Value v w) → length left₂ ≡ length left → length hs ≡ length gs → Climbing table t q ws fs left₂ hs v w
     climbing_on e k l =
         let x = c.can in
         record {
@@ -94,18 +75,18 @@ module _ {table ws fs left gs : List ℕ} {t q u s : ℕ} (c : Climbing table t 
           goes = λ limit bound base beneath ls y. came-returning (came-now limit bound base beneath ls y) e;
         }
 
-    pub climbing_operand : {m : ℕ} → r ≡ Operand m → Climbs table t q ws fs (Operand m) left₂ hs
+    pub climbing_operand : {m : ℕ} → r ≡ Ok (Operand m) → Climbs table t q ws fs (Ok (Operand m)) left₂ hs
     climbing_operand e =
         record {
           came = λ limit bound base beneath ls y. came-operand (came-entering (came-now limit bound base beneath ls y) e);
-          ended = λ i. absurd (value-not-operand (sym i));
+          ended = λ i. cc;
           rises = λ i. omega (arith, c.tops, b.rises e);
         }
 
-    pub climbing_stopped : {x : Refusal} → r ≡ Stopped x → Climbs table t q ws fs (Stopped x) left₂ hs
+    pub climbing_stopped : {x : Refusal} → r ≡ Err x → Climbs table t q ws fs (Err x) left₂ hs
     climbing_stopped e =
         record {
           came = λ limit bound base beneath ls y. let n = came-none (came-now limit bound base beneath ls y) e in came-stopped n.0 n.1;
-          ended = λ i. absurd (stopped-not-value i);
-          rises = λ i. absurd (stopped-not-operand i);
+          ended = λ i. cc;
+          rises = λ i. cc;
         }

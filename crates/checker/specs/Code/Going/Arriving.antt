@@ -1,13 +1,12 @@
 -- A node on a path that waits for no operand, a leaf or a typed block, and its value's way up. Assumes nothing.
-use Rattle.std.specs.Prelude.{List, ◌∷◌, ◌++◌, ◌≡◌, refl, ℕ, suc, ◌+◌, ◌*◌, ◌≤◌, ◌<◌, length, get_or}
+use Rattle.std.specs.Prelude.{List, ◌∷◌, ◌++◌, ◌≡◌, refl, ℕ, suc, ◌+◌, ◌*◌, ◌≤◌, ◌<◌, length, get_or, Ok, Err}
 use Rattle.std.proofs.Common.{sym, ap, ◌∙◌, arith}
 use Rattle.script.specs.Code.Forms.{form_of, leaf_kinds_lem, node_in, tree_in, some-operand, formed_less}
 use Rattle.script.specs.Flat.{HasNode}
 use Rattle.script.specs.Limits.{node_limit}
 use Rattle.script.specs.Rows.{typed_form, node_operands}
 use Rattle.script.specs.Rows.Kinds.{kind_for, leaf_kinds}
-use Rattle.script.specs.declared.Checked.{Checked}
-use Rattle.script.specs.declared.Checked.TheVariants.{Accepted, Refused}
+use Rattle.script.specs.Answers.Named.{Checked}
 use Rattle.script.specs.declared.Refusal.{Refusal}
 use Rattle.rules.specs.Checking.{check, exec}
 use Rattle.rules.specs.Paths.{Paths, bind, Leaf, stopped, leaves}
@@ -15,6 +14,7 @@ use Rattle.rules.specs.Symbolic.{Symbolic}
 use Rattle.rules.specs.SymbolicRules.{typed_result}
 use Rattle.terms.specs.Places.{count_at, variables_end}
 use Rattle.terms.specs.Terms.{Grown}
+use Rattle.workspace.specs.Answers.{Step}
 use Rattle.workspace.specs.Frames.{top_in}
 use Rattle.workspace.specs.Frames.Laws.{size-some}
 use Rattle.workspace.specs.Forks.{forked_in}
@@ -24,35 +24,25 @@ use Rattle.workspace.specs.Rules.{Checkable, Leaf as LeafRule, After}
 use Rattle.workspace.specs.Rules.Nodes.{shaped, first_of, leaf-exec, typed-exec}
 use Rattle.workspace.specs.State.{depth_in, types_on, PathIn, Room}
 use Rattle.workspace.specs.State.Laws.{still_known, room-same, variables-kept, variables-types, path_rewound, room_less}
-use Rattle.workspace.specs.declared.Step.{Step}
-use Rattle.workspace.specs.declared.Step.TheVariants.{Gave, Stopped}
-use Rattle.checker.specs.Code.Going.{go_on, Stands, Entering, Returning, Enterable, Returnable, came-stopped, Climbs, Arrives, Leafable, LeafArrives}
-use Rattle.checker.specs.Code.Going.AllFrames.{stopped-not-operand, stopped-not-value}
+use Rattle.checker.specs.Code.Going.{Moved, go_on, Stands, Entering, Returning, Enterable, Returnable, came-stopped, Climbs, Arrives, Leafable, LeafArrives}
 use Rattle.checker.specs.Code.Going.Keeping.{stands-base, stands_noting, stands_by, awaits-kept}
 use Rattle.checker.specs.Code.Going.Steps.{enters_formed, Gives, gives, gives_none, yields-gives}
-use Rattle.checker.specs.declared.steps.Move.{Move}
-use Rattle.checker.specs.declared.steps.Move.TheVariants as moves
 
 -- ---- what a step gave
 
-same-type : {t q u s : ℕ} → Gave t q ≡ Gave u s → t ≡ u
-same-type e = cc
-
-same_place : {t q u s : ℕ} → Gave t q ≡ Gave u s → q ≡ s
-same_place e = cc
-
-same_stop : {x y : Refusal} → Stopped x ≡ Stopped y → x ≡ y
-same_stop e = cc
-
 module _ {limit : ℕ} {table : List ℕ} {bound base : ℕ} {beneath : List Symbolic} {left fs : List ℕ} {ls : List Leaf} where
-  pub gives-returning : {a : Step} {t q : ℕ} → Gives limit table bound base beneath left fs ls a → a ≡ Gave t q
+  pub gives-returning : {a : Step} {t q : ℕ} → Gives limit table bound base beneath left fs ls a → a ≡ Ok (t, q)
       → Returning limit table bound base beneath left fs t q ls
-  gives-returning (gives r) e = rw (sym (same-type e), sym (same_place e)) r
-  gives-returning (gives_none rest i) e = absurd (let z : ◌≡◌ {A = ℕ} 0 1 = cc in omega arith)
+  gives-returning {t = t} {q = q} (gives {t = u} {q = s} r) e =
+      let p : ◌≡◌ {A = ℕ × ℕ} (t, q) (u, s) = cc in
+      let a : t ≡ u = ap (λ (x : ℕ × ℕ). x.0) p in
+      let b : q ≡ s = ap (λ (x : ℕ × ℕ). x.1) p in
+      rw (a, b) r
+  gives-returning (gives_none rest i) e = cc
 
-  pub gives-stopped : {a : Step} {x : Refusal} → Gives limit table bound base beneath left fs ls a → a ≡ Stopped x → (rest : List Leaf) × (ls ≡ stopped x ∷ rest)
-  gives-stopped (gives r) e = absurd (let z : ◌≡◌ {A = ℕ} 0 1 = cc in omega arith)
-  gives-stopped (gives_none rest i) e = (rest, rw (sym (same_stop e)) i)
+  pub gives-stopped : {a : Step} {x : Refusal} → Gives limit table bound base beneath left fs ls a → a ≡ Err x → (rest : List Leaf) × (ls ≡ stopped x ∷ rest)
+  gives-stopped (gives r) e = cc
+  gives-stopped {x = x} (gives_none {x = y} rest i) e = let a : x ≡ y = cc in (rest, rw a i)
 
 module _ {limit : ℕ} {table : List ℕ} {bound base : ℕ} {beneath : List Symbolic} {ws fs : List ℕ} {n : ℕ} {ls : List Leaf}
     (q : Entering limit table bound base beneath ws fs n ls) where
@@ -157,17 +147,17 @@ module _ {limit : ℕ} {table : List ℕ} {bound base : ℕ} {beneath : List Sym
       pub result-room : Room left 1
       result-room = block_room one_room
 
-      pub block_refused : {x : Refusal} → c ≡ Refused x → ls ≡ stopped x ∷ q.others
+      pub block_refused : {x : Refusal} → c ≡ Err x → ls ≡ stopped x ∷ q.others
       unfolding typed_result bind leaves
       block_refused e = block_is e
 
-      pub block_gives : {t : ℕ} → c ≡ Accepted t → {a : Step} {left₂ : List ℕ} → After n t left a left₂ → Gives limit table bound base beneath left₂ fs ls a
+      pub block_gives : {t : ℕ} → c ≡ Ok t → {a : Step} {left₂ : List ℕ} → After n t left a left₂ → Gives limit table bound base beneath left₂ fs ls a
       block_gives e o = yields-gives block_stands o.ruled (block_room enters_room) enters_tops (block_is e) (o.yields q.path block_path)
 
 -- ---- its value's way up
 
 module _ {limit : ℕ} {table : List ℕ} {n : ℕ} {ws fs : List ℕ} where
-  pub arrives_climbing : {t q : ℕ} {left left₂ gs : List ℕ} {r : Move}
+  pub arrives_climbing : {t q : ℕ} {left left₂ gs : List ℕ} {r : Moved}
       → ((bound base : ℕ) (beneath : List Symbolic) (ls : List Leaf) → Entering limit table bound base beneath ws fs n ls
       → Returning limit table bound base beneath left fs t q ls)
       → Climbs table t q left fs r left₂ gs → Arrives limit table n ws fs r left₂ gs
@@ -181,12 +171,12 @@ module _ {limit : ℕ} {table : List ℕ} {n : ℕ} {ws fs : List ℕ} where
   pub arrives_stopping : {x : Refusal} {left : List ℕ}
       → ((bound base : ℕ) (beneath : List Symbolic) (ls : List Leaf) → Entering limit table bound base beneath ws fs n ls
       → (rest : List Leaf) × (ls ≡ stopped x ∷ rest))
-      → Arrives limit table n ws fs (moves.Stopped x) left fs
+      → Arrives limit table n ws fs (Err x) left fs
   arrives_stopping h =
       record {
         came = λ bound base beneath ls q. let z = h bound base beneath ls q in came-stopped z.0 z.1;
-        ended = λ e. absurd (stopped-not-value e);
-        rises = λ e. absurd (stopped-not-operand e);
+        ended = λ e. cc;
+        rises = λ e. cc;
       }
 
 -- ---- as the code takes a leaf
@@ -208,7 +198,7 @@ module _ {table ws fs : List ℕ} {n : ℕ} (x : Leafable table ws fs n) where
   leaf-lent = enters_lent e
 
   module _ {a : Step} {left : List ℕ} (l : LeafRule (form_of (node_in table n).kind) n (node_in table n) (depth_in ws) ws a left) where
-    pub leaf-returnable : {t q : ℕ} → a ≡ Gave t q → Returnable table left fs t q
+    pub leaf-returnable : {t q : ℕ} → a ≡ Ok (t, q) → Returnable table left fs t q
     leaf-returnable i =
         record {
           limit = x.limit;
@@ -219,11 +209,11 @@ module _ {table ws fs : List ℕ} {n : ℕ} (x : Leafable table ws fs n) where
           returning = gives-returning (leaf-gives e x.leaf l) i;
         }
 
-    pub leaf_climbing : {t q : ℕ} → a ≡ Gave t q → {left₂ gs : List ℕ} {r : Move} → Climbs table t q left fs r left₂ gs → LeafArrives table n ws fs r left₂ gs
+    pub leaf_climbing : {t q : ℕ} → a ≡ Ok (t, q) → {left₂ gs : List ℕ} {r : Moved} → Climbs table t q left fs r left₂ gs → LeafArrives table n ws fs r left₂ gs
     leaf_climbing i c =
         record { each = λ limit. arrives_climbing (λ bound base beneath ls q. gives-returning (leaf-gives q x.leaf l) i) c }
 
-    pub leaf-stopping : {y : Refusal} → a ≡ Stopped y → LeafArrives table n ws fs (moves.Stopped y) left fs
+    pub leaf-stopping : {y : Refusal} → a ≡ Err y → LeafArrives table n ws fs (Err y) left fs
     leaf-stopping i = record { each = λ limit. arrives_stopping λ bound base beneath ls q. gives-stopped (leaf-gives q x.leaf l) i }
 
 -- ---- as the code takes a typed block
@@ -249,14 +239,14 @@ module _ {limit : ℕ} {table ws fs : List ℕ} {n : ℕ} (x : Enterable limit t
 
   module _ {c : Checked} {left : List ℕ}
       (b : Blocked limit table (check limit (tree_in table (node_in table n).a) (types_on ws (depth_in ws))) (depth_in ws) ws c left) where
-    pub up-refused : {y : Refusal} → c ≡ Refused y → Arrives limit table n ws fs (moves.Stopped y) left fs
+    pub up-refused : {y : Refusal} → c ≡ Err y → Arrives limit table n ws fs (Err y) left fs
     up-refused i = arrives_stopping λ bound base beneath ls q. (q.others, block_refused q k some b i)
 
     pub up_room : Room left 1
     up_room = result-room x.entering k some b
 
-    module _ {t : ℕ} (i : c ≡ Accepted t) {a : Step} {left₂ : List ℕ} (o : After n t left a left₂) where
-      pub up-returnable : {u q : ℕ} → a ≡ Gave u q → Returnable table left₂ fs u q
+    module _ {t : ℕ} (i : c ≡ Ok t) {a : Step} {left₂ : List ℕ} (o : After n t left a left₂) where
+      pub up-returnable : {u q : ℕ} → a ≡ Ok (u, q) → Returnable table left₂ fs u q
       up-returnable j =
           record {
             limit = limit;
@@ -267,8 +257,8 @@ module _ {limit : ℕ} {table ws fs : List ℕ} {n : ℕ} (x : Enterable limit t
             returning = gives-returning (block_gives x.entering k some b i o) j;
           }
 
-      pub up_climbing : {u q : ℕ} → a ≡ Gave u q → {left₃ gs : List ℕ} {r : Move} → Climbs table u q left₂ fs r left₃ gs → Arrives limit table n ws fs r left₃ gs
+      pub up_climbing : {u q : ℕ} → a ≡ Ok (u, q) → {left₃ gs : List ℕ} {r : Moved} → Climbs table u q left₂ fs r left₃ gs → Arrives limit table n ws fs r left₃ gs
       up_climbing j z = arrives_climbing (λ bound base beneath ls q. gives-returning (block_gives q k some b i o) j) z
 
-      pub up-stopping : {y : Refusal} → a ≡ Stopped y → Arrives limit table n ws fs (moves.Stopped y) left₂ fs
+      pub up-stopping : {y : Refusal} → a ≡ Err y → Arrives limit table n ws fs (Err y) left₂ fs
       up-stopping j = arrives_stopping λ bound base beneath ls q. gives-stopped (block_gives q k some b i o) j

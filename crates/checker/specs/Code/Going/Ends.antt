@@ -1,12 +1,11 @@
 -- The end of a path: its log, its type, and the path that follows; and the loop over the paths. Assumes nothing.
-use Rattle.std.specs.Prelude.{Bool, true, false, not, ◌||◌, ◌≡◌, ℕ, suc, ◌≤◌, eqb}
+use Rattle.std.specs.Prelude.{Bool, true, false, not, ◌||◌, ◌≡◌, ℕ, suc, ◌≤◌, eqb, Option, Ok, Err, unwrap_or}
 use Rattle.std.proofs.lemmas.Bool.{false≢true}
 use mathlib.Core.List.{List, [], ◌∷◌, ◌++◌}
 use Rattle.std.proofs.Math.Path.{refl, ap}
 use Rattle.std.proofs.Common.{sym, ◌∙◌, arith}
 use borrow.Author.Tests.{not-true, not-false, eqb-true, eq-eqb}
 use Rattle.script.specs.Tests.{pick}
-use Rattle.script.specs.declared.Checked.TheVariants.{Accepted}
 use Rattle.script.specs.declared.Refusal.TheVariants.{InconsistentLog, PathTypesDiffer}
 use Rattle.rules.specs.Paths.{Leaf, ended, leaves, consistent}
 use Rattle.rules.specs.Symbolic.{Symbolic, type_of}
@@ -17,18 +16,9 @@ use Rattle.workspace.specs.Log.{consistent_in}
 use Rattle.workspace.specs.Log.Laws.{consistent-is}
 use Rattle.workspace.specs.State.Laws.{means-type}
 use Rattle.checker.specs.Code.Going.{Later, go_on, Awaits, no_frame, for_only, for_first_lem, for_second, for_body_lem, Left, none_left, one_left, Returning, Resumable, Resumes, AtEnd, PathEnds, WalkOf, refused, lasted, went_on}
-use Rattle.checker.specs.declared.nodes.Walked.TheVariants.{Wrong, Last, More}
+use Rattle.checker.specs.declared.nodes.Walked.TheVariants.{Last, More}
 
 -- ---- the end of a path
-
--- a path whose type is the first's, or is not
-right-type : (t wanted : ℕ) (first : Bool) → (first || eqb t wanted) ≡ true → pick first t wanted ≡ t
-right-type t wanted true e = refl
-right-type t wanted false e = sym (eqb-true t wanted e)
-
-other-type : (t wanted : ℕ) (first : Bool) → (first || eqb t wanted) ≡ false → eqb t (pick first t wanted) ≡ false
-other-type t wanted true e = absurd (false≢true (sym e))
-other-type t wanted false e = e
 
 -- nothing waits where no frame is left
 none_waits : {table : List ℕ} {bound base : ℕ} {beneath : List Symbolic} {ws fs : List ℕ} {f depth owed frames : ℕ} {env : List Symbolic} {ks : List Later}
@@ -56,39 +46,39 @@ module _ {limit : ℕ} {table : List ℕ} {bound base : ℕ} {beneath : List Sym
   consistent-here : {b : Bool} → consistent_in ws ≡ b → consistent r.path ≡ b
   consistent-here e = sym (consistent-is r.stands.state.path.log) ∙ e
 
-  module _ (n : ℕ) (is_first : Bool) (wanted : ℕ) where
-    first-is : pick is_first (first_type ls) wanted ≡ pick is_first t wanted
-    first-is = ap (λ (u : ℕ). pick is_first u wanted) (ap first_type ends_is ∙ type-is)
+  module _ (n : ℕ) (wanted : Option ℕ) where
+    first-is : unwrap_or wanted (first_type ls) ≡ unwrap_or wanted t
+    first-is = ap (λ (u : ℕ). unwrap_or wanted u) (ap first_type ends_is ∙ type-is)
 
     pub end_inconsistent : {left gs : List ℕ} → consistent_in ws ≡ false
-        → WalkOf limit table bound base beneath n (pick is_first (first_type ls) wanted) left gs ls (Wrong (InconsistentLog n))
+        → WalkOf limit table bound base beneath n (unwrap_or wanted (first_type ls)) left gs ls (Err (InconsistentLog n))
     unfolding judge
-    end_inconsistent e = refused {x = InconsistentLog n} λ k. ap (judge n (suc k) (pick is_first (first_type ls) wanted)) ends_is ∙ rw (consistent-here e) refl
+    end_inconsistent e = refused {x = InconsistentLog n} λ k. ap (judge n (suc k) (unwrap_or wanted (first_type ls))) ends_is ∙ rw (consistent-here e) refl
 
     module _ (e : consistent_in ws ≡ true) where
-      pub end_other : {left gs : List ℕ} → (is_first || eqb t wanted) ≡ false
-          → WalkOf limit table bound base beneath n (pick is_first (first_type ls) wanted) left gs ls (Wrong (PathTypesDiffer n))
+      pub end_other : {left gs : List ℕ} → eqb t (unwrap_or wanted t) ≡ false
+          → WalkOf limit table bound base beneath n (unwrap_or wanted (first_type ls)) left gs ls (Err (PathTypesDiffer n))
       unfolding judge
       end_other d =
           refused {x = PathTypesDiffer n} λ k.
-          ap (judge n (suc k) (pick is_first (first_type ls) wanted)) ends_is ∙ rw (consistent-here e, type-is, first-is, other-type t wanted is_first d) refl
+          ap (judge n (suc k) (unwrap_or wanted (first_type ls))) ends_is ∙ rw (consistent-here e, type-is, first-is, d) refl
 
-      module _ (y : (is_first || eqb t wanted) ≡ true) where
-        right : pick is_first (first_type ls) wanted ≡ t
-        right = first-is ∙ right-type t wanted is_first y
+      module _ (y : eqb t (unwrap_or wanted t) ≡ true) where
+        right : unwrap_or wanted (first_type ls) ≡ t
+        right = first-is ∙ sym (eqb-true t (unwrap_or wanted t) y)
 
-        goes : (k : ℕ) → judge n (suc k) (pick is_first (first_type ls) wanted) ls ≡ judge n k (pick is_first (first_type ls) wanted) r.others
+        goes : (k : ℕ) → judge n (suc k) (unwrap_or wanted (first_type ls)) ls ≡ judge n k (unwrap_or wanted (first_type ls)) r.others
         unfolding judge
-        goes k = ap (judge n (suc k) (pick is_first (first_type ls) wanted)) ends_is ∙ rw (consistent-here e, type-is, right, eq-eqb t t refl) refl
+        goes k = ap (judge n (suc k) (unwrap_or wanted (first_type ls))) ends_is ∙ rw (consistent-here e, type-is, right, eq-eqb t t refl) refl
 
-        pub end_last : {left gs : List ℕ} → forked_in fs ≡ 0 → WalkOf limit table bound base beneath n (pick is_first (first_type ls) wanted) left gs ls (Last t)
+        pub end_last : {left gs : List ℕ} → forked_in fs ≡ 0 → WalkOf limit table bound base beneath n (unwrap_or wanted (first_type ls)) left gs ls (Ok (Last t))
         unfolding judge
         end_last z =
             lasted λ k.
-            goes k ∙ ap (judge n k (pick is_first (first_type ls) wanted)) (none-left_of r.stands.left z) ∙ ap Accepted right
+            goes k ∙ ap (judge n k (unwrap_or wanted (first_type ls))) (none-left_of r.stands.left z) ∙ ap Ok right
 
         pub end_more : {left gs : List ℕ} {m : ℕ} → Resumes table ws fs m left gs
-            → WalkOf limit table bound base beneath n (pick is_first (first_type ls) wanted) left gs ls (More t m)
+            → WalkOf limit table bound base beneath n (unwrap_or wanted (first_type ls)) left gs ls (Ok (More t m))
         end_more u =
             went_on r.others right
             (u.resumed limit bound base beneath r.environment r.path r.later r.owed r.frames r.others r.stands) goes
@@ -113,21 +103,21 @@ module _ {limit : ℕ} {table : List ℕ} {bound base : ℕ} {beneath : List Sym
 
 -- ---- as the code ends a path
 
-module _ {table ws fs : List ℕ} {t n : ℕ} {is_first : Bool} {wanted : ℕ} (x : AtEnd table ws fs t) {a : Bool} (c : a ≡ consistent_in ws) where
-  pub path_inconsistent : not a ≡ true → PathEnds table n t is_first wanted ws fs (Wrong (InconsistentLog n)) ws fs
+module _ {table ws fs : List ℕ} {t n : ℕ} {wanted : Option ℕ} (x : AtEnd table ws fs t) {a : Bool} (c : a ≡ consistent_in ws) where
+  pub path_inconsistent : not a ≡ true → PathEnds table n t wanted ws fs (Err (InconsistentLog n)) ws fs
   path_inconsistent e =
-      record { ends = λ limit bound base q beneath ls r. end_inconsistent r x.none n is_first wanted (sym c ∙ not-true a e) }
+      record { ends = λ limit bound base q beneath ls r. end_inconsistent r x.none n wanted (sym c ∙ not-true a e) }
 
-  module _ (e : not a ≡ false) {b : Bool} (w : b ≡ (is_first || eqb t wanted)) where
-    pub path-other : not b ≡ true → PathEnds table n t is_first wanted ws fs (Wrong (PathTypesDiffer n)) ws fs
-    path-other d = record { ends = λ limit bound base q beneath ls r. end_other r x.none n is_first wanted (sym c ∙ not-false a e) (sym w ∙ not-true b d) }
+  module _ (e : not a ≡ false) {b : Bool} (w : b ≡ eqb t (unwrap_or wanted t)) where
+    pub path-other : not b ≡ true → PathEnds table n t wanted ws fs (Err (PathTypesDiffer n)) ws fs
+    path-other d = record { ends = λ limit bound base q beneath ls r. end_other r x.none n wanted (sym c ∙ not-false a e) (sym w ∙ not-true b d) }
 
     module _ (d : not b ≡ false) where
-      pub path-last : forked_in fs ≡ 0 → PathEnds table n t is_first wanted ws fs (Last t) ws fs
-      path-last z = record { ends = λ limit bound base q beneath ls r. end_last r x.none n is_first wanted (sym c ∙ not-false a e) (sym w ∙ not-false b d) z }
+      pub path-last : forked_in fs ≡ 0 → PathEnds table n t wanted ws fs (Ok (Last t)) ws fs
+      path-last z = record { ends = λ limit bound base q beneath ls r. end_last r x.none n wanted (sym c ∙ not-false a e) (sym w ∙ not-false b d) z }
 
-      pub path-more : {m : ℕ} {left gs : List ℕ} → Resumes table ws fs m left gs → PathEnds table n t is_first wanted ws fs (More t m) left gs
-      path-more u = record { ends = λ limit bound base q beneath ls r. end_more r x.none n is_first wanted (sym c ∙ not-false a e) (sym w ∙ not-false b d) u }
+      pub path-more : {m : ℕ} {left gs : List ℕ} → Resumes table ws fs m left gs → PathEnds table n t wanted ws fs (Ok (More t m)) left gs
+      path-more u = record { ends = λ limit bound base q beneath ls r. end_more r x.none n wanted (sym c ∙ not-false a e) (sym w ∙ not-false b d) u }
 
 pub path_resumable : {table ws fs : List ℕ} {t : ℕ} → AtEnd table ws fs t → (forked_in fs ≡ 0 → ⊥) → Resumable table ws fs
 path_resumable x z = end_resumable x.returnable.returning x.none (omega arith)

@@ -13,17 +13,16 @@ use Rattle.rules.specs.Paths.{Path, Paths, ends, bind, Leaf, leaves}
 use Rattle.rules.specs.Symbolic.{Symbolic}
 use Rattle.terms.specs.Places.{count_at, variables_end, symbol_limit}
 use Rattle.terms.specs.Terms.{Grown}
+use Rattle.workspace.specs.Answers.{Step}
 use Rattle.workspace.specs.Frames.{frame_in, top_in, waiter_of, up_of, first_of, second_of, awaits_of, goes_to, up_to, for_body, for_first, for_next}
 use Rattle.workspace.specs.Forks.{forked_in}
 use Rattle.workspace.specs.Places.{condition_at, depth_at, forked_at, goal_at, next_at, start_at, top_at, writes_at}
 use Rattle.workspace.specs.Rules.{one_exec, two_exec, rest_exec, rest_size, One, Operable}
 use Rattle.workspace.specs.State.{depth_in, Means, Variables, no_variable, one_more, PathIn, Room, Unnoted, Valued}
 use Rattle.workspace.specs.State.Laws.{still_known, room-same, means-kept, variables-kept, path_rewound, room_less}
-use Rattle.workspace.specs.declared.Step.{Step}
-use Rattle.checker.specs.Code.Going.{Later, first, go_on, Awaits, no_frame, for_only, for_first_lem, for_second, for_body_lem, Onward, Stands, Returning, unbound, moved_by, Lasts, Lastable, Came, came-value, came-stopped}
+use Rattle.checker.specs.Code.Going.{Moved, Later, first, go_on, Awaits, no_frame, for_only, for_first_lem, for_second, for_body_lem, Onward, Stands, Returning, unbound, moved_by, Lasts, Lastable, Came, came-value, came-stopped}
 use Rattle.checker.specs.Code.Going.Keeping.{onward_trans, leave_onward, awaits-kept, stands-base, stands_on, leave_stands}
 use Rattle.checker.specs.Code.Going.Steps.{Gives, gives, gives_none, yields-gives}
-use Rattle.checker.specs.declared.steps.Move.{Move}
 
 -- ---- other variables
 
@@ -276,7 +275,7 @@ module _ {limit : ℕ} {table : List ℕ} {bound base : ℕ} {beneath : List Sym
         beyond = λ k l e. get_or-set_other ws depth_at k (depth_in ws - 1) 0 e;
       }
 
-  pub up-last : (awaits_of fs f ≡ for_first → ⊥) → {m : Move} {left : List ℕ}
+  pub up-last : (awaits_of fs f ≡ for_first → ⊥) → {m : Moved} {left : List ℕ}
       → Lasts (node_in table n).kind (awaits_of fs f) n (first_of fs f) (second_of fs f) t q ws m left → Came limit table bound base beneath left (set fs goal_at g) ls m
   unfolding bind
   up-last z {m} {left} x = by up.view refl
@@ -287,7 +286,7 @@ module _ {limit : ℕ} {table : List ℕ} {bound base : ℕ} {beneath : List Sym
       by (upper_first c j d e w s i) h = absurd (z (sym h))
       by (upper-second {w = w} k e s i) h =
           let o = x.other λ y. omega arith in
-          subst (λ (a : Move). Came limit table bound base beneath left (set fs goal_at g) ls a) (sym o.1)
+          subst (λ (a : Moved). Came limit table bound base beneath left (set fs goal_at g) ls a) (sym o.1)
           (gives-came
           (yields-gives s o.2.ruled (room_less (omega arith) r.room) left-tops i
           (o.2.yields w r.value r.path k r.means r.stands.state.path)))

@@ -1,6 +1,6 @@
 -- The operand after the first of several, which is next: of an operator, of a `let`, whose value becomes a variable, and of an `if`, by the branches that can
 -- be taken. Assumes nothing.
-use Rattle.std.specs.Prelude.{true, ◌≡◌, refl, get_or, set}
+use Rattle.std.specs.Prelude.{true, ◌≡◌, refl, get_or, set, Ok, Err}
 use mathlib.Core.List.{List, [], ◌∷◌, ◌++◌, append_assoc}
 use Rattle.std.proofs.Math.Path.{sym, ap}
 use Rattle.std.proofs.Common.{subst, ◌∙◌, arith, length-set, get_or-set_same, get_or-set_other}
@@ -33,11 +33,10 @@ use Rattle.workspace.specs.Rules.Nodes.{Rest, Branches, shaped, rest_of, several
 use Rattle.workspace.specs.Rules.Types.{bound-other, let_bound}
 use Rattle.workspace.specs.State.{depth_in, Means, truth_row, Variables, one_more, PathIn}
 use Rattle.workspace.specs.State.Laws.{means-kept, means-at, variables-kept, room_less, room_on}
-use Rattle.workspace.specs.declared.Branch.TheVariants.{First, Second, Both, Neither}
-use Rattle.checker.specs.Code.Going.{second, go_on, for_second, for_body_lem, Onward, Forking, one_left, Stands, Entering, Returning, bound_to, Branched, to_first, to_second, to_both, to_none, Came, came-operand, came-stopped}
+use Rattle.workspace.specs.declared.Branch.TheVariants.{First, Second, Both}
+use Rattle.checker.specs.Code.Going.{Moved, second, go_on, for_second, for_body_lem, Onward, Forking, one_left, Stands, Entering, Returning, bound_to, Branched, to_first, to_second, to_both, to_none, Came, came-operand, came-stopped}
 use Rattle.checker.specs.Code.Going.Keeping.{onward_trans, waits_onward, awaits-kept, stands-base, stands_on, stands-ruled, waits_awaits, waits_slot, waits_forked, waits_stands}
 use Rattle.checker.specs.Code.Going.Steps.{then_on}
-use Rattle.checker.specs.declared.steps.Move.{Move}
 use Rattle.checker.specs.declared.steps.Move.TheVariants.{Operand}
 use Rattle.checker.specs.Code.Going.FrameRules.{Shifted, shifted-grown, shifted-path, shifted-onward, shifted-room, shifted_unnoted, Next, up, up_room, up-valued, left-top, left-forked}
 
@@ -253,13 +252,13 @@ module _ {limit : ℕ} {table : List ℕ} {bound base : ℕ} {beneath : List Sym
         branch-second : suc (suc (size (tree_in table c))) ≤ rest_size table n
         branch-second = let z = size-some (tree_in table b) in omega (arith, z, sides.fits)
 
-        takes_first : {left : List ℕ} → Ruled ws left → Chosen ws left n r.value r.path First → Entering limit table bound base beneath left gs b ls
+        takes_first : {left : List ℕ} → Ruled ws left → Chosen ws left n r.value r.path (Ok First) → Entering limit table bound base beneath left gs b ls
         takes_first u (chosen-first {q = p₁} i e) = one_branch b after.earlier branch-first u i (e _ _)
 
-        takes_second : {left : List ℕ} → Ruled ws left → Chosen ws left n r.value r.path Second → Entering limit table bound base beneath left gs c ls
+        takes_second : {left : List ℕ} → Ruled ws left → Chosen ws left n r.value r.path (Ok Second) → Entering limit table bound base beneath left gs c ls
         takes_second u (chosen-second {q = p₁} i e) = one_branch c sides.earlier branch-second u i (e _ _)
 
-        takes_none : {left : List ℕ} {y : Refusal} → Chosen ws left n r.value r.path (Neither y) → ls ≡ stopped y ∷ r.others
+        takes_none : {left : List ℕ} {y : Refusal} → Chosen ws left n r.value r.path (Err y) → ls ≡ stopped y ∷ r.others
         unfolding bind leaves
         takes_none {y = y} (chosen-neither e) = decided (stops y) (e _ _)
 
@@ -391,16 +390,16 @@ module _ {limit : ℕ} {table : List ℕ} {bound base : ℕ} {beneath : List Sym
                   (leaves (bind (exec limit (tree_in table b) r.environment (with_guard k r.path)) (go_on limit table (second n r.value ∷ x.later)))) onto r.others;
             }
 
-      takes_either : {between hs gs : List ℕ} → Waits n for_next t q fs₁ hs → Chosen ws between n r.value r.path Both → Forks between hs gs
+      takes_either : {between hs gs : List ℕ} → Waits n for_next t q fs₁ hs → Chosen ws between n r.value r.path (Ok Both) → Forks between hs gs
           → Entering limit table bound base beneath (assumed (forgotten between) of_conjunction q) gs b ls
       takes_either {hs = hs} {gs = gs} w (chosen-both s v a d e) y =
           rw s (takes_both w (subst (λ (ws : List ℕ). Forks ws hs gs) s y) v a d e)
 
-      pub next-branch : {m : Move} {left gs : List ℕ} → Branched b c n t q ws fs₁ left gs m → Came limit table bound base beneath left gs ls m
+      pub next-branch : {m : Moved} {left gs : List ℕ} → Branched b c n t q ws fs₁ left gs m → Came limit table bound base beneath left gs ls m
       next-branch (to_first w k) = came-operand (takes_first w k.ruled (k.chosen r.value r.path r.means r.stands.state.path))
       next-branch (to_second w k) = came-operand (takes_second w k.ruled (k.chosen r.value r.path r.means r.stands.state.path))
       next-branch {left = left} {gs = gs} (to_both w k y e) =
-          subst (λ (xs : List ℕ). Came limit table bound base beneath xs gs ls (Operand b)) (sym e)
+          subst (λ (xs : List ℕ). Came limit table bound base beneath xs gs ls (Ok (Operand b))) (sym e)
           (came-operand (takes_either w (k.chosen r.value r.path r.means r.stands.state.path) y))
       next-branch (to_none w k) = came-stopped r.others (takes_none w (k.chosen r.value r.path r.means r.stands.state.path))
 

@@ -1,5 +1,5 @@
 -- A value that goes up by one frame, as the code takes it: each way out is one of the steps upwards. Assumes nothing.
-use Rattle.std.specs.Prelude.{Bool, true, false, List, ◌≡◌, refl, ℕ, ◌≤◌, ◌<◌, eqb, length, set}
+use Rattle.std.specs.Prelude.{Bool, true, false, List, ◌≡◌, refl, ℕ, ◌≤◌, ◌<◌, eqb, length, set, Ok, Err}
 use Rattle.std.proofs.Common.{sym, ◌∙◌, arith, length-set, get_or-set_same, get_or-set_other, eqb-true}
 use Rattle.std.proofs.lemmas.Bool.{eqb-false}
 use Rattle.script.specs.Code.Forms.{form_of, node_in}
@@ -8,23 +8,20 @@ use Rattle.script.specs.Limits.{node_limit}
 use Rattle.script.specs.Rows.{if_form, let_form, node_operands}
 use Rattle.script.specs.Rows.Kinds.{kind_for}
 use Rattle.terms.specs.Places.{symbol_limit}
+use Rattle.workspace.specs.Answers.{Step}
 use Rattle.workspace.specs.Frames.{frame_in, top_in, waiter_of, first_of, second_of, Waitable, Waits, awaits_of, goes_to, for_body, for_first, for_next}
 use Rattle.workspace.specs.Forks.{forked_in, Forks}
 use Rattle.workspace.specs.Places.{fork_limit, frames_end, frames_size, goal_at, top_at}
 use Rattle.workspace.specs.Rules.{One, Decidable}
 use Rattle.workspace.specs.State.{depth_in, Room}
-use Rattle.workspace.specs.declared.Step.{Step}
-use Rattle.workspace.specs.declared.Step.TheVariants as step
-use Rattle.checker.specs.Code.Going.{Returnable, came-operand, bound_to, moved_by, Branched, to_first, to_second, to_both, to_none, Lasts, Lastable, Backs}
-use Rattle.checker.specs.Code.Going.AllFrames.{value-not-operand, stopped-not-operand, stopped-not-value}
+use Rattle.checker.specs.Code.Going.{Moved, Returnable, came-operand, bound_to, moved_by, Branched, to_first, to_second, to_both, to_none, Lasts, Lastable, Backs}
 use Rattle.checker.specs.Code.Going.NextOperand.{next_waitable, next-plain, next_let, next_deep, next-branch, next_decidable, next-forked}
 use Rattle.checker.specs.Code.Going.FrameRules.{up, up_room, up_one, up_lastable, up-last, gives-came, up_next}
-use Rattle.checker.specs.declared.steps.Move.{Move}
 use Rattle.checker.specs.declared.steps.Move.TheVariants.{Value, Operand}
 
-moved_not-operand : (a : Step) {m : ℕ} → moved_by a ≡ Operand m → ⊥
-moved_not-operand (step.Gave t q) e = value-not-operand e
-moved_not-operand (step.Stopped x) e = stopped-not-operand e
+moved_not-operand : (a : Step) {m : ℕ} → moved_by a ≡ Ok (Operand m) → ⊥
+moved_not-operand (Ok (t, q)) e = cc
+moved_not-operand (Err x) e = cc
 
 pub more_than_one : {r : Bool} {m : ℕ} → r ≡ eqb m 1 → r ≡ false → m ≡ 1 → ⊥
 more_than_one {m = m} e f = eqb-false m 1 (sym e ∙ f)
@@ -66,7 +63,7 @@ module _ {table ws fs : List ℕ} {t q : ℕ} (x : Returnable table ws fs t q) (
     pub back_lastable : Lastable (awaits_of fs f) ws (first_of fs f) (second_of fs f) t q
     back_lastable = up_lastable x.returning some z
 
-    pub back_last : {m : Move} {left : List ℕ} → Lasts (node_in table n).kind (awaits_of fs f) n (first_of fs f) (second_of fs f) t q ws m left
+    pub back_last : {m : Moved} {left : List ℕ} → Lasts (node_in table n).kind (awaits_of fs f) n (first_of fs f) (second_of fs f) t q ws m left
         → Backs table t q ws fs m left fs₁
     back_last {m} {left} l =
         record {
@@ -76,8 +73,8 @@ module _ {table ws fs : List ℕ} {t q : ℕ} (x : Returnable table ws fs t q) (
           tops = omega (arith, top-is);
         }
       where
-        by : (b : Bool) → eqb (awaits_of fs f) 2 ≡ b → {k : ℕ} → m ≡ Operand k → ⊥
-        by true i e = value-not-operand (sym (l.body (eqb-true (awaits_of fs f) 2 i)).0 ∙ e)
+        by : (b : Bool) → eqb (awaits_of fs f) 2 ≡ b → {k : ℕ} → m ≡ Ok (Operand k) → ⊥
+        by true i e = let v = (l.body (eqb-true (awaits_of fs f) 2 i)).0 in cc
         by false i e = let a = l.other (eqb-false (awaits_of fs f) 2 i) in moved_not-operand a.0 (sym a.1 ∙ e)
 
   -- ---- with its only operand
@@ -106,11 +103,11 @@ module _ {table ws fs : List ℕ} {t q : ℕ} (x : Returnable table ws fs t q) (
 
     -- of an operator
     pub back_plain : ((node_in table n).kind ≡ kind_for if_form → ⊥) → ((node_in table n).kind ≡ kind_for let_form → ⊥) → {gs : List ℕ} → Waits n for_next t q fs₁ gs
-        → Backs table t q ws fs (Operand (node_in table n).b) ws gs
+        → Backs table t q ws fs (Ok (Operand (node_in table n).b)) ws gs
     back_plain d e w =
         record {
           came = λ limit bound base beneath ls r. came-operand (next-plain r some (up_next r some z o) d e w);
-          falls = λ i. absurd (value-not-operand (sym i));
+          falls = λ i. cc;
           rises = λ i. risen w;
           tops = let l = risen w in omega arith;
         }
@@ -119,11 +116,11 @@ module _ {table ws fs : List ℕ} {t q : ℕ} (x : Returnable table ws fs t q) (
     pub back_deep : depth_in ws < symbol_limit
     back_deep = next_deep x.returning some (up_next x.returning some z o)
 
-    pub back_let : (node_in table n).kind ≡ kind_for let_form → {gs : List ℕ} → Waits n for_body t q fs₁ gs → Backs table t q ws fs (Operand (node_in table n).b) (bound_to ws t q) gs
+    pub back_let : (node_in table n).kind ≡ kind_for let_form → {gs : List ℕ} → Waits n for_body t q fs₁ gs → Backs table t q ws fs (Ok (Operand (node_in table n).b)) (bound_to ws t q) gs
     back_let e w =
         record {
           came = λ limit bound base beneath ls r. came-operand (next_let r some (up_next r some z o) e w);
-          falls = λ i. absurd (value-not-operand (sym i));
+          falls = λ i. cc;
           rises = λ i. risen w;
           tops = let l = risen w in omega arith;
         }
@@ -139,19 +136,19 @@ module _ {table ws fs : List ℕ} {t q : ℕ} (x : Returnable table ws fs t q) (
       forks-top : {ys hs gs : List ℕ} → Forks ys hs gs → top_in gs ≡ top_in hs
       forks-top y = y.others 1 (λ e. omega arith) (omega arith)
 
-      branched_top : {m : Move} {left gs : List ℕ} → Branched (node_in table n).b (node_in table n).c n t q ws fs₁ left gs m → top_in fs < top_in gs
+      branched_top : {m : Moved} {left gs : List ℕ} → Branched (node_in table n).b (node_in table n).c n t q ws fs₁ left gs m → top_in fs < top_in gs
       branched_top (to_first w k) = risen w
       branched_top (to_second w k) = risen w
       branched_top (to_both w k y e) = let l = risen w in omega (arith, l, forks-top y)
       branched_top (to_none w k) = risen w
 
-      branched_none : {m : Move} {left gs : List ℕ} {u s : ℕ} → Branched (node_in table n).b (node_in table n).c n t q ws fs₁ left gs m → m ≡ Value u s → ⊥
-      branched_none (to_first w k) e = value-not-operand (sym e)
-      branched_none (to_second w k) e = value-not-operand (sym e)
-      branched_none (to_both w k y i) e = value-not-operand (sym e)
-      branched_none (to_none w k) e = stopped-not-value e
+      branched_none : {m : Moved} {left gs : List ℕ} {u s : ℕ} → Branched (node_in table n).b (node_in table n).c n t q ws fs₁ left gs m → m ≡ Ok (Value u s) → ⊥
+      branched_none (to_first w k) e = cc
+      branched_none (to_second w k) e = cc
+      branched_none (to_both w k y i) e = cc
+      branched_none (to_none w k) e = cc
 
-      pub back_branch : {m : Move} {left gs : List ℕ} → Branched (node_in table n).b (node_in table n).c n t q ws fs₁ left gs m → Backs table t q ws fs m left gs
+      pub back_branch : {m : Moved} {left gs : List ℕ} → Branched (node_in table n).b (node_in table n).c n t q ws fs₁ left gs m → Backs table t q ws fs m left gs
       back_branch k =
           record {
             came = λ limit bound base beneath ls r. next-branch r some (up_next r some z o) h k;

@@ -1,5 +1,5 @@
 -- The steps of a path, downwards to a node that waits for no operand and upwards with a value: the leaves to come stay the same. Assumes nothing.
-use Rattle.std.specs.Prelude.{Bool, true, false, List, ◌∷◌, ◌++◌, ◌≡◌, ℕ, suc, ◌+◌, ◌≤◌, ◌<◌, eqb}
+use Rattle.std.specs.Prelude.{Bool, true, false, List, ◌∷◌, ◌++◌, ◌≡◌, ℕ, suc, ◌+◌, ◌≤◌, ◌<◌, eqb, Ok, Err}
 use Rattle.std.proofs.Math.Path.{refl}
 use Rattle.std.proofs.Common.{sym, ap, ◌∙◌, arith, eqb-true}
 use Rattle.std.proofs.lemmas.Bool.{eqb-false}
@@ -11,6 +11,7 @@ use Rattle.script.specs.declared.Refusal.{Refusal}
 use Rattle.rules.specs.Checking.{exec}
 use Rattle.rules.specs.Paths.{Path, Paths, ends, stops, forks, bind, Leaf, stopped, leaves}
 use Rattle.rules.specs.Symbolic.{Symbolic}
+use Rattle.workspace.specs.Answers.{Step}
 use Rattle.workspace.specs.Frames.{top_in, Waits, waits_for, Descendable, Descends, down_to, down_from, for_first}
 use Rattle.workspace.specs.Frames.Laws.{waits_inner, waits_other, size-some}
 use Rattle.workspace.specs.Forks.{forked_in}
@@ -18,8 +19,6 @@ use Rattle.workspace.specs.Rules.{one_exec, rest_exec, rest_size, Ruled}
 use Rattle.workspace.specs.Rules.Nodes.{shaped, first_of, rest_of, one_exec_lem, rest-exec_of}
 use Rattle.workspace.specs.State.{Room, Yields, ending, stopping}
 use Rattle.workspace.specs.State.Laws.{room_less, room_on}
-use Rattle.workspace.specs.declared.Step.{Step}
-use Rattle.workspace.specs.declared.Step.TheVariants.{Gave, Stopped}
 use Rattle.checker.specs.Code.Going.{Later, only, first, go_on, for_only, for_first_lem, Stands, Entering, Returning}
 use Rattle.checker.specs.Code.Going.Keeping.{waits_awaits, waits_slot, waits_forked, waits_stands, stands-ruled}
 
@@ -133,8 +132,8 @@ descends_tops (down_from e w d) = let h = descends_tops d in let t = w.top in om
 
 -- a value goes up, or the path stops
 pub data Gives (limit : ℕ) (table : List ℕ) (bound base : ℕ) (beneath : List Symbolic) (left fs : List ℕ) (ls : List Leaf) : Step → Type 0 where
-  gives : {t q : ℕ} → Returning limit table bound base beneath left fs t q ls → Gives limit table bound base beneath left fs ls (Gave t q)
-  gives_none : {x : Refusal} (rest : List Leaf) → ls ≡ stopped x ∷ rest → Gives limit table bound base beneath left fs ls (Stopped x)
+  gives : {t q : ℕ} → Returning limit table bound base beneath left fs t q ls → Gives limit table bound base beneath left fs ls (Ok (t, q))
+  gives_none : {x : Refusal} (rest : List Leaf) → ls ≡ stopped x ∷ rest → Gives limit table bound base beneath left fs ls (Err x)
 
 pub yields-gives : {limit : ℕ} {table : List ℕ} {bound base : ℕ} {beneath : List Symbolic} {ws fs left : List ℕ} {env : List Symbolic} {p : Path} {ks : List Later}
     {owed frames : ℕ} {others ls : List Leaf} {r : Step} {x : Paths} → Stands limit table bound base beneath ws fs env p ks owed frames others → Ruled ws left

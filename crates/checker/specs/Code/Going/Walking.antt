@@ -1,5 +1,5 @@
 -- A path from a node on to its end, and the loop over the paths of a `sym` in typed mode. Assumes nothing.
-use Rattle.std.specs.Prelude.{Bool, ◌≡◌, refl, ℕ, suc, ◌+◌, ◌-◌, ◌≤◌, ◌<◌, eqb, length, get_or, replicate}
+use Rattle.std.specs.Prelude.{Bool, ◌≡◌, refl, ℕ, suc, ◌+◌, ◌-◌, ◌≤◌, ◌<◌, eqb, length, get_or, replicate, Option, Some, None, Ok, Err, unwrap_or}
 use mathlib.Core.List.{List, [], ◌∷◌, ◌++◌, append-nil}
 use Rattle.std.proofs.Math.Path.{sym, ap}
 use Rattle.std.proofs.Common.{◌∙◌, ne_eqb}
@@ -9,7 +9,6 @@ use Rattle.script.specs.Code.Forms.{tree_in}
 use Rattle.script.specs.Limits.{node_limit}
 use Rattle.script.specs.Rows.Laws.{same_anywhere}
 use Rattle.script.specs.Tests.{pick}
-use Rattle.script.specs.declared.Checked.TheVariants.{Accepted, Refused}
 use Rattle.script.specs.declared.Refusal.{Refusal}
 use Rattle.script.specs.declared.Refusal.TheVariants.{TooManyPaths}
 use Rattle.rules.specs.Checking.{exec}
@@ -24,13 +23,11 @@ use Rattle.workspace.specs.Places.{frames_size, space_size}
 use Rattle.workspace.specs.Rules.{Checkable, Started}
 use Rattle.workspace.specs.Rules.Nodes.{bind-ends}
 use Rattle.workspace.specs.State.{types_on}
-use Rattle.checker.specs.Code.Going.{go_on, no_frame, none_left, Entering, Enterable, Arrives, AtEnd, PathEnds, WalkOf, refused, lasted, went_on, Walks, Walkable}
+use Rattle.checker.specs.Code.Going.{Walk, Moved, go_on, no_frame, none_left, Entering, Enterable, Arrives, AtEnd, PathEnds, WalkOf, refused, lasted, went_on, Walks, Walkable}
 use Rattle.checker.specs.Code.Going.AllFrames.{came-returning, came-entering, came-none}
 use Rattle.checker.specs.Code.Going.Steps.{enters_descendable, enters_descends, descends_tops}
-use Rattle.checker.specs.declared.nodes.Walked.{Walked}
-use Rattle.checker.specs.declared.nodes.Walked.TheVariants.{Wrong, Last, More}
-use Rattle.checker.specs.declared.steps.Move.{Move}
-use Rattle.checker.specs.declared.steps.Move.TheVariants.{Value, Operand, Stopped}
+use Rattle.checker.specs.declared.nodes.Walked.TheVariants.{Last, More}
+use Rattle.checker.specs.declared.steps.Move.TheVariants.{Value, Operand}
 
 -- ---- along a path
 
@@ -61,8 +58,8 @@ module _ {limit : ℕ} {table : List ℕ} {n m : ℕ} {ws fs left gs : List ℕ}
     pub walking-earlier : inner < n
     walking-earlier = let l = inner_entering.low in omega (arith, l, w.can.above)
 
-    module _ {r : Move} {left₂ ks : List ℕ} (a : Arrives limit table inner left hs r left₂ ks) where
-      pub walking_less : {k : ℕ} → r ≡ Operand k → node_limit - top_in ks < node_limit - top_in gs
+    module _ {r : Moved} {left₂ ks : List ℕ} (a : Arrives limit table inner left hs r left₂ ks) where
+      pub walking_less : {k : ℕ} → r ≡ Ok (Operand k) → node_limit - top_in ks < node_limit - top_in gs
       walking_less e =
           let x = w.can.can.entering.tops in
           let y = a.rises e in
@@ -70,7 +67,7 @@ module _ {limit : ℕ} {table : List ℕ} {n m : ℕ} {ws fs left gs : List ℕ}
           let u = size-some (tree_in table next) in
           omega (arith, x, y, z, u)
 
-      pub walking_on : {k : ℕ} → r ≡ Operand k → length left₂ ≡ length left → length ks ≡ length gs → Walking limit table n m ws fs left₂ ks k
+      pub walking_on : {k : ℕ} → r ≡ Ok (Operand k) → length left₂ ≡ length left → length ks ≡ length gs → Walking limit table n m ws fs left₂ ks k
       walking_on e i j =
           let x = w.can.can in
           record {
@@ -89,16 +86,16 @@ module _ {limit : ℕ} {table : List ℕ} {n m : ℕ} {ws fs left gs : List ℕ}
             goes = λ bound base beneath ls q. came-entering (a.came bound base beneath ls (enters_descends (w.goes bound base beneath ls q) d)) e;
           }
 
-      pub walking-stopped : {is_first : Bool} {wanted : ℕ} {x : Refusal} → r ≡ Stopped x → Walks limit table n m is_first wanted ws fs (Wrong x) left₂ ks
+      pub walking-stopped : {wanted : Option ℕ} {x : Refusal} → r ≡ Err x → Walks limit table n m wanted ws fs (Err x) left₂ ks
       unfolding judge
-      walking-stopped {is_first} {wanted} {x} e =
+      walking-stopped {wanted} {x} e =
           record {
             walked = λ bound base beneath ls q.
                 let z = came-none (a.came bound base beneath ls (enters_descends (w.goes bound base beneath ls q) d)) e in
-                refused {x = x} λ k. ap (judge n (suc k) (pick is_first (first_type ls) wanted)) z.1;
+                refused {x = x} λ k. ap (judge n (suc k) (unwrap_or wanted (first_type ls))) z.1;
           }
 
-      pub walking_end : {u s : ℕ} → r ≡ Value u s → AtEnd table left₂ ks u
+      pub walking_end : {u s : ℕ} → r ≡ Ok (Value u s) → AtEnd table left₂ ks u
       walking_end {s = s} e =
           let x = w.can.can in
           record {
@@ -114,8 +111,8 @@ module _ {limit : ℕ} {table : List ℕ} {n m : ℕ} {ws fs left gs : List ℕ}
             };
           }
 
-      pub walking-ended : {u s : ℕ} → r ≡ Value u s → {is_first : Bool} {wanted : ℕ} {v : Walked} {left₃ js : List ℕ}
-          → PathEnds table n u is_first wanted left₂ ks v left₃ js → Walks limit table n m is_first wanted ws fs v left₃ js
+      pub walking-ended : {u s : ℕ} → r ≡ Ok (Value u s) → {wanted : Option ℕ} {v : Walk} {left₃ js : List ℕ}
+          → PathEnds table n u wanted left₂ ks v left₃ js → Walks limit table n m wanted ws fs v left₃ js
       walking-ended {s = s} e p =
           record {
             walked = λ bound base beneath ls q.
@@ -132,25 +129,25 @@ record Further (limit : ℕ) (table : List ℕ) (bound base : ℕ) (beneath : Li
   goes : (k : ℕ) → judge n (suc k) T ls ≡ judge n k T after
 
 module _ {limit : ℕ} {table : List ℕ} {bound base : ℕ} {beneath : List Symbolic} {n T : ℕ} {left gs : List ℕ} {ls : List Leaf} where
-  walk-wrong : {w : Walked} {x : Refusal} → WalkOf limit table bound base beneath n T left gs ls w → w ≡ Wrong x → (k : ℕ) → judge n (suc k) T ls ≡ Refused x
+  walk-wrong : {w : Walk} {x : Refusal} → WalkOf limit table bound base beneath n T left gs ls w → w ≡ Err x → (k : ℕ) → judge n (suc k) T ls ≡ Err x
   walk-wrong (refused h) e k = h k ∙ cc
-  walk-wrong (lasted h) e k = absurd (let z : ◌≡◌ {A = ℕ} 0 1 = cc in omega arith)
-  walk-wrong (went_on after q i h) e k = absurd (let z : ◌≡◌ {A = ℕ} 0 1 = cc in omega arith)
+  walk-wrong (lasted h) e k = cc
+  walk-wrong (went_on after q i h) e k = cc
 
-  walk-last : {w : Walked} {t : ℕ} → WalkOf limit table bound base beneath n T left gs ls w → w ≡ Last t → (k : ℕ) → judge n (suc k) T ls ≡ Accepted t
-  walk-last (refused h) e k = absurd (let z : ◌≡◌ {A = ℕ} 0 1 = cc in omega arith)
+  walk-last : {w : Walk} {t : ℕ} → WalkOf limit table bound base beneath n T left gs ls w → w ≡ Ok (Last t) → (k : ℕ) → judge n (suc k) T ls ≡ Ok t
+  walk-last (refused h) e k = cc
   walk-last (lasted h) e k = h k ∙ cc
-  walk-last (went_on after q i h) e k = absurd (let z : ◌≡◌ {A = ℕ} 0 1 = cc in omega arith)
+  walk-last (went_on after q i h) e k = cc
 
-  walk_more : {w : Walked} {t m : ℕ} → WalkOf limit table bound base beneath n T left gs ls w → w ≡ More t m → Further limit table bound base beneath n T left gs ls t m
-  walk_more (refused h) e = absurd (let z : ◌≡◌ {A = ℕ} 0 1 = cc in omega arith)
-  walk_more (lasted h) e = absurd (let z : ◌≡◌ {A = ℕ} 0 1 = cc in omega arith)
+  walk_more : {w : Walk} {t m : ℕ} → WalkOf limit table bound base beneath n T left gs ls w → w ≡ Ok (More t m) → Further limit table bound base beneath n T left gs ls t m
+  walk_more (refused h) e = cc
+  walk_more (lasted h) e = cc
   walk_more {m = m} (went_on {m = m₁} after q i h) e =
       let z : m₁ ≡ m = cc in
       record { after = after; type = q ∙ cc; entering = rw (sym z) i; goes = h }
 
 -- after so many paths, the rest of the verdict is that of the leaves to come from node `next` on
-pub record Turn (table types : List ℕ) (depth limit n a : ℕ) (ws fs : List ℕ) (followed wanted next : ℕ) : Type 0 where
+pub record Turn (table types : List ℕ) (depth limit n a : ℕ) (ws fs : List ℕ) (followed : ℕ) (wanted : Option ℕ) (next : ℕ) : Type 0 where
   pub whole : length ws ≡ space_size
   pub framed : length fs ≡ frames_size
   pub above : suc a ≤ n
@@ -158,10 +155,10 @@ pub record Turn (table types : List ℕ) (depth limit n a : ℕ) (ws fs : List �
   pub entering : Entering limit table (suc a) depth (symbols 0 (types_on types depth)) ws fs next to_come
   pub rest : verdict n limit (leaves (exec limit (tree_in table a) (symbols 0 (types_on types depth)) (start depth)))
       ≡ judge n (limit - followed) (first_type (leaves (exec limit (tree_in table a) (symbols 0 (types_on types depth)) (start depth)))) to_come
-  pub type : pick (eqb followed 0) (first_type to_come) wanted
+  pub type : unwrap_or wanted (first_type to_come)
       ≡ first_type (leaves (exec limit (tree_in table a) (symbols 0 (types_on types depth)) (start depth)))
 
-module _ {table types : List ℕ} {depth limit n a : ℕ} {ws fs : List ℕ} {followed wanted next : ℕ} (u : Turn table types depth limit n a ws fs followed wanted next) where
+module _ {table types : List ℕ} {depth limit n a : ℕ} {ws fs : List ℕ} {followed : ℕ} {wanted : Option ℕ} {next : ℕ} (u : Turn table types depth limit n a ws fs followed wanted next) where
   abbrev whole-verdict : Paths
   whole-verdict = exec limit (tree_in table a) (symbols 0 (types_on types depth)) (start depth)
 
@@ -173,7 +170,7 @@ module _ {table types : List ℕ} {depth limit n a : ℕ} {ws fs : List ℕ} {fo
       }
 
   -- no path may follow
-  pub turn-none : limit ≤ followed → Refused (TooManyPaths n) ≡ verdict n limit (leaves whole-verdict)
+  pub turn-none : limit ≤ followed → Err (TooManyPaths n) ≡ verdict n limit (leaves whole-verdict)
   unfolding judge
   turn-none l =
       let z : limit - followed ≡ 0 = omega arith in
@@ -182,23 +179,23 @@ module _ {table types : List ℕ} {depth limit n a : ℕ} {ws fs : List ℕ} {fo
       let e : u.to_come ≡ s.0 ∷ (s.1 ++ q.others) = q.is ∙ ap (λ (ls : List Leaf). ls ++ q.others) s.2 in
       sym (u.rest ∙ rw (z, e) refl)
 
-  module _ (l : followed < limit) {w : Walked} {left gs : List ℕ} (k : Walks limit table n next (eqb followed 0) wanted ws fs w left gs) where
+  module _ (l : followed < limit) {w : Walk} {left gs : List ℕ} (k : Walks limit table n next wanted ws fs w left gs) where
     abbrev first : ℕ
-    first = pick (eqb followed 0) (first_type u.to_come) wanted
+    first = unwrap_or wanted (first_type u.to_come)
 
-    walked : WalkOf limit table (suc a) depth (symbols 0 (types_on types depth)) n (pick (eqb followed 0) (first_type u.to_come) wanted) left gs u.to_come w
+    walked : WalkOf limit table (suc a) depth (symbols 0 (types_on types depth)) n (unwrap_or wanted (first_type u.to_come)) left gs u.to_come w
     walked = k.walked (suc a) depth (symbols 0 (types_on types depth)) u.to_come u.entering
 
     next-rest : verdict n limit (leaves whole-verdict) ≡ judge n (suc (limit - suc followed)) first u.to_come
     next-rest = let z : limit - followed ≡ suc (limit - suc followed) = omega arith in u.rest ∙ rw (z, u.type)
 
-    pub turn-wrong : {x : Refusal} → w ≡ Wrong x → Refused x ≡ verdict n limit (leaves whole-verdict)
+    pub turn-wrong : {x : Refusal} → w ≡ Err x → Err x ≡ verdict n limit (leaves whole-verdict)
     turn-wrong e = sym (next-rest ∙ walk-wrong walked e (limit - suc followed))
 
-    pub turn_last : {t : ℕ} → w ≡ Last t → Accepted t ≡ verdict n limit (leaves whole-verdict)
+    pub turn_last : {t : ℕ} → w ≡ Ok (Last t) → Ok t ≡ verdict n limit (leaves whole-verdict)
     turn_last e = sym (next-rest ∙ walk-last walked e (limit - suc followed))
 
-    pub turn_more : {t m : ℕ} → w ≡ More t m → length left ≡ length ws → length gs ≡ length fs → Turn table types depth limit n a left gs (followed + 1) t m
+    pub turn_more : {t m : ℕ} → w ≡ Ok (More t m) → length left ≡ length ws → length gs ≡ length fs → Turn table types depth limit n a left gs (followed + 1) (Some t) m
     turn_more {t} {m} e s f =
         let z = walk_more walked e in
         let y : limit - suc followed ≡ limit - (followed + 1) = omega arith in
@@ -212,13 +209,13 @@ module _ {table types : List ℕ} {depth limit n a : ℕ} {ws fs : List ℕ} {fo
               next-rest ∙ z.goes (limit - suc followed)
               ∙ ap (λ (k : ℕ). judge n k first z.after) y
               ∙ ap (λ (T : ℕ). judge n (limit - (followed + 1)) T z.after) u.type;
-          type = rw (ne_eqb (followed + 1) 0 λ i. omega arith) (sym z.type ∙ u.type);
+          type = sym z.type ∙ u.type;
         }
 
 -- ---- the start
 
 pub turn-start : {table types : List ℕ} {depth limit n a : ℕ} {ws fs : List ℕ} → length ws ≡ space_size → length fs ≡ frames_size → ((k : ℕ) → get_or fs k 0 ≡ 0) → a < n
-    → Checkable table types depth a → Started depth (types_on types depth) ws → Turn table types depth limit n a ws fs 0 0 a
+    → Checkable table types depth a → Started depth (types_on types depth) ws → Turn table types depth limit n a ws fs 0 None a
 unfolding go_on
 turn-start {table} {types} {depth} {limit} {n} {a} {ws} {fs} whole framed zeros above q s =
     let tree = exec limit (tree_in table a) (symbols 0 (types_on types depth)) (start depth) in

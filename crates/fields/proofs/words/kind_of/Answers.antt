@@ -61,14 +61,6 @@ returns-then-same c =
     let e = word-is l.k f (omega arith) ∙ sym w ∙ c.if-same.true in
     sym (ap said_by (kind-lowest f ∙ look-found (is_kind_of f) kind_count l.k l.invariant (omega arith) e))
 
-pub overflow_add-k : goal.overflow_add-k
-unfolding rows
-overflow_add-k c = search rules
-
-pub loop-k-smaller : goal.loop-k-smaller
-unfolding rows
-loop-k-smaller c = search rules
-
 pub loop-k-preserved : goal.loop-k-preserved
 unfolding rows
 loop-k-preserved c =

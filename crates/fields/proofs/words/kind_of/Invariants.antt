@@ -6,6 +6,3 @@ use Rattle.fields.proofs.words.kind_of.Given as goal
 
 abbrev pub invariant-loop-k : goal.invariant-loop-k
 invariant-loop-k l = Looked (is_kind_of l.f) kind_count l.k
-
-abbrev pub decreases-loop-k : goal.decreases-loop-k
-decreases-loop-k l = kind_count - l.k

@@ -4,7 +4,7 @@ use Rattle.std.proofs.Common.{sym}
 use Rattle.script.specs.Code.Forms.{form_of}
 use Rattle.script.specs.Rows.{rows, row_of}
 use Rattle.operators.specs.Steps.{next_on}
-use Rattle.operators.specs.Steps.Operators.{next-other}
+use Rattle.operators.specs.Steps.Operators.{branch-wrong, next-other}
 use Rattle.operators.proofs.steps.next_operand.Goals as goal
 
 pub returns-then-t : goal.returns-then-t
@@ -12,18 +12,14 @@ unfolding next_on form_of row_of rows
 returns-then-t c =
     rw (c.if-node-eq-IF.true, c.in-Truth.is, c.if-t.true)
 
-pub returns-in-Word : goal.returns-in-Word
-unfolding next_on form_of row_of rows
-returns-in-Word c = rw (c.if-node-eq-IF.true, c.in-Word.is)
-
 pub returns-else-t : goal.returns-else-t
 unfolding next_on form_of row_of rows
 returns-else-t c =
     rw (c.if-node-eq-IF.true, c.in-Truth.is, c.if-t.false)
 
-pub returns-in-Location : goal.returns-in-Location
+pub returns-in_default : goal.returns-in_default
 unfolding next_on form_of row_of rows
-returns-in-Location c = rw (c.if-node-eq-IF.true, c.in-Location.is)
+returns-in_default c = rw (c.if-node-eq-IF.true, branch-wrong _ c.args.node.b c.args.node.c c.in_default.not-Truth)
 
 pub returns : goal.returns
 returns c =

@@ -35,20 +35,20 @@ overflow_add-result c =
     let h = starts-within 10 a.text.now (a.at + 1 + length c.field-f.result.now) l in
     search rules
 
-pub returns-in-Number : goal.returns-in-Number
-returns-in-Number c =
+pub returns : goal.returns
+returns c =
     let a = c.args in
     let t = sym c.byte_is.ensures ∙ c.if-not-byte_is.false in
     let f = c.field-f.ensures in
     let l = sym c.byte_is-2.ensures ∙ c.if-not-byte_is-2.false in
-    let n = said_number (type_of c.field-f.result.now) c.in-Number.t (sym c.type_code.ensures ∙ c.in-Number.is) in
+    let n = said_number (type_of c.field-f.result.now) c.in_ok-t.t (sym c.type_code.ensures ∙ c.in_ok-t.was) in
     rw (entry-lf a.text.now a.at t (rw f at l), ← f, n) refl
 
-pub returns-in-Nothing : goal.returns-in-Nothing
-returns-in-Nothing c =
+pub returns-in_err-t : goal.returns-in_err-t
+returns-in_err-t c =
     let a = c.args in
     let t = sym c.byte_is.ensures ∙ c.if-not-byte_is.false in
     let f = c.field-f.ensures in
     let l = sym c.byte_is-2.ensures ∙ c.if-not-byte_is-2.false in
-    let n = said_nothing (type_of c.field-f.result.now) (sym c.type_code.ensures ∙ c.in-Nothing.is) in
-    rw (entry-lf a.text.now a.at t (rw f at l), ← f, n) refl
+    let n = said_nothing (type_of c.field-f.result.now) (sym c.type_code.ensures ∙ c.in_err-t.was) in
+    c.from_residual.ensures ∙ rw (entry-lf a.text.now a.at t (rw f at l), ← f, n) refl

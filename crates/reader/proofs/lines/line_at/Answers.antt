@@ -36,24 +36,24 @@ pub node_line-requires : goal.node_line-requires
 node_line-requires c =
     let a = c.args in
     let f = c.field-w.ensures in
-    let k = said_number (kind_named c.field-w.result.now) c.in-Number.kind (sym c.kind_of.ensures ∙ c.in-Number.is) in record {
+    let k = said_number (kind_named c.field-w.result.now) c.in_ok-kind.kind (sym c.kind_of.ensures ∙ c.in_ok-kind.was) in record {
       at_in_bounds = rw f (word-most a.text.now a.at (omega arith));
       text_value = rw f (word-ends a.text.now a.at);
-      kind_lt_kind_count = kind-below c.field-w.result.now c.in-Number.kind k;
+      kind_lt_kind_count = kind-below c.field-w.result.now c.in_ok-kind.kind k;
     }
 
-pub returns-in-Number : goal.returns-in-Number
-returns-in-Number c =
+pub returns : goal.returns
+returns c =
     let a = c.args in
     let f = c.field-w.ensures in
     let w = sym c.same.ensures ∙ c.if-same.false in
-    let k = said_number (kind_named c.field-w.result.now) c.in-Number.kind (sym c.kind_of.ensures ∙ c.in-Number.is) in
-    sym (line-node a.text.now a.at c.in-Number.kind (rw f at w) (rw f at k) ∙ rw (← f) (sym c.node_line.ensures))
+    let k = said_number (kind_named c.field-w.result.now) c.in_ok-kind.kind (sym c.kind_of.ensures ∙ c.in_ok-kind.was) in
+    sym (line-node a.text.now a.at c.in_ok-kind.kind (rw f at w) (rw f at k) ∙ rw (← f) (sym c.node_line.ensures))
 
-pub returns-in-Nothing : goal.returns-in-Nothing
-returns-in-Nothing c =
+pub returns-in_err-kind : goal.returns-in_err-kind
+returns-in_err-kind c =
     let a = c.args in
     let f = c.field-w.ensures in
     let w = sym c.same.ensures ∙ c.if-same.false in
-    let k = said_nothing (kind_named c.field-w.result.now) (sym c.kind_of.ensures ∙ c.in-Nothing.is) in
-    sym (line-none a.text.now a.at (rw f at w) (rw f at k))
+    let k = said_nothing (kind_named c.field-w.result.now) (sym c.kind_of.ensures ∙ c.in_err-kind.was) in
+    c.from_residual.ensures ∙ sym (line-none a.text.now a.at (rw f at w) (rw f at k))

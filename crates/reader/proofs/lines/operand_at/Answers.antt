@@ -22,18 +22,18 @@ field-f-requires c =
     let h = starts-within 9 a.text.now a.at (sym c.byte_is.ensures ∙ c.if-not-byte_is.false) in
     omega arith
 
-pub returns-in-Number : goal.returns-in-Number
-returns-in-Number c =
+pub returns : goal.returns
+returns c =
     let a = c.args in
     let t = sym c.byte_is.ensures ∙ c.if-not-byte_is.false in
     let f = c.field-f.ensures in
-    let n = said_number (decimal_up_to a.limit c.field-f.result.now) c.in-Number.n (sym c.number.ensures ∙ c.in-Number.is) in
+    let n = said_number (decimal_up_to a.limit c.field-f.result.now) c.in_ok-n.n (sym c.number.ensures ∙ c.in_ok-n.was) in
     rw (c.if-not-wanted.false, operand-tab a.text.now a.at t a.limit, ← f, n) refl
 
-pub returns-in-Nothing : goal.returns-in-Nothing
-returns-in-Nothing c =
+pub returns-in_err-n : goal.returns-in_err-n
+returns-in_err-n c =
     let a = c.args in
     let t = sym c.byte_is.ensures ∙ c.if-not-byte_is.false in
     let f = c.field-f.ensures in
-    let n = said_nothing (decimal_up_to a.limit c.field-f.result.now) (sym c.number.ensures ∙ c.in-Nothing.is) in
-    rw (c.if-not-wanted.false, operand-tab a.text.now a.at t a.limit, ← f, n) refl
+    let n = said_nothing (decimal_up_to a.limit c.field-f.result.now) (sym c.number.ensures ∙ c.in_err-n.was) in
+    c.from_residual.ensures ∙ rw (c.if-not-wanted.false, operand-tab a.text.now a.at t a.limit, ← f, n) refl

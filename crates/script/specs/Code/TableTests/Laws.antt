@@ -1,6 +1,6 @@
 -- What the code's tests tell of the tests of a table: a loop's answers, a well-formed node by its three operands, and tests in a row.
 -- Assumes nothing.
-use Rattle.std.specs.Prelude.{Bool, true, false, ◌&&◌, List, [], ◌∷◌, ℕ, zero, suc, ◌≤◌, ◌<◌, pred, length, take, drop}
+use Rattle.std.specs.Prelude.{Bool, true, false, ◌&&◌, List, [], ◌∷◌, ℕ, zero, suc, ◌≤◌, ◌<◌, pred, length, take, drop, Err, Ok}
 use Rattle.std.proofs.Math.Bool.{not}
 use Rattle.std.proofs.Math.Option.{Option, none, some}
 use Rattle.std.proofs.Math.Path.{◌≡◌, refl, ap}
@@ -21,58 +21,57 @@ use Rattle.script.specs.declared.Refusal.{Refusal}
 use Rattle.script.specs.declared.Refusal.TheVariants.{BadOperand, NotUsedOnce}
 use Rattle.script.specs.declared.table.Takes.{Takes}
 use Rattle.script.specs.declared.table.Takes.TheVariants.{Number, Nodes}
-use Rattle.script.specs.declared.table.Tested.{Tested}
-use Rattle.script.specs.declared.table.Tested.TheVariants.{Passed, Refused}
+use Rattle.script.specs.Answers.Named.{Tested}
 
 -- ---- the answers of a loop for the lowest place
 
 module _ (p : ℕ → Bool) (r : ℕ → Refusal) (n i : ℕ) (l : Looked p n i) where
-  pub refused-at : i < n → p i ≡ true → Refused (r i) ≡ tested_by (need_none (lowest p n) r none)
+  pub refused-at : i < n → p i ≡ true → Err (r i) ≡ tested_by (need_none (lowest p n) r none)
   refused-at h t = rw (look-found p n i l h t) refl
 
-  pub passed-all : n ≤ i → Passed ≡ tested_by (need_none (lowest p n) r none)
+  pub passed-all : n ≤ i → Ok tt ≡ tested_by (need_none (lowest p n) r none)
   passed-all h = rw (look_none p n i l h) refl
 
 -- ---- tests in a row
 
 -- nothing is refused where the answer is that all is passed
-pub passed_none : (o : Option Refusal) → tested_by o ≡ Passed → o ≡ none
+pub passed_none : (o : Option Refusal) → tested_by o ≡ Ok tt → o ≡ none
 passed_none none e = refl
 passed_none (some r) e = let z : ◌≡◌ {A = ℕ} 0 1 = cc in absurd (omega arith)
 
-pub refused-some : (o : Option Refusal) (r : Refusal) → tested_by o ≡ Refused r → o ≡ some r
+pub refused-some : (o : Option Refusal) (r : Refusal) → tested_by o ≡ Err r → o ≡ some r
 refused-some none r e = let z : ◌≡◌ {A = ℕ} 0 1 = cc in absurd (omega arith)
 refused-some (some x) r e = cc
 
 module _ (o : Option ℕ) (r : ℕ → Refusal) (later : Option Refusal) (t : Tested) (e : t ≡ tested_by (need_none o r none)) where
-  first-refused : (x : Refusal) → t ≡ Refused x → Refused x ≡ tested_by (need_none o r later)
+  first-refused : (x : Refusal) → t ≡ Err x → Err x ≡ tested_by (need_none o r later)
   first-refused x f = go o (sym f ∙ e)
     where
-      go : (o : Option ℕ) → Refused x ≡ tested_by (need_none o r none) → Refused x ≡ tested_by (need_none o r later)
+      go : (o : Option ℕ) → Err x ≡ tested_by (need_none o r none) → Err x ≡ tested_by (need_none o r later)
       go none q = let z : ◌≡◌ {A = ℕ} 0 1 = cc in absurd (omega arith)
       go (some i) q = q
 
-  first-passed : t ≡ Passed → tested_by later ≡ tested_by (need_none o r later)
+  first-passed : t ≡ Ok tt → tested_by later ≡ tested_by (need_none o r later)
   first-passed f = go o (sym f ∙ e)
     where
-      go : (o : Option ℕ) → Passed ≡ tested_by (need_none o r none) → tested_by later ≡ tested_by (need_none o r later)
+      go : (o : Option ℕ) → Ok tt ≡ tested_by (need_none o r none) → tested_by later ≡ tested_by (need_none o r later)
       go none q = refl
       go (some i) q = let z : ◌≡◌ {A = ℕ} 0 1 = cc in absurd (omega arith)
 
 module _ (ns : List Node) (t : Tested) where
-  pub tree-refused : t ≡ tested_by (uses_test ns) → (x : Refusal) → t ≡ Refused x → Refused x ≡ tested_by (tree_test ns)
+  pub tree-refused : t ≡ tested_by (uses_test ns) → (x : Refusal) → t ≡ Err x → Err x ≡ tested_by (tree_test ns)
   unfolding uses_test depths_test tree_test
   tree-refused e x f = first-refused (lowest (λ i. not (eqb (uses ns i) 1)) (pred (length ns))) NotUsedOnce (depths_test ns) t e x f
 
-  pub tree-passed : t ≡ tested_by (uses_test ns) → t ≡ Passed → tested_by (depths_test ns) ≡ tested_by (tree_test ns)
+  pub tree-passed : t ≡ tested_by (uses_test ns) → t ≡ Ok tt → tested_by (depths_test ns) ≡ tested_by (tree_test ns)
   unfolding uses_test depths_test tree_test
   tree-passed e f = first-passed (lowest (λ i. not (eqb (uses ns i) 1)) (pred (length ns))) NotUsedOnce (depths_test ns) t e f
 
-  pub nodes-refused : t ≡ tested_by (operands_test ns) → (x : Refusal) → t ≡ Refused x → Refused x ≡ tested_by (nodes_test ns)
+  pub nodes-refused : t ≡ tested_by (operands_test ns) → (x : Refusal) → t ≡ Err x → Err x ≡ tested_by (nodes_test ns)
   unfolding operands_test nodes_test
   nodes-refused e x f = first-refused (lowest (λ i. not (well_formed ns i)) (length ns)) BadOperand (tree_test ns) t e x f
 
-  pub nodes-passed : t ≡ tested_by (operands_test ns) → t ≡ Passed → tested_by (tree_test ns) ≡ tested_by (nodes_test ns)
+  pub nodes-passed : t ≡ tested_by (operands_test ns) → t ≡ Ok tt → tested_by (tree_test ns) ≡ tested_by (nodes_test ns)
   unfolding operands_test nodes_test
   nodes-passed e f = first-passed (lowest (λ i. not (well_formed ns i)) (length ns)) BadOperand (tree_test ns) t e f
 

@@ -1,5 +1,5 @@
 -- How a text is walked: a field and a line one byte at a time, and how the rest of a line goes on after a field. Assumes nothing.
-use Rattle.std.specs.Prelude.{Bool, true, false, ◌&&◌, List, [], ◌∷◌, ◌≡◌, ℕ, suc, ◌+◌, ◌-◌, ◌*◌, ◌≤◌, ◌<◌, leb, eqb, length, take, drop, get_or}
+use Rattle.std.specs.Prelude.{Bool, true, false, ◌&&◌, List, [], ◌∷◌, ◌≡◌, ℕ, suc, ◌+◌, ◌-◌, ◌*◌, ◌≤◌, ◌<◌, leb, eqb, length, take, drop, get_or, None, Some}
 use Rattle.std.proofs.Math.Option.{Option, none, some}
 use Rattle.std.proofs.Math.Path.{refl}
 use Rattle.std.proofs.Common.{ap, arith, drop_of_length-le}
@@ -9,7 +9,7 @@ use Rattle.script.specs.Limits.{type_limit}
 use Rattle.script.specs.Tests.{pick, all}
 use Rattle.text.specs.Fields.{given, is_digit, value_after, decimal_up_to, last_letter, type_after, type_up_to}
 use Rattle.text.specs.Code.Scan.{ends_field, starts_with, field_in, field_ends, number_after, said_by}
-use Rattle.text.specs.declared.Said.{Said}
+use Rattle.text.specs.Code.Named.{Said}
 
 -- ---- fields
 
@@ -177,10 +177,10 @@ type_end t = refl
 
 -- ---- what a field says
 
-pub said_number : (o : Option ℕ) (n : ℕ) → said_by o ≡ Said.Number n → o ≡ some n
+pub said_number : (o : Option ℕ) (n : ℕ) → said_by o ≡ Some n → o ≡ some n
 said_number none n e = let z : ◌≡◌ {A = ℕ} 0 1 = cc in absurd (omega arith)
 said_number (some m) n e = cc
 
-pub said_nothing : (o : Option ℕ) → said_by o ≡ Said.Nothing → o ≡ none
+pub said_nothing : (o : Option ℕ) → said_by o ≡ None → o ≡ none
 said_nothing none e = refl
 said_nothing (some m) e = let z : ◌≡◌ {A = ℕ} 0 1 = cc in absurd (omega arith)

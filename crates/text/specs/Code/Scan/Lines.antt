@@ -1,5 +1,5 @@
 -- The rest of a line after its word, one field at a time. Assumes nothing.
-use Rattle.std.specs.Prelude.{Bool, ◌||◌, ◌≡◌, drop, get_or}
+use Rattle.std.specs.Prelude.{Bool, ◌||◌, ◌≡◌, drop, get_or, Some, None}
 use Rattle.std.proofs.Math.Bool.{true, false}
 use mathlib.Core.List.{List, [], ◌∷◌, ◌++◌, append_assoc}
 use Rattle.std.proofs.Math.Option.{Option, none, some}
@@ -19,8 +19,10 @@ use Rattle.text.specs.Fields.{decimal_up_to, type_of, same_bytes, kind_named}
 use Rattle.text.specs.Grammar.{parts, on_first, on_numbers, numbers_up_to, node_with, node_by, entry_with, entry_from, line_from, line_of, up_to}
 use Rattle.text.specs.Code.Scan.{starts_with, field_in, field_ends, line_in, line_ends, fields_after, operand_by, operand_at, located, line_at, entry_after, node_after}
 use Rattle.text.specs.Code.Scan.Laws.{field-ends, field-most}
-use Rattle.text.specs.declared.Operand.{Operand}
+use Rattle.script.specs.Answers.Named.{same_parts}
+use Rattle.text.specs.Code.Named.{Operand}
 use Rattle.text.specs.declared.Scanned.{Scanned}
+use Rattle.text.specs.Code.Named.{Located}
 
 -- ---- a line goes on after its first field
 
@@ -87,10 +89,10 @@ behind_more os n none = refl
 behind_more os n (some ps) = ap some (sym (append_assoc os (n ∷ []) ps))
 
 -- the node line of kind k whose operands so far are os, with n more to come up to m, given the rest of the text
-unfoldable pub node_rest : ℕ → ℕ → List ℕ → ℕ → ℕ → List ℕ → Scanned
+unfoldable pub node_rest : ℕ → ℕ → List ℕ → ℕ → ℕ → List ℕ → Located
 node_rest k m os n at cs = located (line_ends cs) (node_with k (behind os (exactly n m (fields_after cs)))) (at + length (line_in cs) + 1)
 
-located-none : (b : Bool) (at : ℕ) → located b none at ≡ Scanned.Bad
+located-none : (b : Bool) (at : ℕ) → located b none at ≡ None
 located-none true at = refl
 located-none false at = refl
 
@@ -101,13 +103,13 @@ pub record FoundOperand (m at : ℕ) (cs : List ℕ) (x next : ℕ) : Type 0 whe
   pub number_is : decimal_up_to m (field_in after-tab) ≡ some x
   pub next-is : next ≡ at + 1 + length (field_in after-tab)
 
-pub found-operand : (m at : ℕ) (cs : List ℕ) (x next : ℕ) → operand_at true m at cs ≡ Operand.Is x next → FoundOperand m at cs x next
+pub found-operand : (m at : ℕ) (cs : List ℕ) (x next : ℕ) → operand_at true m at cs ≡ Some (x , next) → FoundOperand m at cs x next
 found-operand m at [] x next e = let z : ◌≡◌ {A = ℕ} 0 1 = cc in absurd (omega arith)
 found-operand m at (c ∷ ds) x next e = go (eqb c tab) refl (decimal_up_to m (field_in ds)) refl e
   where
-    go : (b : Bool) → eqb c tab ≡ b → (o : Option ℕ) → decimal_up_to m (field_in ds) ≡ o → pick b (operand_by o (at + 1 + length (field_in ds))) Operand.Bad ≡ Operand.Is x next → FoundOperand m at (c ∷ ds) x next
+    go : (b : Bool) → eqb c tab ≡ b → (o : Option ℕ) → decimal_up_to m (field_in ds) ≡ o → pick b (operand_by o (at + 1 + length (field_in ds))) None ≡ Some (x , next) → FoundOperand m at (c ∷ ds) x next
     go true t none n e = let z : ◌≡◌ {A = ℕ} 0 1 = cc in absurd (omega arith)
-    go true t (some y) n e = record { after-tab = ds; begins = ap (λ d. d ∷ ds) (eqb-true c tab t); number_is = n ∙ cc; next-is = cc }
+    go true t (some y) n e = record { after-tab = ds; begins = ap (λ d. d ∷ ds) (eqb-true c tab t); number_is = n ∙ ap some (same_parts e).0; next-is = sym (same_parts e).1 }
     go false t o n e = let z : ◌≡◌ {A = ℕ} 0 1 = cc in absurd (omega arith)
 
 -- the line goes on after it
@@ -125,13 +127,13 @@ rest-operand k m os n at cs x next f =
     rw (f.begins, f.next-is) (rest-tab k m os n at f.after-tab x f.number_is)
 
 -- no operand where one is wanted: the line is not of the form
-pub rest_bad : (k m : ℕ) (os : List ℕ) (n at : ℕ) (cs : List ℕ) → operand_at true m at cs ≡ Operand.Bad → node_rest k m os (suc n) at cs ≡ Scanned.Bad
+pub rest_bad : (k m : ℕ) (os : List ℕ) (n at : ℕ) (cs : List ℕ) → operand_at true m at cs ≡ None → node_rest k m os (suc n) at cs ≡ None
 unfolding node_rest exactly
 rest_bad k m os n at [] e = located-none (line_ends []) (at + length (line_in []) + 1)
 rest_bad k m os n at (c ∷ ds) e = go (eqb c tab) refl (decimal_up_to m (field_in ds)) refl e
   where
-    go : (b : Bool) → eqb c tab ≡ b → (o : Option ℕ) → decimal_up_to m (field_in ds) ≡ o → pick b (operand_by o (at + 1 + length (field_in ds))) Operand.Bad ≡ Operand.Bad
-        → located (line_ends (c ∷ ds)) (node_with k (behind os (exactly (suc n) m (pick b (parts tab (line_in ds)) [])))) (at + length (line_in (c ∷ ds)) + 1) ≡ Scanned.Bad
+    go : (b : Bool) → eqb c tab ≡ b → (o : Option ℕ) → decimal_up_to m (field_in ds) ≡ o → pick b (operand_by o (at + 1 + length (field_in ds))) None ≡ None
+        → located (line_ends (c ∷ ds)) (node_with k (behind os (exactly (suc n) m (pick b (parts tab (line_in ds)) [])))) (at + length (line_in (c ∷ ds)) + 1) ≡ None
     go true t none f e = rw ((goes_on ds).fields_are, f) (located-none (line_ends (c ∷ ds)) (at + length (line_in (c ∷ ds)) + 1))
     go true t (some y) f e = let z : ◌≡◌ {A = ℕ} 0 1 = cc in absurd (omega arith)
     go false t o f e = located-none (line_ends (c ∷ ds)) (at + length (line_in (c ∷ ds)) + 1)
@@ -145,12 +147,12 @@ rest-lf k m os at (c ∷ ds) e =
     let l = eqb-true c lf e in
     rw l refl
 
-pub rest_no_lf : (k m : ℕ) (os : List ℕ) (at : ℕ) (cs : List ℕ) → field_ends cs ≡ true → starts_with lf cs ≡ false → node_rest k m os 0 at cs ≡ Scanned.Bad
+pub rest_no_lf : (k m : ℕ) (os : List ℕ) (at : ℕ) (cs : List ℕ) → field_ends cs ≡ true → starts_with lf cs ≡ false → node_rest k m os 0 at cs ≡ None
 unfolding node_rest exactly line_ends line_in
 rest_no_lf k m os at [] f e = refl
 rest_no_lf k m os at (c ∷ ds) f e = go (eqb c tab) refl
   where
-    go : (b : Bool) → eqb c tab ≡ b → node_rest k m os 0 at (c ∷ ds) ≡ Scanned.Bad
+    go : (b : Bool) → eqb c tab ≡ b → node_rest k m os 0 at (c ∷ ds) ≡ None
     go true t = rw (t, (goes_on ds).fields_are) (located-none (pick (eqb c lf) true (line_ends ds)) (at + length (pick (eqb c lf) [] (c ∷ line_in ds)) + 1))
     go false t = absurd (true_or_false (eqb c tab || eqb c lf) f (rw (t, e) refl))
 
@@ -173,7 +175,7 @@ starts_then b text at e =
     let d = drop-cons text at 0 h in
     rw d (rw (add-one at) (ap (λ c. c ∷ drop (suc at) text) (eqb-true (get_or text at 0) b (rw d at e))))
 
-pub operand_no_tab : (m at : ℕ) (cs : List ℕ) → starts_with tab cs ≡ false → operand_at true m at cs ≡ Operand.Bad
+pub operand_no_tab : (m at : ℕ) (cs : List ℕ) → starts_with tab cs ≡ false → operand_at true m at cs ≡ None
 operand_no_tab m at [] e = refl
 operand_no_tab m at (c ∷ cs) e = rw e refl
 
@@ -197,7 +199,7 @@ module _ (text : List ℕ) (at : ℕ) (e : starts_with tab (drop at text) ≡ tr
 
 -- ---- an entry line after its word
 
-pub entry_no_tab : (at : ℕ) (cs : List ℕ) → starts_with tab cs ≡ false → entry_after at cs ≡ Scanned.Bad
+pub entry_no_tab : (at : ℕ) (cs : List ℕ) → starts_with tab cs ≡ false → entry_after at cs ≡ None
 unfolding entry_after
 entry_no_tab at [] e = located-none (line_ends []) (at + length (line_in []) + 1)
 entry_no_tab at (c ∷ cs) e = rw e (located-none (line_ends (c ∷ cs)) (at + length (line_in (c ∷ cs)) + 1))
@@ -220,12 +222,12 @@ module _ (at : ℕ) (ds : List ℕ) where
       let z : at + 1 + length (field_in ds) + 0 + 1 ≡ at + 1 + length (field_in ds) + 1 = omega arith in
       entry-tab ∙ rw (r, l, z) refl
 
-  entry-not_end : (rs : List ℕ) → rest_in ds ≡ rs → field_ends rs ≡ true → starts_with lf rs ≡ false → entry_after at (tab ∷ ds) ≡ Scanned.Bad
+  entry-not_end : (rs : List ℕ) → rest_in ds ≡ rs → field_ends rs ≡ true → starts_with lf rs ≡ false → entry_after at (tab ∷ ds) ≡ None
   unfolding line_ends
   entry-not_end [] r f e = entry-tab ∙ rw r refl
   entry-not_end (c ∷ rs) r f e = entry-tab ∙ rw r (go (eqb c tab) refl)
     where
-      go : (b : Bool) → eqb c tab ≡ b → located (line_ends (c ∷ rs)) (entry_from (field_in ds ∷ fields_after (c ∷ rs))) (at + 1 + length (field_in ds) + length (line_in (c ∷ rs)) + 1) ≡ Scanned.Bad
+      go : (b : Bool) → eqb c tab ≡ b → located (line_ends (c ∷ rs)) (entry_from (field_in ds ∷ fields_after (c ∷ rs))) (at + 1 + length (field_in ds) + length (line_in (c ∷ rs)) + 1) ≡ None
       go true t = rw (t, (goes_on rs).fields_are) (located-none (line_ends (c ∷ rs)) (at + 1 + length (field_in ds) + length (line_in (c ∷ rs)) + 1))
       go false t = absurd (true_or_false (eqb c tab || eqb c lf) f (rw (t, e) refl))
 
@@ -233,7 +235,7 @@ module _ (text : List ℕ) (at : ℕ) (e : starts_with tab (drop at text) ≡ tr
   pub entry-lf : starts_with lf (drop (at + 1 + length (field_then text at e)) text) ≡ true → entry_after at (drop at text) ≡ located true (entry_with (type_of (field_then text at e))) (at + 1 + length (field_then text at e) + 1)
   entry-lf f = rw (starts_then tab text at e) (entry_end at (drop (at + 1) text) (drop (at + 1 + length (field_then text at e)) text) (rest_at text (at + 1) (length (field_then text at e))) f)
 
-  pub entry_no_lf : starts_with lf (drop (at + 1 + length (field_then text at e)) text) ≡ false → entry_after at (drop at text) ≡ Scanned.Bad
+  pub entry_no_lf : starts_with lf (drop (at + 1 + length (field_then text at e)) text) ≡ false → entry_after at (drop at text) ≡ None
   entry_no_lf f = rw (starts_then tab text at e) (entry-not_end at (drop (at + 1) text) (drop (at + 1 + length (field_then text at e)) text) (rest_at text (at + 1) (length (field_then text at e))) (then_ends text at e) f)
 
 -- ---- a line and its word
@@ -271,5 +273,5 @@ module _ (text : List ℕ) (at : ℕ) where
   unfolding node_after
   line-node k e f = line-fields at (drop at text) ∙ rw (e, f, rest_then) refl
 
-  pub line-none : same_bytes entry_word word_then ≡ false → kind_named word_then ≡ none → line_at at (drop at text) ≡ Scanned.Bad
+  pub line-none : same_bytes entry_word word_then ≡ false → kind_named word_then ≡ none → line_at at (drop at text) ≡ None
   line-none e f = line-fields at (drop at text) ∙ rw (e, f) (located-none (line_ends (rest_in (drop at text))) (at + length word_then + length (line_in (rest_in (drop at text))) + 1))

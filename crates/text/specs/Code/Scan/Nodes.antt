@@ -1,6 +1,6 @@
 -- A node line after its word: its three operands in turn, each only where it is wanted, then the line's end. Assumes nothing.
-use Rattle.std.specs.Prelude.{Bool, true, false, List, [], ◌∷◌, ◌++◌, ◌≡◌, refl, ℕ, zero, suc, ◌+◌, ◌-◌, ◌≤◌, ◌<◌, ltb, length, drop}
-use Rattle.std.proofs.Common.{append-nil, ◌∙◌, add-zero, arith, ltb-true, ltb-false}
+use Rattle.std.specs.Prelude.{Bool, true, false, List, [], ◌∷◌, ◌++◌, ◌≡◌, refl, ℕ, zero, suc, ◌+◌, ◌-◌, ◌≤◌, ◌<◌, ltb, length, drop, Some, None}
+use Rattle.std.proofs.Common.{append-nil, ◌∙◌, sym, add-zero, arith, ltb-true, ltb-false}
 use Rattle.std.proofs.Math.Option.{Option, none, some}
 use Rattle.script.specs.Rows.{Row, row_of, operand_count, takes_in, takes_of}
 use Rattle.script.specs.Rows as Rows
@@ -14,8 +14,10 @@ use Rattle.text.specs.Bytes.{lf, tab}
 use Rattle.text.specs.Grammar.{node_with, node_by, up_to}
 use Rattle.text.specs.Code.Scan.{starts_with, field_in, field_ends, fields_after, line_in, line_ends, operand_at, located, node_after, largest_by}
 use Rattle.text.specs.Code.Scan.Lines.{FoundOperand, found-operand, node_rest, rest-operand, rest_bad, rest-lf, rest_no_lf, exactly, behind, node-exactly, rest_at, starts_then, then_most, then_ends}
-use Rattle.text.specs.declared.Operand.{Operand}
+use Rattle.script.specs.Answers.Named.{same_parts}
+use Rattle.text.specs.Code.Named.{Operand}
 use Rattle.text.specs.declared.Scanned.{Scanned}
+use Rattle.text.specs.Code.Named.{Located}
 
 -- ---- one operand
 
@@ -32,10 +34,10 @@ module _ (text : List ℕ) (k m : ℕ) where
     pub unwanted : ltb j count ≡ false → x ≡ 0
 
   module _ (os : List ℕ) (count j at : ℕ) where
-    pub bad_step : operand_at (ltb j count) m at (drop at text) ≡ Operand.Bad → node_rest k m os (count - j) at (drop at text) ≡ Scanned.Bad
+    pub bad_step : operand_at (ltb j count) m at (drop at text) ≡ None → node_rest k m os (count - j) at (drop at text) ≡ None
     bad_step e = go (ltb j count) refl e
       where
-        go : (b : Bool) → ltb j count ≡ b → operand_at b m at (drop at text) ≡ Operand.Bad → node_rest k m os (count - j) at (drop at text) ≡ Scanned.Bad
+        go : (b : Bool) → ltb j count ≡ b → operand_at b m at (drop at text) ≡ None → node_rest k m os (count - j) at (drop at text) ≡ None
         go true t e =
             let h = ltb-true j count t in
             let d : count - j ≡ suc (count - suc j) = omega arith in
@@ -57,20 +59,20 @@ module _ (text : List ℕ) (k m : ℕ) where
           unwanted = λ u. absurd (true_or_false (ltb j count) t u);
         }
 
-    pub step : (x next : ℕ) → at ≤ length text → field_ends (drop at text) ≡ true → operand_at (ltb j count) m at (drop at text) ≡ Operand.Is x next → Stepped os count j at x next
+    pub step : (x next : ℕ) → at ≤ length text → field_ends (drop at text) ≡ true → operand_at (ltb j count) m at (drop at text) ≡ Some (x , next) → Stepped os count j at x next
     step x next l f e = go (ltb j count) refl e
       where
-        go : (b : Bool) → ltb j count ≡ b → operand_at b m at (drop at text) ≡ Operand.Is x next → Stepped os count j at x next
+        go : (b : Bool) → ltb j count ≡ b → operand_at b m at (drop at text) ≡ Some (x , next) → Stepped os count j at x next
         go true t e = wanted_step x next t (found-operand m at (drop at text) x next e)
         go false t e =
             let h = ltb-false j count t in
             let d : count - j ≡ count - suc j = omega arith in
-            let n : at ≡ next = cc in
+            let n : at ≡ next = (same_parts e).1 in
             record {
               same = rw (d, t, append-nil os, n) refl;
               most = rw n at l;
               ends = rw n at f;
-              unwanted = λ u. cc;
+              unwanted = λ u. sym (same_parts e).0;
             }
 
 -- ---- from the word to the line's end
@@ -92,7 +94,7 @@ node-start k at cs h = go (row_of k) refl
 
 -- the node of the three operands, of which the unwanted ones are 0
 pub node_made : (k count a b c at : ℕ) → count ≤ 3 → (ltb 0 count ≡ false → a ≡ 0) → (ltb 1 count ≡ false → b ≡ 0) → (ltb 2 count ≡ false → c ≡ 0)
-    → located true (node_with k (some ([] ++ added 0 count a ++ added 1 count b ++ added 2 count c ++ []))) (at + 0 + 1) ≡ Scanned.Node (node_of k a b c) (at + 1)
+    → located true (node_with k (some ([] ++ added 0 count a ++ added 1 count b ++ added 2 count c ++ []))) (at + 0 + 1) ≡ Some (Scanned.Node (node_of k a b c) , (at + 1))
 node_made k zero a b c at h x y z = rw (x refl, y refl, z refl, add-zero at) refl
 node_made k (suc zero) a b c at h x y z = rw (y refl, z refl, add-zero at) refl
 node_made k (suc (suc zero)) a b c at h x y z = rw (z refl, add-zero at) refl
@@ -138,15 +140,15 @@ module _ (text : List ℕ) (k start count m : ℕ) where
   reach_start h l f c e = record { same = rw (c, e) (node-start k start (drop start text) h); most = l; ends = f }
 
   module _ {os : List ℕ} {j at : ℕ} (r : Reached os j at) where
-    pub reach_next : (x next : ℕ) → operand_at (ltb j count) m at (drop at text) ≡ Operand.Is x next → Reached (os ++ added j count x) (suc j) next
+    pub reach_next : (x next : ℕ) → operand_at (ltb j count) m at (drop at text) ≡ Some (x , next) → Reached (os ++ added j count x) (suc j) next
     reach_next x next e =
         let s = step text k m os count j at x next r.most r.ends e in
         record { same = r.same ∙ s.same; most = s.most; ends = s.ends }
 
-    pub reach_unwanted : (x next : ℕ) → operand_at (ltb j count) m at (drop at text) ≡ Operand.Is x next → ltb j count ≡ false → x ≡ 0
+    pub reach_unwanted : (x next : ℕ) → operand_at (ltb j count) m at (drop at text) ≡ Some (x , next) → ltb j count ≡ false → x ≡ 0
     reach_unwanted x next e = (step text k m os count j at x next r.most r.ends e).unwanted
 
-    pub reach_bad : operand_at (ltb j count) m at (drop at text) ≡ Operand.Bad → node_after k start (drop start text) ≡ Scanned.Bad
+    pub reach_bad : operand_at (ltb j count) m at (drop at text) ≡ None → node_after k start (drop start text) ≡ None
     reach_bad e = r.same ∙ bad_step text k m os count j at e
 
   module _ {os : List ℕ} {at : ℕ} (r : Reached os 3 at) (l : count ≤ 3) where
@@ -156,5 +158,5 @@ module _ (text : List ℕ) (k start count m : ℕ) where
     pub reach_lf : starts_with lf (drop at text) ≡ true → node_after k start (drop start text) ≡ located true (node_with k (some (os ++ []))) (at + 0 + 1)
     reach_lf e = r.same ∙ rw none_left (rest-lf k m os at (drop at text) e)
 
-    pub reach_no_lf : starts_with lf (drop at text) ≡ false → node_after k start (drop start text) ≡ Scanned.Bad
+    pub reach_no_lf : starts_with lf (drop at text) ≡ false → node_after k start (drop start text) ≡ None
     reach_no_lf e = r.same ∙ rw none_left (rest_no_lf k m os at (drop at text) r.ends e)

@@ -1,5 +1,5 @@
 -- What an entry line, a node line and a bad line do to the lent numbers, as the grammar admits them. Assumes nothing.
-use Rattle.std.specs.Prelude.{Bool, true, false, List, [], ◌∷◌, ◌++◌, ◌≡◌, refl, ℕ, ◌+◌, ◌*◌, ◌≤◌, ◌<◌, ltb, eqb, take, drop, set}
+use Rattle.std.specs.Prelude.{Bool, true, false, List, [], ◌∷◌, ◌++◌, ◌≡◌, refl, ℕ, ◌+◌, ◌*◌, ◌≤◌, ◌<◌, ltb, eqb, take, drop, set, None, Some, Err}
 use Rattle.std.proofs.Math.Option.{Option, none, some}
 use Rattle.std.proofs.Common.{sym, ap, ◌∙◌, add-one, arith, length-drop, length-set, length-take-le, take-suc-set, eqb-true, ltb-true}
 use Rattle.std.proofs.Math.ListN.{length, length-append}
@@ -16,13 +16,15 @@ use Rattle.script.specs.Tests.{pick}
 use Rattle.script.specs.declared.Node.{Node}
 use Rattle.script.specs.declared.Refusal.TheVariants.{BadLine, TooManyAt, BadOperand}
 use Rattle.script.specs.declared.Script.{Script}
-use Rattle.script.specs.declared.Sized.{Sized}
 use Rattle.text.specs.Grammar.{Line, entry_line, node_line, go_on, stop, admit, line_of}
 use Rattle.text.specs.Code.Scan.{line_in, line_ends, located, line_at}
 use Rattle.text.specs.Code.Steps.{nodes_by, entries_by, Kept, Framed, entry_step, entry_stored, node_step, node_stored, line_here, goes-next, refused, Took}
 use Rattle.text.specs.Code.Steps.Laws.{line-within}
 use Rattle.text.specs.declared.Scanned.{Scanned}
-use Rattle.text.specs.declared.Step.{Step}
+use Rattle.script.specs.Answers.Named.{same_parts}
+use Rattle.text.specs.Code.Named.{Located}
+use Rattle.text.specs.Code.Named.{Step}
+use Rattle.script.specs.Answers.Named.{Sized}
 
 -- ---- what a scanned line tells
 
@@ -33,47 +35,47 @@ pub record Here (l : Line) (at next : ℕ) (cs : List ℕ) : Type 0 where
   pub ends : line_ends cs ≡ true
 
 module _ (at : ℕ) (cs : List ℕ) where
-  located-entry : (b : Bool) (o : Option Line) (t next n : ℕ) → located b o n ≡ Scanned.Entry t next → (b ≡ true) × (o ≡ some (entry_line t)) × (next ≡ n)
+  located-entry : (b : Bool) (o : Option Line) (t next n : ℕ) → located b o n ≡ Some (Scanned.Entry t , next) → (b ≡ true) × (o ≡ some (entry_line t)) × (next ≡ n)
   located-entry false o t next n e = let z : ◌≡◌ {A = ℕ} 0 1 = cc in absurd (omega arith)
   located-entry true none t next n e = let z : ◌≡◌ {A = ℕ} 0 1 = cc in absurd (omega arith)
-  located-entry true (some (entry_line u)) t next n e = let q : u ≡ t = cc in (refl, ap (λ t. some (entry_line t)) q, cc)
-  located-entry true (some (node_line m)) t next n e = let z : ◌≡◌ {A = ℕ} 0 1 = cc in absurd (omega arith)
+  located-entry true (some (entry_line u)) t next n e = let p = same_parts e in let q : u ≡ t = cc (p.0) in (refl, ap (λ t. some (entry_line t)) q, sym p.1)
+  located-entry true (some (node_line m)) t next n e = let p = (same_parts e).0 in let z : ◌≡◌ {A = ℕ} 0 1 = cc in absurd (omega arith)
 
-  located-node : (b : Bool) (o : Option Line) (m : Node) (next n : ℕ) → located b o n ≡ Scanned.Node m next → (b ≡ true) × (o ≡ some (node_line m)) × (next ≡ n)
+  located-node : (b : Bool) (o : Option Line) (m : Node) (next n : ℕ) → located b o n ≡ Some (Scanned.Node m , next) → (b ≡ true) × (o ≡ some (node_line m)) × (next ≡ n)
   located-node false o m next n e = let z : ◌≡◌ {A = ℕ} 0 1 = cc in absurd (omega arith)
   located-node true none m next n e = let z : ◌≡◌ {A = ℕ} 0 1 = cc in absurd (omega arith)
-  located-node true (some (entry_line u)) m next n e = let z : ◌≡◌ {A = ℕ} 0 1 = cc in absurd (omega arith)
-  located-node true (some (node_line k)) m next n e = let q : k ≡ m = cc in (refl, ap (λ m. some (node_line m)) q, cc)
+  located-node true (some (entry_line u)) m next n e = let p = (same_parts e).0 in let z : ◌≡◌ {A = ℕ} 0 1 = cc in absurd (omega arith)
+  located-node true (some (node_line k)) m next n e = let p = same_parts e in let q : k ≡ m = cc (p.0) in (refl, ap (λ m. some (node_line m)) q, sym p.1)
 
-  located_bad : (b : Bool) (o : Option Line) (n : ℕ) → located b o n ≡ Scanned.Bad → pick b o none ≡ none
+  located_bad : (b : Bool) (o : Option Line) (n : ℕ) → located b o n ≡ None → pick b o none ≡ none
   located_bad false o n e = refl
   located_bad true none n e = refl
   located_bad true (some (entry_line u)) n e = let z : ◌≡◌ {A = ℕ} 0 1 = cc in absurd (omega arith)
   located_bad true (some (node_line k)) n e = let z : ◌≡◌ {A = ℕ} 0 1 = cc in absurd (omega arith)
 
-  pub here-entry : (t next : ℕ) → line_at at cs ≡ Scanned.Entry t next → Here (entry_line t) at next cs
+  pub here-entry : (t next : ℕ) → line_at at cs ≡ Some (Scanned.Entry t , next) → Here (entry_line t) at next cs
   unfolding line_at
   here-entry t next e =
       let l = located-entry (line_ends cs) (line_of (line_in cs)) t next (at + length (line_in cs) + 1) e in
       record { line-is = rw l.0 l.1; next-is = l.2; ends = l.0 }
 
-  pub here-node : (n : Node) (next : ℕ) → line_at at cs ≡ Scanned.Node n next → Here (node_line n) at next cs
+  pub here-node : (n : Node) (next : ℕ) → line_at at cs ≡ Some (Scanned.Node n , next) → Here (node_line n) at next cs
   unfolding line_at
   here-node n next e =
       let l = located-node (line_ends cs) (line_of (line_in cs)) n next (at + length (line_in cs) + 1) e in
       record { line-is = rw l.0 l.1; next-is = l.2; ends = l.0 }
 
-  pub here_bad : line_at at cs ≡ Scanned.Bad → line_here cs ≡ none
+  pub here_bad : line_at at cs ≡ None → line_here cs ≡ none
   unfolding line_at
   here_bad e = located_bad (line_ends cs) (line_of (line_in cs)) (at + length (line_in cs) + 1) e
 
 -- ---- one more node or entry, or one too many
 
-pub sized_fits : (b : Bool) (s t : Script) → pick_sized b (Sized.Fits s) ≡ Sized.Fits t → (b ≡ true) × (t ≡ s)
+pub sized_fits : (b : Bool) (s t : Script) → pick_sized b (Some s) ≡ Some t → (b ≡ true) × (t ≡ s)
 sized_fits true s t e = (refl, cc)
 sized_fits false s t e = let z : ◌≡◌ {A = ℕ} 0 1 = cc in absurd (omega arith)
 
-pub sized_large : (b : Bool) (s : Script) → pick_sized b (Sized.Fits s) ≡ Sized.TooLarge → b ≡ false
+pub sized_large : (b : Bool) (s : Script) → pick_sized b (Some s) ≡ None → b ≡ false
 sized_large true s e = let z : ◌≡◌ {A = ℕ} 0 1 = cc in absurd (omega arith)
 sized_large false s e = refl
 
@@ -94,7 +96,7 @@ frames {xs} {es} {ys} {fs} {zs} {gs} a b =
 -- ---- the three kinds of line
 
 module _ (text : List ℕ) (at i : ℕ) (s : Script) (xs es : List ℕ) (k : Kept s xs es) where
-  pub took_bad : line_here (drop at text) ≡ none → Took text at i s xs es (Step.Refused (BadLine i)) xs es
+  pub took_bad : line_here (drop at text) ≡ none → Took text at i s xs es (Err (BadLine i)) xs es
   took_bad e = record { step_is = rw e refl; goes = refused; framed = same-frame xs es }
 
   pub nodes-length : length (nodes_by s xs) ≡ s.nodes

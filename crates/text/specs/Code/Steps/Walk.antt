@@ -1,6 +1,6 @@
 -- The walk over all lines: what holds before each of them, how a line taken carries it on, and what a refused line or the end of the text gives.
 -- Assumes nothing.
-use Rattle.std.specs.Prelude.{List, [], ◌≡◌, refl, ℕ, suc, ◌+◌, ◌*◌, ◌≤◌, ◌<◌, ltb, length, drop}
+use Rattle.std.specs.Prelude.{List, [], ◌≡◌, refl, ℕ, suc, ◌+◌, ◌*◌, ◌≤◌, ◌<◌, ltb, length, drop, Err, Ok}
 use Rattle.std.proofs.Math.Option.{Option, none, some}
 use Rattle.std.proofs.Common.{sym, ◌∙◌, arith}
 use Rattle.std.proofs.Math.ListN.{drop_of_length-le}
@@ -9,7 +9,6 @@ use Rattle.script.specs.Flat.{node_width}
 use Rattle.script.specs.Limits.{node_limit, entry_limit, size_of}
 use Rattle.script.specs.Table.{tree_test}
 use Rattle.script.specs.Tests.{need}
-use Rattle.script.specs.declared.Reading.{Reading}
 use Rattle.script.specs.declared.Refusal.{Refusal}
 use Rattle.script.specs.declared.Refusal.TheVariants.{NoNode}
 use Rattle.script.specs.declared.Script.{Script}
@@ -19,7 +18,8 @@ use Rattle.text.specs.Code.Scan.{line_in}
 use Rattle.text.specs.Code.Steps.{nodes_by, entries_by, Kept, Framed, step_of, GoesTo, goes-next, Took, ended_by, Holds}
 use Rattle.text.specs.Code.Steps.Laws.{text-step}
 use Rattle.text.specs.Code.Steps.Taken.{same-frame, frames, nodes-length, entries-length}
-use Rattle.text.specs.declared.Step.{Step}
+use Rattle.text.specs.Code.Named.{Step}
+use Rattle.script.specs.Answers.Named.{Reading}
 
 -- before line i, which starts at `at`: what the rest means after the entries and nodes so far, the text means
 pub record Walked (text xs₀ es₀ : List ℕ) (s : Script) (xs es : List ℕ) (at i : ℕ) : Type 0 where
@@ -40,7 +40,7 @@ walk_start text xs es h l =
     }
 
 -- where a line taken goes on
-goes_at : {at next most : ℕ} {xs es : List ℕ} {s : Script} {n : ℕ} → GoesTo at next most xs es (Step.Next s n) → (n ≡ next) × Kept s xs es × (at < next) × (next ≤ most)
+goes_at : {at next most : ℕ} {xs es : List ℕ} {s : Script} {n : ℕ} → GoesTo at next most xs es (Ok (s , n)) → (n ≡ next) × Kept s xs es × (at < next) × (next ≤ most)
 goes_at (goes-next k a b) = (refl, k, a, b)
 
 module _ {text xs₀ es₀ : List ℕ} {s : Script} {xs es : List ℕ} {at i : ℕ} (w : Walked text xs₀ es₀ s xs es at i) where
@@ -49,7 +49,7 @@ module _ {text xs₀ es₀ : List ℕ} {s : Script} {xs es : List ℕ} {at i : �
       → after (step_of r xs' es') (λ es' ns'. lines_from (suc i) es' ns' (parts lf (drop (at + length (line_in (drop at text)) + 1) text))) ≡ lines_from 0 [] [] (parts lf text)
   walk_step h t = rw t.step_is (sym (text-step i (entries_by s es) (nodes_by s xs) text at h) ∙ w.same)
 
-  pub walk_on : at < length text → {s' : Script} {next : ℕ} {xs' es' : List ℕ} → Took text at i s xs es (Step.Next s' next) xs' es' → Walked text xs₀ es₀ s' xs' es' next (suc i) × (at < next)
+  pub walk_on : at < length text → {s' : Script} {next : ℕ} {xs' es' : List ℕ} → Took text at i s xs es (Ok (s' , next)) xs' es' → Walked text xs₀ es₀ s' xs' es' next (suc i) × (at < next)
   walk_on h {s'} {next} {xs'} {es'} t =
       let g = goes_at t.goes in
       let n = g.0 in
@@ -64,7 +64,7 @@ module _ {text xs₀ es₀ : List ℕ} {s : Script} {xs es : List ℕ} {at i : �
         omega (arith, g.2),
       )
 
-  pub walk_refused : at < length text → {r : Refusal} {xs' es' : List ℕ} → Took text at i s xs es (Step.Refused r) xs' es' → Holds (lines_from 0 [] [] (parts lf text)) xs₀ es₀ (Reading.Refused r) xs' es'
+  pub walk_refused : at < length text → {r : Refusal} {xs' es' : List ℕ} → Took text at i s xs es (Err r) xs' es' → Holds (lines_from 0 [] [] (parts lf text)) xs₀ es₀ (Err r) xs' es'
   walk_refused h t =
       rw (← walk_step h t)
       (record { answer-is = refl; nodes_are = refl; entries_are = refl; nodes-room = omega arith; entries-room = omega arith; framed = frames w.framed t.framed })

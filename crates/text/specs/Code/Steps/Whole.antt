@@ -1,5 +1,5 @@
 -- A whole call of the reader: 32 and 31 before the lines, and what every lent number holds after the unused places are cleared. Assumes nothing.
-use Rattle.std.specs.Prelude.{List, [], ◌++◌, ◌≡◌, ℕ, ◌-◌, ◌*◌, ◌/◌, ◌≤◌, ◌<◌, length, take, drop, replicate}
+use Rattle.std.specs.Prelude.{List, [], ◌++◌, ◌≡◌, ℕ, ◌-◌, ◌*◌, ◌/◌, ◌≤◌, ◌<◌, length, take, drop, replicate, Err}
 use Rattle.std.proofs.Math.Path.{refl}
 use Rattle.std.proofs.Common.{sym, ap, ◌∙◌, arith, take-append-drop, length-take-le}
 use Rattle.std.proofs.Math.Seq.{take-length}
@@ -9,7 +9,6 @@ use Rattle.script.specs.Flat.{node_width, flat, nodes_in}
 use Rattle.script.specs.Flat.Laws.{length-nodes_in, flat-nodes_in, enough-nodes}
 use Rattle.script.specs.Limits.{node_limit, entry_limit, byte_limit}
 use Rattle.script.specs.Table.{unused}
-use Rattle.script.specs.declared.Reading.{Reading}
 use Rattle.script.specs.declared.Refusal.{Refusal}
 use Rattle.script.specs.declared.Refusal.TheVariants.{TextTooLong, TableTooSmall}
 use Rattle.text.specs.Bytes.{lf}
@@ -17,10 +16,11 @@ use Rattle.text.specs.Grammar.{Meaning, refused, lines_from, parts, meaning_of}
 use Rattle.text.specs.Reading.{nodes_read, entries_read, filled, tried, reading, leaves, reading_in}
 use Rattle.text.specs.Code.Steps.{used_nodes, used_entries, Holds}
 use Rattle.text.specs.Code.Steps.Taken.{same-frame}
+use Rattle.script.specs.Answers.Named.{Reading}
 
 -- ---- 32 and 31
 
-pub holds-refused : (m : Meaning) (r : Refusal) (xs es : List ℕ) → m ≡ refused r → Holds m xs es (Reading.Refused r) xs es
+pub holds-refused : (m : Meaning) (r : Refusal) (xs es : List ℕ) → m ≡ refused r → Holds m xs es (Err r) xs es
 holds-refused m r xs es e =
     rw e (record { answer-is = refl; nodes_are = refl; entries_are = refl; nodes-room = omega arith; entries-room = omega arith; framed = same-frame xs es })
 
