@@ -1,7 +1,7 @@
 // An answer as one number, for a host in C.
 #![tactic(auto)]
 
-ghost use Rattle.std.specs.Prelude.{◌≡◌, ◌^◌, ◌<◌};
+ghost use Rattle.std.specs.Prelude.{Ok, ◌≡◌, ◌^◌, ◌<◌};
 ghost use Rattle.answers.specs.Answers.{packed, answer_of_refusal, answer_of_check, answer_of_run};
 ghost use Rattle.answers.specs.Code.Packing.{used_in};
 
@@ -36,14 +36,24 @@ pub fn check_answer(answer: Result<u32, Refusal>) -> u64
     }
 }
 
-// The answer of a run: the value or the node of the error state, with the used count; or the refusal.
+// The answer of a run that ended: the value or the node of the error state, with the used count.
+fn ended_answer(ended: Ended) -> u64
+    requires { used_in (Ok ended) < 65536 }
+    ensures { result ≡ answer_of_run (Ok ended) }
+{
+    match ended {
+        Ended::Gave(v, count) => pack(0, v.kind() as u64, count as u64, v.bits() as u64),
+        Ended::Failed(at, count) => pack(2, 0, count as u64, at as u64),
+    }
+}
+
+// The answer of a run: how it ended, or the refusal.
 pub fn run_answer(answer: Result<Ended, Refusal>) -> u64
     requires { used_in answer < 65536 }
     ensures { result ≡ answer_of_run answer }
 {
     match answer {
-        Ok(Ended::Gave(v, count)) => pack(0, v.kind() as u64, count as u64, v.bits() as u64),
-        Ok(Ended::Failed(at, count)) => pack(2, 0, count as u64, at as u64),
+        Ok(ended) => ended_answer(ended),
         Err(why) => refusal_answer(why),
     }
 }

@@ -1,6 +1,6 @@
 -- A guard that is a conjunct of the condition: the way down the chain, one row at a time; all formulas of one row hold alike, so where the condition holds the
 -- guard does, or does not, by the operator that it stands with; and so one branch is impossible. Assumes nothing.
-use Rattle.std.specs.Prelude.{Bool, List, ◌≡◌, ltb}
+use Rattle.std.specs.Prelude.{Bool, List, ◌≡◌, ltb, Option, Some, None}
 use Rattle.std.proofs.Math.Bool.{true, false, not, ◌&&◌, beq}
 use Rattle.std.proofs.Math.Path.{refl, ap, ap₂}
 use Rattle.std.proofs.Common.{sym, ◌∙◌, arith}
@@ -25,17 +25,46 @@ use Rattle.known.specs.Words.{atom_op}
 
 -- ---- the way down
 
--- what is found from row i on is what is found of the condition
-pub record Walking (ws : List ℕ) (c g left i : ℕ) : Type 0 where
+-- what a condition with this operator makes of its second operand as a guard
+unfoldable pub link_of : ℕ → Option Decision
+link_of op = pick (eqb op of_conjunction) (Some OnlyTrue) (pick (eqb op of_exclusion) (Some OnlyFalse) None)
+
+-- each answer by its operator
+pub data LinkIs (op : ℕ) : Option Decision → Type 0 where
+  with-guard : eqb op of_conjunction ≡ true → LinkIs op (Some OnlyTrue)
+  with-negation : eqb op of_conjunction ≡ false → eqb op of_exclusion ≡ true → LinkIs op (Some OnlyFalse)
+  with-neither : eqb op of_conjunction ≡ false → eqb op of_exclusion ≡ false → LinkIs op None
+
+pub link-is : (op : ℕ) (o : Option Decision) → o ≡ link_of op → LinkIs op o
+unfolding link_of
+link-is op o e = rw e (go (eqb op of_conjunction) (eqb op of_exclusion) refl refl)
+  where
+    go : (s t : Bool) → eqb op of_conjunction ≡ s → eqb op of_exclusion ≡ t → LinkIs op (pick s (Some OnlyTrue) (pick t (Some OnlyFalse) None))
+    go true t p q = with-guard p
+    go false true p q = with-negation p q
+    go false false p q = with-neither p q
+
+linking : {op : ℕ} {d : Decision} → LinkIs op (Some d) → is_link op ≡ true
+unfolding is_link
+linking (with-guard p) = rw p refl
+linking (with-negation p q) = rw (p, q) refl
+
+not-linking : {op : ℕ} → LinkIs op None → is_link op ≡ false
+unfolding is_link
+not-linking (with-neither p q) = rw (p, q) refl
+
+-- what is found from row i on, by so many rows as there are up to it or more, is what is found of the condition
+pub record Walking (ws : List ℕ) (c g i : ℕ) : Type 0 where
   pub low : i < row_limit
-  pub few : left ≤ row_limit
+  pub left : ℕ
+  pub more : i < left
   pub is : conjunct_at ws g left i ≡ conjunct_of ws c g
 
-pub walking : (ws : List ℕ) (c g : ℕ) → c < row_limit → Walking ws c g (c + 1) c
+pub walking : (ws : List ℕ) (c g : ℕ) → c < row_limit → Walking ws c g c
 unfolding conjunct_of
-walking ws c g h = record { low = h; few = omega arith; is = refl }
+walking ws c g h = record { low = h; left = c + 1; more = omega arith; is = refl }
 
-turn : (ws : List ℕ) (g left i : ℕ) → 0 < left
+turn : (ws : List ℕ) (g left i : ℕ) → i < left
     → conjunct_at ws g left i
     ≡ pick (is_link (row_in ws i).op)
     (pick (eqb (row_in ws i).b g) (row_in ws i).op (pick (ltb (row_in ws i).a i) (conjunct_at ws g (left - 1) (row_in ws i).a) 0))
@@ -44,45 +73,46 @@ unfolding conjunct_at
 turn ws g zero i h = absurd (omega arith)
 turn ws g (suc n) i h = let e : suc n - 1 ≡ n = omega arith in rw e
 
-module _ {ws : List ℕ} {c g left i : ℕ} (w : Walking ws c g left i) (more : 0 < left) (row : Row) (er : row ≡ row_in ws i) where
-  pub walking-none : (b : Bool) → b ≡ is_link row.op → not b ≡ true → 0 ≡ conjunct_of ws c g
-  walking-none b e n =
-      let t : is_link (row_in ws i).op ≡ false = rw er at (sym e ∙ not-true b n) in
-      rw t at (sym (turn ws g left i more)) ∙ w.is
+module _ {ws : List ℕ} {c g i : ℕ} (w : Walking ws c g i) (row : Row) (er : row ≡ row_in ws i) where
+  -- no operator links 0
+  pub none_of : 0 ≡ conjunct_of ws c g → None ≡ link_of (conjunct_of ws c g)
+  unfolding link_of
+  none_of e = rw (sym e) refl
 
-  link_true : (b : Bool) → b ≡ is_link row.op → not b ≡ false → is_link (row_in ws i).op ≡ true
-  link_true true e n = rw er at (sym e)
-  link_true false e n = absurd (true_or_false true refl n)
+  pub walking-none : None ≡ link_of row.op → None ≡ link_of (conjunct_of ws c g)
+  walking-none e =
+      let t : is_link (row_in ws i).op ≡ false = rw er at (not-linking (link-is row.op None e)) in
+      none_of (rw t at (sym (turn ws g w.left i w.more)) ∙ w.is)
 
-  module _ (b : Bool) (is_link_lem : b ≡ is_link row.op) (n : not b ≡ false) where
-    pub walking-found : row.b ≡ g → row.op ≡ conjunct_of ws c g
-    walking-found e =
-        let f : (row_in ws i).b ≡ g = rw er at e in
-        rw er (rw (link_true b is_link_lem n, eq-eqb (row_in ws i).b g f) at (sym (turn ws g left i more)) ∙ w.is)
+  module _ (d : Decision) (e : Some d ≡ link_of row.op) where
+    here : is_link (row_in ws i).op ≡ true
+    here = rw er at (linking (link-is row.op (Some d) e))
 
-    module _ (d : row.b ≡ g → ⊥) where
+    pub walking-found : row.b ≡ g → Some d ≡ link_of (conjunct_of ws c g)
+    walking-found q =
+        let f : (row_in ws i).b ≡ g = rw er at q in
+        e ∙ ap link_of (rw er (rw (here, eq-eqb (row_in ws i).b g f) at (sym (turn ws g w.left i w.more)) ∙ w.is))
+
+    module _ (n : row.b ≡ g → ⊥) where
       other-guard : eqb (row_in ws i).b g ≡ false
-      other-guard = ne_eqb (row_in ws i).b g (rw er at d)
+      other-guard = ne_eqb (row_in ws i).b g (rw er at n)
 
-      pub walking-up : i ≤ row.a → 0 ≡ conjunct_of ws c g
+      pub walking-up : i ≤ row.a → None ≡ link_of (conjunct_of ws c g)
       walking-up h =
           let l : i ≤ (row_in ws i).a = rw er at h in
-          rw (link_true b is_link_lem n, other-guard, le-ltb (row_in ws i).a i l) at (sym (turn ws g left i more)) ∙ w.is
+          none_of (rw (here, other-guard, le-ltb (row_in ws i).a i l) at (sym (turn ws g w.left i w.more)) ∙ w.is)
 
-      pub walking_on : row.a < i → Walking ws c g (left - 1) row.a
+      pub walking_on : row.a < i → Walking ws c g row.a
       walking_on h =
           let l : (row_in ws i).a < i = rw er at h in
           let p = w.low in
-          let q = w.few in
+          let q = w.more in
           record {
             low = omega arith;
-            few = omega arith;
-            is = rw er (rw (link_true b is_link_lem n, other-guard, lt-ltb (row_in ws i).a i l) at (sym (turn ws g left i more)) ∙ w.is);
+            left = w.left - 1;
+            more = omega arith;
+            is = rw er (rw (here, other-guard, lt-ltb (row_in ws i).a i l) at (sym (turn ws g w.left i w.more)) ∙ w.is);
           }
-
-pub walking_end : {ws : List ℕ} {c g left i : ℕ} → Walking ws c g left i → left ≤ 0 → 0 ≡ conjunct_of ws c g
-unfolding conjunct_at
-walking_end {ws} {c} {g} {left} {i} w h = let e : left ≡ 0 = omega arith in rw e at w.is
 
 -- ---- the formulas of one row hold alike
 

@@ -2,40 +2,39 @@
 // in the chain itself needs no search.
 ghost use Rattle.std.specs.Prelude.{◌≡◌, ◌≤◌, ◌<◌, length};
 ghost use Rattle.terms.specs.Places.{row_limit, rows_end};
-ghost use Rattle.rows.specs.Code.{is_link, conjunct_of};
+ghost use Rattle.rows.specs.Code.{conjunct_of};
+ghost use Rattle.decision.specs.Conjuncts.{link_of};
 
+use rows::Decision;
 use terms::{CONJUNCTION, EXCLUSION, row_at};
 
-// A row with this operator has a conjunct more than its first operand.
-fn is_link(op: u32) -> bool
-    ensures { result ≡ is_link op }
+// What a condition with this operator makes of its second operand as a guard.
+#[tactic(auto, unfolding(crate::specs::Conjuncts::link_of))]
+fn link(op: u32) -> Option<Decision>
+    ensures { result ≡ link_of op }
 {
-    if op == CONJUNCTION {
-        return true;
+    match op {
+        CONJUNCTION => Some(Decision::OnlyTrue),
+        EXCLUSION => Some(Decision::OnlyFalse),
+        _ => None,
     }
-    op == EXCLUSION
 }
 
-// The operator with which the condition has the guard as a conjunct: CONJUNCTION, EXCLUSION, or 0 if it does not have it.
-pub fn conjunct(space: &[u32], condition: usize, guard: u32) -> u32
+// The decision of a guard that the condition has as a conjunct, or its negation.
+pub fn conjunct(space: &[u32], condition: usize, guard: u32) -> Option<Decision>
     requires { (rows_end ≤ length space.now) × (condition < row_limit) }
-    ensures { result ≡ conjunct_of space.now condition guard }
+    ensures { result ≡ link_of (conjunct_of space.now condition guard) }
 {
     let mut i = condition;
-    let mut left = condition + 1;
-    while 0 < left {
+    loop {
         let row = row_at(space, i);
-        if !is_link(row.op) {
-            return 0;
-        }
+        let decision = link(row.op)?;
         if row.b == guard {
-            return row.op;
+            return Some(decision);
         }
         if i <= row.a as usize {
-            return 0;
+            return None;
         }
         i = row.a as usize;
-        left -= 1;
     }
-    0
 }

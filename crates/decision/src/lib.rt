@@ -14,10 +14,8 @@ mod conjuncts;
 
 use crate::conjuncts::conjunct;
 use known::{compare, forget, keep, list_guard, number_known};
-use rows::{
-    ATOMS, CONDITION, Decision, GUARD, ONES, above, blocks_of, both_found, branches_of, mark_all,
-};
-use terms::{CONJUNCTION, EXCLUSION, ROWS, RowNumber};
+use rows::{ATOMS, CONDITION, Decision, Found, GUARD, ONES, above, blocks_of, mark_all};
+use terms::{ROWS, RowNumber};
 use truths::{all_numbered, begin, evaluate, list_rows, number_atoms};
 
 // At most how many blocks of 64 assignments there are.
@@ -30,15 +28,11 @@ const NONE: u8 = 10;
 fn only_one(decision: Decision) -> bool
     ensures { result ≡ only_one decision }
 {
-    match decision {
-        Decision::TooMany => false,
-        Decision::Both => false,
-        Decision::OnlyTrue => true,
-        Decision::OnlyFalse => true,
-    }
+    matches!(decision, Decision::OnlyTrue | Decision::OnlyFalse)
 }
 
 // The truths of the condition; where only the guard's rows have words, it is true.
+#[tactic(auto, unfolding(rows::specs::Code::condition_word))]
 fn condition_word(words: &[u64], condition: usize, least: u8) -> u64
     requires { condition < length words.now }
     ensures { result ≡ condition_word words.now condition least }
@@ -69,25 +63,20 @@ fn search(
     let mut order: [RowNumber; ROWS] = [0; ROWS];
     let mut numbers = [NONE; ROWS];
     let mut later: [RowNumber; ROWS] = [0; ROWS];
-    let count = list_rows(marks, n, least, &mut order);
-    number_atoms(space, &order, count, &mut numbers);
-    let more = begin(space, &order, count, &numbers, n, &mut words, &mut later);
-    let mut yes: u64 = 0;
-    let mut no: u64 = 0;
-    let mut block = 0;
-    while block < blocks {
-        evaluate(space, &later, more, &numbers, block, &mut words);
+    let count = list_rows(&marks[..n], least, &mut order);
+    number_atoms(space, &order[..count], &mut numbers);
+    let more = begin(space, &order[..count], &numbers, n, &mut words, &mut later);
+    let mut found = Found::NONE;
+    for block in 0..blocks {
+        evaluate(space, &later[..more], &numbers, block, &mut words);
         let c = condition_word(&words, condition, least);
-        let g = words[guard];
         truths[block as usize] = c;
-        yes = yes | (c & g);
-        no = no | (c & !g);
-        if both_found(yes, no) {
+        found.add(c, words[guard]);
+        if found.both() {
             return Decision::Both;
         }
-        block += 1;
     }
-    branches_of(yes, no)
+    found.branches()
 }
 
 // After a decision of the guard alone: if one branch is impossible, nothing is known any more.
@@ -95,30 +84,21 @@ fn forget_after(space: &mut [u32], at: usize, decision: Decision)
     requires { at < length space.old }
     ensures { space.new ≡ pick (only_one decision) (set space.old at 0) space.old }
 {
-    if !only_one(decision) {
-        return;
+    if only_one(decision) {
+        forget(space, at);
     }
-    forget(space, at);
 }
 
 // After a search with the condition: if one branch is impossible, its truths are kept.
-fn keep_after(
-    space: &mut [u32],
-    at: usize,
-    marks: &[u8],
-    n: usize,
-    blocks: u32,
-    truths: &[u64],
-    decision: Decision,
-)
-    requires keepable { Keepable space.old at marks.now n }
-    requires blocks_bound { (blocks ≤ 16) × (16 ≤ length truths.now) }
-    ensures { space.new ≡ pick (only_one decision) (kept space.old at marks.now n blocks truths.now) space.old }
+fn keep_after(space: &mut [u32], at: usize, marks: &[u8], truths: &[u64], decision: Decision)
+    requires keepable { Keepable space.old at marks.now (length marks.now) }
+    requires blocks_bound { length truths.now ≤ 16 }
+    ensures { space.new
+        ≡ pick (only_one decision) (kept space.old at marks.now (length marks.now) (length truths.now) truths.now) space.old }
 {
-    if !only_one(decision) {
-        return;
+    if only_one(decision) {
+        keep(space, at, marks, truths);
     }
-    keep(space, at, marks, n, blocks, truths);
 }
 
 // The decision by the rows: of the guard alone, if it shares no atom with the condition, and without a search, if it is a conjunct of it. If one branch is
@@ -134,7 +114,7 @@ fn decide_anew(space: &mut [u32], at: usize, condition: u32, guard: u32) -> Deci
     let mut marks = [0u8; ROWS];
     let mut truths = [0u64; BLOCKS];
     marks[c] = CONDITION;
-    marks[g] = marks[g] | GUARD;
+    marks[g] |= GUARD;
     let counts = mark_all(space, n, &mut marks);
     if ATOMS < counts.all {
         return Decision::TooMany;
@@ -152,18 +132,13 @@ fn decide_anew(space: &mut [u32], at: usize, condition: u32, guard: u32) -> Deci
         forget_after(space, at, alone);
         return alone;
     }
-    let link = conjunct(space, c, guard);
-    if link == CONJUNCTION {
+    if let Some(decision) = conjunct(space, c, guard) {
         forget(space, at);
-        return Decision::OnlyTrue;
-    }
-    if link == EXCLUSION {
-        forget(space, at);
-        return Decision::OnlyFalse;
+        return decision;
     }
     let blocks = blocks_of(counts.all);
     let decision = search(space, c, g, &marks, CONDITION, blocks, &mut truths);
-    keep_after(space, at, &marks, n, blocks, &truths, decision);
+    keep_after(space, at, &marks[..n], &truths[..blocks as usize], decision);
     decision
 }
 
@@ -180,8 +155,9 @@ pub fn decide(space: &mut [u32], at: usize, condition: u32, guard: u32) -> Decis
     let mut numbers = [NONE; ROWS];
     let count = list_guard(space, guard as usize, &mut order);
     number_known(space, at, &mut numbers);
-    if all_numbered(space, &order, count, &numbers) {
-        return compare(space, at, &order, count, &numbers, guard as usize);
+    let listed = &order[..count];
+    if all_numbered(space, listed, &numbers) {
+        return compare(space, at, listed, &numbers, guard as usize);
     }
     decide_anew(space, at, condition, guard)
 }

@@ -7,7 +7,7 @@ ghost use Rattle.answers.specs.Answers.{answer_of_check, AnswersRun};
 ghost use Rattle.host.specs.Texts.{check_text, run_text, RanTo};
 
 use answers::{check_answer, run_answer};
-use script::table::{WIDTH};
+use script::table::WIDTH;
 use script::{Ended, Refusal, Script};
 
 // Reads a text and checks it: accepted with its type, or why not.
@@ -27,7 +27,15 @@ pub fn run_text(text: &[u8], values: &[u8], cells: &mut [u8], used: u32) -> Resu
     let mut table = [0u32; WIDTH * Script::NODES];
     let mut entries = [0u32; Script::ENTRIES];
     let script = reader::read(text, &mut table, &mut entries)?;
-    runner::run_passed(&table, script.nodes, &entries, script.entries, values, cells, used)
+    runner::run_passed(
+        &table,
+        script.nodes,
+        &entries,
+        script.entries,
+        values,
+        cells,
+        used,
+    )
 }
 
 // Checks a script text. The answer is a number that include/teqharis.h takes apart.

@@ -129,10 +129,9 @@ unfoldable pub rows_from : List ℕ → ℕ → ℕ → List ℕ
 rows_from ms least zero = []
 rows_from ms least (suc i) = pick (ltb (get_or ms i 0) least) (rows_from ms least i) (rows_from ms least i ++ (i ∷ []))
 
-pub record Listable (ms : List ℕ) (n : ℕ) (os : List ℕ) : Type 0 where
-  pub few : n ≤ row_limit
-  pub marks : n ≤ length ms
-  pub lent : n ≤ length os
+pub record Listable (ms os : List ℕ) : Type 0 where
+  pub few : length ms ≤ row_limit
+  pub lent : length ms ≤ length os
 
 pub record Lists (ms : List ℕ) (n least : ℕ) (os : List ℕ) (count : ℕ) (out : List ℕ) : Type 0 where
   pub same : length out ≡ length os
@@ -140,12 +139,11 @@ pub record Lists (ms : List ℕ) (n least : ℕ) (os : List ℕ) (count : ℕ) (
   pub rows : take count out ≡ rows_from ms least n
   pub rest : (k : ℕ) → count ≤ k → get_or out k 0 ≡ get_or os k 0
 
--- so many rows in order
-pub record Rows (ws os : List ℕ) (count : ℕ) : Type 0 where
+-- rows in order
+pub record Rows (ws os : List ℕ) : Type 0 where
   pub lent : rows_end ≤ length ws
-  pub few : count ≤ row_limit
-  pub listed : count ≤ length os
-  pub each : (j : ℕ) → j < count → get_or os j 0 < row_limit
+  pub few : length os ≤ row_limit
+  pub each : (j : ℕ) → j < length os → get_or os j 0 < row_limit
 
 -- ---- the numbers of the atoms among them
 
@@ -337,13 +335,11 @@ compared ws at ns g =
     (non_zero (together (with_known ws at ns g) (blocks_of (get_or ws (at + 1) 0))))
     (non_zero (together (without_known ws at ns g) (blocks_of (get_or ws (at + 1) 0))))
 
-pub record Comparable (ws : List ℕ) (at : ℕ) (os : List ℕ) (count : ℕ) (ns : List ℕ) (g : ℕ) : Type 0 where
+pub record Comparable (ws : List ℕ) (at : ℕ) (os : List ℕ) (ns : List ℕ) (g : ℕ) : Type 0 where
   pub behind : rows_end ≤ at
   pub lent : at + known_size ≤ length ws
   pub high : g < row_limit
-  pub listed : count ≤ length os
-  pub many : count ≡ length (guard_rows ws g)
-  pub rows : take count os ≡ guard_rows ws g
+  pub rows : os ≡ guard_rows ws g
   pub numbers : row_limit ≤ length ns
 
 -- ---- the decision

@@ -1,7 +1,7 @@
 // The rows that a decision looks at, in order, with the numbers of the atoms among them; and their truths under 64 assignments at a time, one bit each.
 #![tactic(auto)]
 
-ghost use Rattle.std.specs.Prelude.{◌≡◌, ◌+◌, ◌≤◌, ◌<◌, length, get_or, take};
+ghost use Rattle.std.specs.Prelude.{◌≡◌, ◌+◌, ◌≤◌, ◌<◌, length, slice_index_or, take};
 ghost use Rattle.terms.specs.Places.{row_limit, rows_end};
 ghost use Rattle.rows.specs.Code.{Listable, listed_row, count_after, Lists, Rows, number_row, seen_at, numbers_to, is_numbered, numbered_to, spread_of, pattern_of, row_word, evaluate_row, evaluated_to, change_of, change_row, changed_to, changes_of};
 
@@ -13,36 +13,23 @@ use terms::{
 // The atoms with lower numbers have the same truths in every block.
 const STEADY: u8 = 6;
 
-// Row i comes next, if it has at least the mark. Answers how many rows there are then.
-fn list_row(marks: &[u8], least: u8, order: &mut [RowNumber], i: usize, count: usize) -> usize
-    requires i_in_bounds { i < length marks.now }
-    requires i_lt_row_limit { i < row_limit }
-    requires count_in_bounds { count < length order.old }
-    ensures value { result ≡ count_after marks.now least i count }
-    ensures order_after { order.new ≡ listed_row marks.now least order.old i count }
-{
-    if marks[i] < least {
-        return count;
-    }
-    order[count] = i as RowNumber;
-    count + 1
-}
-
-// The rows below n that have at least the mark. Answers how many.
-pub fn list_rows(marks: &[u8], n: usize, least: u8, order: &mut [RowNumber]) -> usize
-    requires { Listable marks.now n order.old }
-    ensures { Lists marks.now n least order.old result order.new }
+// The rows that have at least the mark. Answers how many.
+pub fn list_rows(marks: &[u8], least: u8, order: &mut [RowNumber]) -> usize
+    requires { Listable marks.now order.old }
+    ensures { Lists marks.now (length marks.now) least order.old result order.new }
 {
     let mut count = 0;
-    let mut i = 0;
-    while i < n {
-        count = list_row(marks, least, order, i, count);
-        i += 1;
+    for (i, mark) in marks.iter().enumerate() {
+        if least <= *mark {
+            order[count] = i as RowNumber;
+            count += 1;
+        }
     }
     count
 }
 
 // Row i gets the next number, if it is an atom. Answers the number after.
+#[tactic(auto, unfolding(rows::specs::Code::seen_at, rows::specs::Code::number_row))]
 fn number_row(space: &[u32], numbers: &mut [u8], i: usize, seen: u8) -> u8
     requires i_lt_row_limit { (i < row_limit) × (rows_end ≤ length space.now) }
     requires i_in_bounds { (i < length numbers.old) × (seen < row_limit) }
@@ -57,42 +44,35 @@ fn number_row(space: &[u32], numbers: &mut [u8], i: usize, seen: u8) -> u8
 }
 
 // The atoms among the rows get numbers from 0 on.
-pub fn number_atoms(space: &[u32], order: &[RowNumber], count: usize, numbers: &mut [u8])
-    requires rows { Rows space.now order.now count }
+pub fn number_atoms(space: &[u32], order: &[RowNumber], numbers: &mut [u8])
+    requires rows { Rows space.now order.now }
     requires row_limit_in_bounds { row_limit ≤ length numbers.old }
-    ensures { numbers.new ≡ numbers_to space.now order.now numbers.old count }
+    ensures { numbers.new ≡ numbers_to space.now order.now numbers.old (length order.now) }
 {
     let mut seen = 0;
-    let mut j = 0;
-    while j < count {
-        seen = number_row(space, numbers, order[j] as usize, seen);
-        j += 1;
+    for row in order {
+        seen = number_row(space, numbers, *row as usize, seen);
     }
 }
 
 // Row i is no atom, or has a number.
+#[tactic(auto, unfolding(rows::specs::Code::is_numbered))]
 fn is_numbered(space: &[u32], numbers: &[u8], i: usize) -> bool
     requires i_lt_row_limit { (i < row_limit) × (rows_end ≤ length space.now) }
     requires i_in_bounds { i < length numbers.now }
     ensures { result ≡ is_numbered space.now numbers.now i }
 {
-    if row_at(space, i).op < FIRST_ATOM {
-        return true;
-    }
-    (numbers[i] as u32) < ATOMS
+    row_at(space, i).op < FIRST_ATOM || (numbers[i] as u32) < ATOMS
 }
 
 // Every atom among the rows has a number.
-pub fn all_numbered(space: &[u32], order: &[RowNumber], count: usize, numbers: &[u8]) -> bool
-    requires rows { Rows space.now order.now count }
+pub fn all_numbered(space: &[u32], order: &[RowNumber], numbers: &[u8]) -> bool
+    requires rows { Rows space.now order.now }
     requires row_limit_in_bounds { row_limit ≤ length numbers.now }
-    ensures { result ≡ numbered_to space.now order.now numbers.now count }
+    ensures { result ≡ numbered_to space.now order.now numbers.now (length order.now) }
 {
-    let mut j = 0;
-    while j < count {
-        if is_numbered(space, numbers, order[j] as usize) {
-            j += 1;
-        } else {
+    for row in order {
+        if !is_numbered(space, numbers, *row as usize) {
             return false;
         }
     }
@@ -100,6 +80,7 @@ pub fn all_numbered(space: &[u32], order: &[RowNumber], count: usize, numbers: &
 }
 
 // A word of which each bit is b, where b is 0 or 1.
+#[tactic(auto, unfolding(rows::specs::Code::spread_of))]
 fn spread(b: u32) -> u64
     ensures { result ≡ spread_of b }
 {
@@ -110,6 +91,7 @@ fn spread(b: u32) -> u64
 }
 
 // The truths of atom m under the assignments 64 * block, 64 * block + 1, ..: bit m of each.
+#[tactic(auto, unfolding(rows::specs::Code::pattern_of, rows::specs::Code::spread_of))]
 fn pattern(m: u32, block: u32) -> u64
     ensures { result ≡ pattern_of m block }
 {
@@ -127,45 +109,38 @@ fn pattern(m: u32, block: u32) -> u64
     }
 }
 
-// What an operand of row i is, among the words of the rows before.
-fn operand(words: &[u64], a: u32, i: usize) -> u64
-    requires { i ≤ length words.now }
-    ensures { result ≡ get_or (take i words.now) a 0 }
+// What an operand of row i has, among what the rows before have.
+fn operand<T: Copy>(values: &[T], a: u32, i: usize, none: T) -> T
+    requires { i ≤ length values.now }
+    ensures { result ≡ slice_index_or (take i values.now) a none }
 {
     let k = a as usize;
     if k < i {
-        return words[k];
+        return values[k];
     }
-    0
+    none
 }
 
 // The truths of a row whose operands have the truths x and y; m is its number, if it is an atom.
+#[tactic(auto, unfolding(rows::specs::Code::row_word))]
 fn row_word(row: Row, x: u64, y: u64, m: u32, block: u32) -> u64
     ensures { result ≡ row_word row x y m block }
 {
-    let op = row.op;
-    if FIRST_ATOM <= op {
+    if FIRST_ATOM <= row.op {
         return pattern(m, block);
     }
-    if op == EXCLUSION {
-        return x & !y;
+    match row.op {
+        EXCLUSION => x & !y,
+        EQUALITY => !(x ^ y),
+        CONJUNCTION => x & y,
+        NEGATION => !x,
+        CONSTANT => spread(row.a),
+        _ => 0,
     }
-    if op == EQUALITY {
-        return !(x ^ y);
-    }
-    if op == CONJUNCTION {
-        return x & y;
-    }
-    if op == NEGATION {
-        return !x;
-    }
-    if op == CONSTANT {
-        return spread(row.a);
-    }
-    0
 }
 
 // The truths of row i, by the words of the rows before.
+#[tactic(auto, unfolding(rows::specs::Code::evaluate_row))]
 fn evaluate_row(space: &[u32], numbers: &[u8], block: u32, words: &mut [u64], i: usize)
     requires i_lt_row_limit { (i < row_limit) × (rows_end ≤ length space.now) }
     requires i_in_bounds { (i < length numbers.now) × (i < length words.old) }
@@ -174,59 +149,37 @@ fn evaluate_row(space: &[u32], numbers: &[u8], block: u32, words: &mut [u64], i:
     let row = row_at(space, i);
     words[i] = row_word(
         row,
-        operand(words, row.a, i),
-        operand(words, row.b, i),
+        operand(words, row.a, i, 0),
+        operand(words, row.b, i, 0),
         numbers[i] as u32,
         block,
     );
 }
 
 // The truths of the rows, under the assignments of one block.
-pub fn evaluate(
-    space: &[u32],
-    order: &[RowNumber],
-    count: usize,
-    numbers: &[u8],
-    block: u32,
-    words: &mut [u64],
-)
-    requires rows { Rows space.now order.now count }
+pub fn evaluate(space: &[u32], order: &[RowNumber], numbers: &[u8], block: u32, words: &mut [u64])
+    requires rows { Rows space.now order.now }
     requires row_limit_in_bounds { (row_limit ≤ length numbers.now) × (row_limit ≤ length words.old) }
-    ensures { words.new ≡ evaluated_to space.now order.now numbers.now block words.old count }
+    ensures { words.new ≡ evaluated_to space.now order.now numbers.now block words.old (length order.now) }
 {
-    let mut j = 0;
-    while j < count {
-        evaluate_row(space, numbers, block, words, order[j] as usize);
-        j += 1;
+    for row in order {
+        evaluate_row(space, numbers, block, words, *row as usize);
     }
 }
 
 // Whether the truths of a row may differ from block to block, where x and y say so of its operands: 0 if they do not. m is its number, if it is an atom.
+#[tactic(auto, unfolding(rows::specs::Code::change_of))]
 fn change_of(row: Row, m: u8, x: u8, y: u8) -> u8
     ensures { result ≡ change_of row m x y }
 {
     if row.op < FIRST_ATOM {
         return x | y;
     }
-    if m < STEADY {
-        return 0;
-    }
-    1
-}
-
-// What is said of an operand of row i, among the rows before.
-fn change_at(changes: &[u8], a: u32, i: usize) -> u8
-    requires { i ≤ length changes.now }
-    ensures { result ≡ get_or (take i changes.now) a 0 }
-{
-    let k = a as usize;
-    if k < i {
-        return changes[k];
-    }
-    0
+    (STEADY <= m) as u8
 }
 
 // Whether the truths of row i may differ from block to block.
+#[tactic(auto, unfolding(rows::specs::Code::change_row))]
 fn change_row(space: &[u32], numbers: &[u8], changes: &mut [u8], i: usize)
     requires i_lt_row_limit { (i < row_limit) × (rows_end ≤ length space.now) }
     requires i_in_bounds { (i < length numbers.now) × (i < length changes.old) }
@@ -236,27 +189,19 @@ fn change_row(space: &[u32], numbers: &[u8], changes: &mut [u8], i: usize)
     changes[i] = change_of(
         row,
         numbers[i],
-        change_at(changes, row.a, i),
-        change_at(changes, row.b, i),
+        operand(changes, row.a, i, 0),
+        operand(changes, row.b, i, 0),
     );
 }
 
 // Whether the truths of each row may.
-fn mark_changes(
-    space: &[u32],
-    order: &[RowNumber],
-    count: usize,
-    numbers: &[u8],
-    changes: &mut [u8],
-)
-    requires rows { Rows space.now order.now count }
+fn mark_changes(space: &[u32], order: &[RowNumber], numbers: &[u8], changes: &mut [u8])
+    requires rows { Rows space.now order.now }
     requires row_limit_in_bounds { (row_limit ≤ length numbers.now) × (row_limit ≤ length changes.old) }
-    ensures { changes.new ≡ changed_to space.now order.now numbers.now changes.old count }
+    ensures { changes.new ≡ changed_to space.now order.now numbers.now changes.old (length order.now) }
 {
-    let mut j = 0;
-    while j < count {
-        change_row(space, numbers, changes, order[j] as usize);
-        j += 1;
+    for row in order {
+        change_row(space, numbers, changes, *row as usize);
     }
 }
 
@@ -264,20 +209,19 @@ fn mark_changes(
 pub fn begin(
     space: &[u32],
     order: &[RowNumber],
-    count: usize,
     numbers: &[u8],
     n: usize,
     words: &mut [u64],
     later: &mut [RowNumber],
 ) -> usize
-    requires rows { Rows space.now order.now count }
+    requires rows { Rows space.now order.now }
     requires row_limit_in_bounds { (row_limit ≤ length numbers.now) × (row_limit ≤ length words.old) }
     requires n_le_row_limit { (n ≤ row_limit) × (n ≤ length later.old) }
-    ensures words_after { words.new ≡ evaluated_to space.now order.now numbers.now 0 words.old count }
-    ensures lists { Lists (changes_of space.now order.now numbers.now count) n 1 later.old result later.new }
+    ensures words_after { words.new ≡ evaluated_to space.now order.now numbers.now 0 words.old (length order.now) }
+    ensures lists { Lists (changes_of space.now order.now numbers.now (length order.now)) n 1 later.old result later.new }
 {
-    evaluate(space, order, count, numbers, 0, words);
+    evaluate(space, order, numbers, 0, words);
     let mut changes = [0u8; ROWS];
-    mark_changes(space, order, count, numbers, &mut changes);
-    list_rows(&changes, n, 1, later)
+    mark_changes(space, order, numbers, &mut changes);
+    list_rows(&changes[..n], 1, later)
 }

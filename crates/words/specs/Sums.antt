@@ -92,13 +92,7 @@ pub record Two (ws : List ℕ) (p q : ℕ) : Type 0 where
   pub second : q < row_limit
 
 -- room for a pass over the rows below i
-pub record Room (ws : List ℕ) (i : ℕ) (weights numbers : List ℕ) : Type 0 where
+pub record Room (ws : List ℕ) (i : ℕ) (weights : List ℕ) : Type 0 where
   pub lent : rows_end ≤ length ws
   pub within : i ≤ row_limit
   pub weighted : row_limit ≤ length weights
-  pub placed : place_count ≤ length numbers
-
--- the numbers of two differences
-pub record TwoNumbers (xs ys : List ℕ) : Type 0 where
-  pub first : place_count ≤ length xs
-  pub second : place_count ≤ length ys

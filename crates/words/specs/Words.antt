@@ -35,11 +35,10 @@ equal_left ws p q =
 
 -- ---- what the code asks
 
--- row i is lent, and so are the numbers of a difference
-pub record Rows (ws : List ℕ) (i : ℕ) (numbers : List ℕ) : Type 0 where
+-- row i is lent
+pub record Rows (ws : List ℕ) (i : ℕ) : Type 0 where
   pub lent : rows_end ≤ length ws
   pub within : i < row_limit
-  pub placed : place_count ≤ length numbers
 
 -- room for one row more, and two rows are among those lent
 pub record Words (ws : List ℕ) (p q : ℕ) : Type 0 where

@@ -2,13 +2,11 @@
 use Rattle.std.specs.Prelude.{◌≡◌, refl, ℕ, ◌+◌, ◌<◌, Err, None, Ok, Some}
 use Rattle.std.proofs.Common.{sym, ap, ◌∙◌, add-one}
 use Rattle.script.specs.Answers.{number_of, place_of, kind_of, bits_of}
-use Rattle.script.specs.Answers.Named.{Ran}
+use Rattle.script.specs.Answers.Named.{Checked, Place, Ran}
 use Rattle.script.specs.declared.Ended.{Ended}
 use Rattle.script.specs.declared.Refusal.{Refusal}
 use Rattle.script.specs.declared.Value.{Value}
 use Rattle.answers.specs.Answers.{packed, refused, answer_of_refusal, done, failed, answer_of_check, answer_of_run}
-use Rattle.script.specs.Answers.Named.{Checked}
-use Rattle.script.specs.Answers.Named.{Place}
 
 -- the used count that the answer of a run has
 abbrev pub used_in : Ran → ℕ

@@ -1,12 +1,9 @@
 -- `checker::check_within` meets its contract: the tests of the table, and then the rules. Assumes nothing.
 use mathlib.Core.Path.{sym, ◌∙◌}
 use Rattle.script.specs.Answers.Named.{handed_on}
-use Rattle.script.specs.Code.TableTests.Laws.{passed_none, refused-some}
+use Rattle.script.specs.Code.TableTests.Laws.{refused-some}
 use Rattle.checker.specs.Code.Whole.{table-refused}
 use Rattle.checker.proofs.check_within.Goals as goal
-
-pub check_tested-requires : goal.check_tested-requires
-check_tested-requires c = passed_none _ (sym c.test_table.ensures ∙ c.in_ok-test_table.was)
 
 pub returns-in_err-test_table : goal.returns-in_err-test_table
 returns-in_err-test_table c =

@@ -1,4 +1,4 @@
-use Prim.Native.Nat.{◌≤◌, ◌-◌}
+use Prim.Native.Nat.{◌≤◌}
 use Rattle.checker.specs.Code.Whole.{Placed}
 use Rattle.checker.proofs.entry_types.Given as goal
 

@@ -1,7 +1,7 @@
 -- `decision::decide` meets its contract: by what is known, if that has every atom of the guard, else by the rows. Assumes nothing.
 use mathlib.Core.Path.{sym, ◌∙◌}
 use native.Mathlib.Omega.{arith}
-use Rattle.decision.specs.Whole.{decided-unknown, decided-known, decided-other, unknown, not-recalled, numbers-known, recalls-is, guard-long, guard-rows}
+use Rattle.decision.specs.Whole.{decided-unknown, decided-known, decided-other, unknown, not-recalled, numbers-known, recalls-is, guard-rows}
 use Rattle.decision.specs.Promised.{anew_promised, known_promised}
 use Rattle.decision.proofs.decide.Goals as goal
 
@@ -19,7 +19,7 @@ all_numbered-requires c =
     let a = c.args in
     let p = c.requires in
     let l = c.list_guard-count.ensures in record {
-      rows = guard-rows a.space.now a.at a.guard c.list_guard-count.new.order c.list_guard-count.result c.number_known.new.numbers l.many l.rows (omega (arith, p.behind, p.lent)) p.high l.same;
+      rows = guard-rows a.space.now a.at a.guard _ c.number_known.new.numbers l.rows (omega (arith, p.behind, p.lent)) p.high;
       row_limit_in_bounds = omega (arith, c.number_known.auto.numbers);
     }
 
@@ -32,9 +32,6 @@ compare-requires c =
       behind = p.behind;
       lent = p.lent;
       high = p.high;
-      listed = guard-long a.space.now a.at a.guard c.list_guard-count.new.order c.list_guard-count.result
-          c.number_known.new.numbers l.many l.rows p.high l.same;
-      many = l.many;
       rows = l.rows;
       numbers = omega (arith, c.number_known.auto.numbers);
     }
@@ -43,9 +40,8 @@ pub returns-then-all_numbered : goal.returns-then-all_numbered
 returns-then-all_numbered c =
     let a = c.args in
     let l = c.list_guard-count.ensures in
-    let known = numbers-known a.space.now a.at a.guard c.list_guard-count.new.order c.list_guard-count.result c.number_known.new.numbers l.many l.rows c.number_known.ensures in
-    let recalled = recalls-is a.space.now a.at a.guard c.list_guard-count.new.order c.list_guard-count.result c.number_known.new.numbers l.many
-    l.rows c.all_numbered.result known c.all_numbered.ensures in
+    let known = numbers-known a.space.now a.at a.guard _ c.number_known.new.numbers l.rows c.number_known.ensures in
+    let recalled = recalls-is a.space.now a.at a.guard _ c.number_known.new.numbers l.rows c.all_numbered.result known c.all_numbered.ensures in
     let t = sym recalled ∙ c.if-all_numbered.true in
     let e = rw known at c.compare.ensures in
     known_promised (decided-known a.space.now a.at a.condition a.guard c.compare.result c.if-space-at-ne1.false t e) c.requires
@@ -55,9 +51,8 @@ pub returns : goal.returns
 returns c =
     let a = c.args in
     let l = c.list_guard-count.ensures in
-    let known = numbers-known a.space.now a.at a.guard c.list_guard-count.new.order c.list_guard-count.result c.number_known.new.numbers l.many l.rows c.number_known.ensures in
-    let recalled = recalls-is a.space.now a.at a.guard c.list_guard-count.new.order c.list_guard-count.result c.number_known.new.numbers l.many
-    l.rows c.all_numbered.result known c.all_numbered.ensures in
+    let known = numbers-known a.space.now a.at a.guard _ c.number_known.new.numbers l.rows c.number_known.ensures in
+    let recalled = recalls-is a.space.now a.at a.guard _ c.number_known.new.numbers l.rows c.all_numbered.result known c.all_numbered.ensures in
     anew_promised
     (decided-other a.space.now a.at a.condition a.guard c.decide_anew-2.result c.if-space-at-ne1.false
     (sym recalled ∙ c.if-all_numbered.false) c.decide_anew-2.ensures.value)

@@ -1,9 +1,5 @@
-use Prim.Native.Nat.{◌-◌}
 use Rattle.known.specs.Searching.{Looking}
 use Rattle.decision.proofs.search.Given as goal
 
 abbrev pub invariant-loop-block : goal.invariant-loop-block
-invariant-loop-block l = Looking l.space l.condition l.guard l.marks l.least l.blocks l.initial.truths l.truths l.words l.yes l.no l.block
-
-abbrev pub decreases-loop-block : goal.decreases-loop-block
-decreases-loop-block l = l.blocks - l.block
+invariant-loop-block l = Looking l.space l.condition l.guard l.marks l.least l.blocks l.initial.truths l.truths l.words l.found.yes l.found.no l.block

@@ -1,9 +1,6 @@
-use Prim.Native.Nat.{◌-◌}
+use Rattle.std.proofs.Common.{length}
 use Rattle.rows.specs.Code.Leaves.{Storing}
 use Rattle.known.proofs.keep_words.Given as goal
 
 abbrev pub invariant-loop-block : goal.invariant-loop-block
-invariant-loop-block l = Storing l.initial.space l.at l.truths l.blocks l.space l.block
-
-abbrev pub decreases-loop-block : goal.decreases-loop-block
-decreases-loop-block l = l.blocks - l.block
+invariant-loop-block l = Storing l.initial.space l.at l.truths (length l.truths) l.space l.block

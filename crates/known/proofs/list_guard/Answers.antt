@@ -1,5 +1,6 @@
 -- `known::list_guard` meets its contract: the rows that the guard reaches are marked and listed. Assumes nothing.
-use Rattle.rows.specs.Code.Leaves.{guard-room, guard-listed}
+use native.Mathlib.Omega.{arith}
+use Rattle.rows.specs.Code.Leaves.{guard-room, guard-listed, lists-first}
 use Rattle.known.proofs.list_guard.Goals as goal
 
 pub mark_all-requires : goal.mark_all-requires
@@ -11,4 +12,4 @@ mark_all-requires c =
 pub returns : goal.returns
 returns c =
     let a = c.args in
-    guard-listed a.space.now a.guard a.order.now c.mark_all.ensures.marks_after c.list_rows.ensures
+    guard-listed a.space.now a.guard a.order.now c.mark_all.ensures.marks_after (lists-first (omega arith) c.list_rows.ensures)

@@ -1,11 +1,11 @@
 -- The numbers that the code computes of two words stand for the words' difference in the symbolic rules, and the code's tests of such numbers are the
 -- rules' tests of differences. Assumes nothing.
-use Rattle.std.specs.Prelude.{◌≡◌, ℕ, zero, suc, ◌+◌, ◌*◌, ◌%◌, ◌^◌, ◌<◌, ◌≤◌, Bool, true, false, not, ◌⊎◌, List, [], ◌∷◌, ◌++◌, length, replicate, ◌==◌, nat_eq, nat_lt, slice_index, slice_index_or, refl}
+use Rattle.std.specs.Prelude.{◌≡◌, ℕ, zero, suc, ◌+◌, ◌*◌, ◌%◌, ◌^◌, ◌<◌, ◌≤◌, Bool, true, false, ◌⊎◌, List, [], ◌∷◌, ◌++◌, length, replicate, ◌==◌, nat_eq, nat_lt, slice_index, slice_index_or, refl}
 use Rattle.std.proofs.Common.{inl, inr, sym, ap, ◌∙◌, mul-zero, mul-one, mod-eq_of_lt, mod-lt, add-one, arith, lit<, get_or-set_same, get_or-set_other, eqb-true, eq-eqb, ltb-true, ltb-false}
 use Rattle.std.proofs.Math.Nat.{mul-mod_right, zero-mod}
 use Rattle.std.proofs.Math.Dec.{eqb-suc-suc, eqb-zero-suc, eqb-suc-zero}
 use Rattle.std.proofs.lemmas.List.{length-replicate}
-use Rattle.std.proofs.lemmas.Bool.{eqb-false, not-false}
+use Rattle.std.proofs.lemmas.Bool.{eqb-false}
 use Rattle.script.specs.Tests.Laws.{both_ways, or_cases, or_first, or_second}
 use Rattle.rules.specs.Demand3.Congruence.{Same}
 use Rattle.rules.proofs.Demand3.Congruence.{same_refl, same_eq, same-sym, same_trans, same_mod, same-plus, same-opposite}
@@ -16,7 +16,7 @@ use Rattle.terms.specs.Places.{row_limit, symbol_limit}
 use Rattle.terms.specs.Search.{nowhere-each, each-nowhere}
 use Rattle.terms.specs.Terms.{row_in, SumRow, of_sum}
 use Rattle.words.specs.Sums.{place_count, added, gather, spread, passed, numbers_of, no_numbers, rows_to, start_weights, has_symbol, constant_numbers, differs_at, same_numbers, remains_at, opposite_numbers, alike}
-use Rattle.words.specs.Sums.Laws.{agrees, symbol_of, of_symbol_lem, joined-joins, gather-number, gather-symbol, gather-other, gather-length, symbol_op}
+use Rattle.words.specs.Sums.Laws.{agrees, not-told, symbol_of, of_symbol_lem, joined-joins, gather-number, gather-symbol, gather-other, gather-length, symbol_op}
 use Rattle.words.specs.Sums.Values.{modulus, unit, unit-here, unit-other, RowCase, case_of, value, value-number, value-symbol, value_sum, numbers-value}
 
 -- ---- numbers modulo 2^32
@@ -171,9 +171,6 @@ small_same x y h l e = sym (mod-eq_of_lt h) ∙ e.same ∙ mod-eq_of_lt l
 
 small-zero : (x : ℕ) → x < modulus → Same modulus x 0 → x ≡ 0
 small-zero x h e = sym (mod-eq_of_lt h) ∙ e.same ∙ zero-mod modulus
-
-not-told : (x y : ℕ) → not (x == y) ≡ false → x ≡ y
-not-told x y t = eqb-true x y (not-false (x == y) t)
 
 -- a place within, or beyond the last symbol
 within : (i : ℕ) → (i < symbol_limit) ⊎ (symbol_limit ≤ i)

@@ -1,8 +1,7 @@
 -- What the code answers of equal words, case by case: each law is what one answer of the code cites. Assumes nothing.
-use Rattle.std.specs.Prelude.{◌≡◌, ℕ, ◌<◌, Bool, true, false, List, length, ◌==◌, ◌≢◌, slice_index}
+use Rattle.std.specs.Prelude.{◌≡◌, ℕ, ◌<◌, Bool, true, false, List, length, ◌==◌, slice_index}
 use Rattle.std.proofs.Math.Path.{refl}
 use Rattle.std.proofs.Common.{ap, arith, length-set}
-use borrow.Author.Tests.{eq-eqb, ne_eqb}
 use Rattle.script.specs.Tests.{pick}
 use Rattle.terms.specs.Atoms.Laws.{found-length}
 use Rattle.terms.specs.Terms.{row_in, count_in, Space, pushed, bit_of, of_constant, of_difference}
@@ -22,7 +21,7 @@ module _ (ws wanted : List ℕ) (i : ℕ) (row : Row) (e : row ≡ row_in ws i) 
   unfolding is_found
   found-other t = rw (rw e at t) refl
 
-pub two-below : {ws wanted : List ℕ} {i : ℕ} (row : Row) → Rows ws i wanted → joins row of_difference i ≡ true → Two ws row.a row.b
+pub two-below : {ws : List ℕ} {i : ℕ} (row : Row) → Rows ws i → joins row of_difference i ≡ true → Two ws row.a row.b
 two-below {i = i} row r t = let j = joined row 10 i t in record { lent = r.lent; first = omega arith; second = omega arith }
 
 -- ---- the equality
@@ -50,13 +49,8 @@ module _ (ws : List ℕ) (p q : ℕ) (ys : List ℕ) (e : ys ≡ numbers_of ws p
   unfolding equal_row
   row-constant t = rw (rw e at t) refl
 
-  pub left-zero : constant_numbers ys ≡ true → slice_index ys 0 ≡ 0 → pushed ws of_constant 1 0 ≡ equal_left ws p q
-  unfolding equal_left
-  left-zero t z = rw (rw e at t, eq-eqb (slice_index (numbers_of ws p q) 0) 0 (rw e at z)) refl
-
-  pub left_other : constant_numbers ys ≡ true → (slice_index ys 0 ≢ 0) → pushed ws of_constant 0 0 ≡ equal_left ws p q
-  unfolding equal_left
-  left_other t n = rw (rw e at t, ne_eqb (slice_index (numbers_of ws p q) 0) 0 (λ z. n (rw e z))) refl
+  pub left-bit : constant_numbers ys ≡ true → (n : ℕ) → n ≡ bit_of (slice_index ys 0 == 0) → pushed ws of_constant n 0 ≡ equal_left ws p q
+  left-bit t n f = rw (f, e) (left-constant ws p q (rw e at t))
 
   pub row-atom : constant_numbers ys ≡ false → difference_row_of ws ys ≡ equal_row ws p q
   unfolding equal_row

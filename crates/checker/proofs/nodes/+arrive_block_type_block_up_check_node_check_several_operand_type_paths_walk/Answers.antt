@@ -1,57 +1,20 @@
 -- The checker meets its contracts: `check_node`, `check_several`, `operand_type`, `paths`, `walk`, `arrive`, `block_up` and `block_type` of `checker::nodes`, which call each
 -- other; a node's number falls on the way round. In the answers s is the start's measure and `requires`, q the `requires`, node what was read, h that it has an operand,
 -- d what that one came to, or the way down to the inner node, w what holds at a turn of the loop, b what was bound, or what a block came to. Assumes nothing.
-use mathlib.Core.Path.{refl, sym, ◌∙◌}
+use mathlib.Core.Path.{refl, ◌∙◌}
 use native.Mathlib.Omega.{arith}
 use Rattle.script.specs.Answers.Named.{handed_on}
 use Rattle.script.specs.Code.Forms.{has_one, has_more, some-operand}
-use Rattle.workspace.specs.Frames.Laws.{waits_none}
 use Rattle.workspace.specs.Paths.Empty.{blank}
-use Rattle.workspace.specs.Rules.Blocks.{block_small, block_recallables, block_recalled, judged_lent, block_judged, block_noted}
+use Rattle.workspace.specs.Rules.Blocks.{block_recallables, block_recalled, block_judged, block_noted}
 use Rattle.workspace.specs.Rules.Typed.{some_of, several_no_sym, leaf_judged, first-earlier, first_checkable, sym_judged, one_judged, rest_checkable, rest_judged, first-refused, bind-room, second-earlier, second_checkable, third_earlier, third_checkable, if_judged, third_refused, two_judged, second-refused}
-use Rattle.checker.specs.Code.Going.Arriving.{up-node, up-space, up-earlier, up_checkable, up_noting, up-refused, up_room, up-returnable, up_climbing, up-stopping}
-use Rattle.checker.specs.Code.Going.Steps.{enters_formed, descends_other}
-use Rattle.checker.specs.Code.Going.Walking.{walking_start, walking_descendable, walking-enterable, walking-earlier, walking_less, walking_on, walking-stopped, walking_end, walking-ended, turn-start, turn_walkable, turn-none, turn-wrong, turn_last, turn_more, no_frames}
+use Rattle.checker.specs.Code.Going.Arriving.{up-earlier, up_checkable, up_noting, up-refused, up_room, up-returnable, up_climbing, up-stopping}
+use Rattle.checker.specs.Code.Going.Steps.{descends_other}
+use Rattle.checker.specs.Code.Going.Walking.{walking_descendable, walking-enterable, walking-earlier, walking_less, walking_on, walking-stopped, walking_end, walking-ended, turn-start, turn_walkable, turn-none, turn-wrong, turn_last, turn_more, no_frames}
 use Rattle.checker.proofs.nodes.+arrive_block_type_block_up_check_node_check_several_operand_type_paths_walk.Goals as goal
-
-pub arrive-node_at-requires : goal.arrive-node_at-requires
-arrive-node_at-requires t c = omega (arith, (enters_formed c.requires.enterable.entering).room)
-
-pub arrive-block_up-requires : goal.arrive-block_up-requires
-arrive-block_up-requires t c =
-    let s = c.requires in
-    let k = rw c.node_at.ensures at c.if-node_at-eq-TYPED.true in (
-      omega (arith, c.decreases),
-      (s.enterable, k),
-    )
-
-pub arrive-returns-then-node_at-eq-TYPED : goal.arrive-returns-then-node_at-eq-TYPED
-arrive-returns-then-node_at-eq-TYPED t c = c.block_up.ensures
-
-pub arrive-leaf_up-requires : goal.arrive-leaf_up-requires
-arrive-leaf_up-requires t c =
-    let s = c.requires in
-    let l = waits_none _ s.n_value (rw c.node_at.ensures at c.if-node_at-eq-TYPED.false) in
-    record { leaf = l; limit = _; enterable = s.enterable }
-
-pub arrive-returns : goal.arrive-returns
-arrive-returns t c = c.leaf_up.ensures.each _
 
 pub block_type-recall-requires : goal.block_type-recall-requires
 block_type-recall-requires t c = let s = c.requires in block_recallables s.checkable s.noting
-
-pub block_type-check_node-requires : goal.block_type-check_node-requires
-block_type-check_node-requires t c = let s = c.requires in (omega (arith, c.decreases), s.checkable)
-
-pub block_type-note-requires : goal.block_type-note-requires
-block_type-note-requires t c =
-    let s = c.requires in
-    let j = c.check_node.ensures in
-    record {
-      formed_nodes = s.checkable.formed;
-      depth_le_symbol_limit = block_small s.checkable s.noting;
-      space_size_in_bounds = judged_lent s.checkable s.noting j;
-    }
 
 pub block_type-returns-in-Some : goal.block_type-returns-in-Some
 block_type-returns-in-Some t c =
@@ -67,12 +30,6 @@ pub block_type-returns : goal.block_type-returns
 block_type-returns t c =
     let s = c.requires in
     block_noted s.checkable s.noting c.check_node.ensures c.in_ok-t.was c.note.ensures
-
-pub block_up-node_at-a-requires : goal.block_up-node_at-a-requires
-block_up-node_at-a-requires t c = up-node c.requires.enterable c.requires.n_value
-
-pub block_up-bounds-space-728 : goal.block_up-bounds-space-728
-block_up-bounds-space-728 t c = omega (arith, up-space c.requires.enterable c.requires.n_value)
 
 pub block_up-block_type-requires : goal.block_up-block_type-requires
 block_up-block_type-requires t c =
@@ -112,14 +69,6 @@ block_up-returns t c =
     let s = c.requires in
     let b = rw c.node_at-a.ensures at c.block_type.ensures in
     up_climbing s.enterable s.n_value b c.in_ok-t.was c.typed_result.ensures c.in_ok-u.was c.climb.ensures
-
-pub check_node-node_at-node-requires : goal.check_node-node_at-node-requires
-check_node-node_at-node-requires t c = omega (arith, c.requires.formed.room)
-
-pub check_node-leaf_type-requires : goal.check_node-leaf_type-requires
-check_node-leaf_type-requires t c =
-    let q = c.requires in
-    omega (arith, q.variables, q.lent)
 
 pub check_node-returns-then-node-lt-LEAVES : goal.check_node-returns-then-node-lt-LEAVES
 check_node-returns-then-node-lt-LEAVES t c =
@@ -175,12 +124,6 @@ check_node-check_several-requires t c =
       omega (arith, c.decreases),
       (q, has_more _ h (rw node at c.has_one.ensures) c.if-has_one.false),
     )
-
-pub check_node-returns : goal.check_node-returns
-check_node-returns t c = rw c.copied-2.ensures c.check_several.ensures
-
-pub check_several-node_at-node-requires : goal.check_several-node_at-node-requires
-check_several-node_at-node-requires t c = omega (arith, c.requires.checkable.formed.room)
 
 pub check_several-operand_type-requires : goal.check_several-operand_type-requires
 check_several-operand_type-requires t c =
@@ -289,25 +232,11 @@ check_several-returns t c =
     rest_judged q h _ d c.in_ok-t.was s.bound
     (two_judged r b _ e (rw node at c.if-node-eq-IF.false) c.in_ok-u.was (rw node at c.two_type.ensures))
 
-pub operand_type-node_at-node-requires : goal.operand_type-node_at-node-requires
-operand_type-node_at-node-requires t c = omega (arith, c.requires.formed.room)
-
-pub operand_type-leaf_type-requires : goal.operand_type-leaf_type-requires
-operand_type-leaf_type-requires t c =
-    let q = c.requires in
-    omega (arith, q.variables, q.lent)
-
 pub operand_type-returns-then-node-lt-LEAVES : goal.operand_type-returns-then-node-lt-LEAVES
 operand_type-returns-then-node-lt-LEAVES t c =
     let q = c.requires in
     let node = c.node_at-node.ensures in
     leaf_judged q _ (rw node at c.if-node-lt-LEAVES.true) (rw node at c.leaf_type.ensures)
-
-pub operand_type-check_node-requires : goal.operand_type-check_node-requires
-operand_type-check_node-requires t c = (omega (arith, c.decreases), c.requires)
-
-pub operand_type-returns-then-has_one : goal.operand_type-returns-then-has_one
-operand_type-returns-then-has_one t c = rw c.copied.ensures c.check_node.ensures
 
 pub operand_type-check_several-requires : goal.operand_type-check_several-requires
 operand_type-check_several-requires t c =
@@ -317,12 +246,6 @@ operand_type-check_several-requires t c =
       omega (arith, c.decreases),
       (q, has_more _ h (rw node at c.has_one.ensures) c.if-has_one.false),
     )
-
-pub operand_type-returns : goal.operand_type-returns
-operand_type-returns t c = rw c.copied-2.ensures c.check_several.ensures
-
-pub paths-slice_bounds-start-end : goal.paths-slice_bounds-start-end
-paths-slice_bounds-start-end t c = refl
 
 pub paths-start-requires : goal.paths-start-requires
 paths-start-requires t c =
@@ -337,12 +260,6 @@ pub paths-loop-followed-init : goal.paths-loop-followed-init
 paths-loop-followed-init t c =
     let s = c.requires in
     turn-start (omega (arith, c.space-2-1.given)) refl no_frames s.a_lt_n s.checkable c.start.ensures
-
-pub paths-slice_bounds-walk-end : goal.paths-slice_bounds-walk-end
-paths-slice_bounds-walk-end t c = sym c.loop-followed.invariant.whole
-
-pub paths-slice_bounds-walk-end-in-loop-followed : goal.paths-slice_bounds-walk-end-in-loop-followed
-paths-slice_bounds-walk-end-in-loop-followed t c = sym c.loop-followed.invariant.framed
 
 pub paths-walk-requires : goal.paths-walk-requires
 paths-walk-requires t c = (omega (arith, c.decreases), turn_walkable c.loop-followed.invariant)
@@ -362,9 +279,6 @@ paths-loop-followed-preserved t c =
 pub paths-returns : goal.paths-returns
 paths-returns t c = turn-none c.loop-followed.invariant c.loop-followed-test.false
 
-pub walk-loop-u-init : goal.walk-loop-u-init
-walk-loop-u-init t c = walking_start c.requires
-
 pub walk-descend-inner-requires : goal.walk-descend-inner-requires
 walk-descend-inner-requires t c = walking_descendable c.loop-u.invariant
 
@@ -376,13 +290,6 @@ walk-arrive-requires t c =
       (walking-enterable w d, descends_other d),
     )
 
-pub walk-shape_of-space-in_err-u : goal.walk-shape_of-space-in_err-u
-walk-shape_of-space-in_err-u t c = c.arrive.auto.space ∙ c.loop-u.invariant.same
-
-pub walk-shape_of-frames-in_err-u : goal.walk-shape_of-frames-in_err-u
-walk-shape_of-frames-in_err-u t c =
-    c.arrive.auto.frames ∙ c.descend-inner.auto.frames ∙ c.loop-u.invariant.framed
-
 pub walk-returns-in_err-u : goal.walk-returns-in_err-u
 walk-returns-in_err-u t c =
     rw (handed_on c.from_residual.result c.from_residual.ensures.1) (walking-stopped c.loop-u.invariant c.descend-inner.ensures c.arrive.ensures c.in_err-u.was)
@@ -390,14 +297,6 @@ walk-returns-in_err-u t c =
 pub walk-path_end-requires : goal.walk-path_end-requires
 walk-path_end-requires t c =
     walking_end c.loop-u.invariant c.descend-inner.ensures c.arrive.ensures (rw c.in-Value.is at c.in_ok-u.was)
-
-pub walk-shape_of-space-in-Value : goal.walk-shape_of-space-in-Value
-walk-shape_of-space-in-Value t c =
-    c.path_end.auto.space ∙ c.arrive.auto.space ∙ c.loop-u.invariant.same
-
-pub walk-shape_of-frames-in-Value : goal.walk-shape_of-frames-in-Value
-walk-shape_of-frames-in-Value t c =
-    c.path_end.auto.frames ∙ c.arrive.auto.frames ∙ c.descend-inner.auto.frames ∙ c.loop-u.invariant.framed
 
 pub walk-returns-in-Value : goal.walk-returns-in-Value
 walk-returns-in-Value t c =

@@ -1,17 +1,9 @@
 -- `checker::steps::back` meets its contract: by the frame that it goes to, a value is taken by a rule, waits for the next operand, or is a body's. In the
 -- answers s is the `requires`, l what the frame has, n its node, g that no operand had given yet, o that there are several. Assumes nothing.
 use native.Mathlib.Omega.{arith}
-use Rattle.checker.specs.Code.Going.OneFrame.{more_than_one, back_framed, back_lent, back_inside, back_node, back_lastable, back_last, back_room, back_one, back_waitable, back_plain, back_deep, back_let, back_decidable, back_forked, back_branch}
+use Rattle.checker.specs.Code.Going.OneFrame.{more_than_one, back_framed, back_node, back_lastable, back_last, back_room, back_one, back_waitable, back_plain, back_deep, back_let, back_decidable, back_forked, back_branch}
 use Rattle.script.specs.Code.Forms.{has_one}
 use Rattle.checker.proofs.steps.back.Goals as goal
-
-pub leave-frame-requires : goal.leave-frame-requires
-leave-frame-requires c =
-    let s = c.requires in
-    record {
-      frames_end_in_bounds = back_lent s.returnable s.bound;
-      frames_bound = back_inside s.returnable s.bound;
-    }
 
 pub node_at-node-requires : goal.node_at-node-requires
 node_at-node-requires c =

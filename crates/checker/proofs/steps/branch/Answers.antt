@@ -1,20 +1,12 @@
 -- `checker::steps::branch` meets its contract: the branch that is taken, or the first one and a fork. Assumes nothing.
-use mathlib.Core.Path.{◌∙◌}
-use native.Mathlib.Omega.{arith}
 use Rattle.script.specs.Answers.Named.{handed_on}
-use Rattle.checker.specs.Code.Going.Branching.{both-lent, stored-lent, stored-space, both_forkable, branched_first, branched_second, branched_none, branched_both}
+use Rattle.checker.specs.Code.Going.Branching.{stored-lent, stored-space, both_forkable, branched_first, branched_second, branched_none, branched_both}
 use Rattle.checker.proofs.steps.branch.Goals as goal
 
 pub fork-requires : goal.fork-requires
 fork-requires c =
     let p = c.requires in
     both_forkable p.decidable (rw c.in-Both.is at c.in_ok-choose.was) c.choose.ensures p.space_bound c.wait.ensures p.waitable p.frames_size_in_bounds p.frames_bound
-
-pub forget-requires : goal.forget-requires
-forget-requires c =
-    let p = c.requires in
-    let l = both-lent p.decidable (rw c.in-Both.is at c.in_ok-choose.was) c.choose.ensures in
-    omega (arith, l)
 
 pub assume-requires : goal.assume-requires
 assume-requires c =
@@ -33,9 +25,6 @@ returns-in-Second c = branched_second c.wait.ensures c.choose.ensures (rw c.in-S
 pub returns-in_err-choose : goal.returns-in_err-choose
 returns-in_err-choose c =
     rw (handed_on c.from_residual.result c.from_residual.ensures.1) (branched_none c.wait.ensures c.choose.ensures c.in_err-choose.was)
-
-pub shape_of-space-in-Both : goal.shape_of-space-in-Both
-shape_of-space-in-Both c = c.assume.auto.space ∙ c.forget.auto.space ∙ c.choose.auto.space
 
 pub returns-in-Both : goal.returns-in-Both
 returns-in-Both c =

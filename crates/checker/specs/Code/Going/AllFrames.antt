@@ -1,6 +1,6 @@
 -- A value that goes up frame by frame: what holds at each turn, and how it ends. Assumes nothing.
 use Rattle.std.specs.Prelude.{List, ◌∷◌, ◌≡◌, refl, ℕ, ◌≤◌, length, Ok, Err}
-use Rattle.std.proofs.Common.{sym, ◌∙◌, arith}
+use Rattle.std.proofs.Common.{◌∙◌, arith}
 use Rattle.script.specs.declared.Refusal.{Refusal}
 use Rattle.rules.specs.Paths.{Leaf, stopped}
 use Rattle.rules.specs.Symbolic.{Symbolic}

@@ -1,11 +1,9 @@
 -- The end of a path: its log, its type, and the path that follows; and the loop over the paths. Assumes nothing.
-use Rattle.std.specs.Prelude.{Bool, true, false, not, ◌||◌, ◌≡◌, ℕ, suc, ◌≤◌, eqb, Option, Ok, Err, unwrap_or}
-use Rattle.std.proofs.lemmas.Bool.{false≢true}
+use Rattle.std.specs.Prelude.{Bool, true, false, not, ◌≡◌, ℕ, suc, ◌≤◌, eqb, Option, Ok, Err, unwrap_or}
 use mathlib.Core.List.{List, [], ◌∷◌, ◌++◌}
 use Rattle.std.proofs.Math.Path.{refl, ap}
 use Rattle.std.proofs.Common.{sym, ◌∙◌, arith}
 use borrow.Author.Tests.{not-true, not-false, eqb-true, eq-eqb}
-use Rattle.script.specs.Tests.{pick}
 use Rattle.script.specs.declared.Refusal.TheVariants.{InconsistentLog, PathTypesDiffer}
 use Rattle.rules.specs.Paths.{Leaf, ended, leaves, consistent}
 use Rattle.rules.specs.Symbolic.{Symbolic, type_of}

@@ -1,14 +1,13 @@
 -- A path from a node on to its end, and the loop over the paths of a `sym` in typed mode. Assumes nothing.
-use Rattle.std.specs.Prelude.{Bool, ◌≡◌, refl, ℕ, suc, ◌+◌, ◌-◌, ◌≤◌, ◌<◌, eqb, length, get_or, replicate, Option, Some, None, Ok, Err, unwrap_or}
+use Rattle.std.specs.Prelude.{◌≡◌, refl, ℕ, suc, ◌+◌, ◌-◌, ◌≤◌, ◌<◌, length, get_or, replicate, Option, Some, None, Ok, Err, unwrap_or}
 use mathlib.Core.List.{List, [], ◌∷◌, ◌++◌, append-nil}
 use Rattle.std.proofs.Math.Path.{sym, ap}
-use Rattle.std.proofs.Common.{◌∙◌, ne_eqb}
+use Rattle.std.proofs.Common.{◌∙◌}
 use Rattle.std.proofs.Math.Nat.{sub-zero}
 use native.Mathlib.Omega.{arith}
 use Rattle.script.specs.Code.Forms.{tree_in}
 use Rattle.script.specs.Limits.{node_limit}
 use Rattle.script.specs.Rows.Laws.{same_anywhere}
-use Rattle.script.specs.Tests.{pick}
 use Rattle.script.specs.declared.Refusal.{Refusal}
 use Rattle.script.specs.declared.Refusal.TheVariants.{TooManyPaths}
 use Rattle.rules.specs.Checking.{exec}

@@ -3,6 +3,3 @@ use Rattle.words.proofs.sums.pass.Given as goal
 
 abbrev pub invariant-loop-i : goal.invariant-loop-i
 invariant-loop-i l = Passing l.space l.top l.initial.weights l.initial.numbers l.i l.weights l.numbers
-
-abbrev pub decreases-loop-i : goal.decreases-loop-i
-decreases-loop-i l = l.i

@@ -1,9 +1,0 @@
--- `decision::keep_after` meets its contract: something is done only if one branch is impossible. Assumes nothing.
-use mathlib.Core.Path.{refl, sym, ◌∙◌}
-use Rattle.decision.proofs.keep_after.Goals as goal
-
-pub returns-then-not-only_one : goal.returns-then-not-only_one
-returns-then-not-only_one c = rw (sym c.only_one.ensures ∙ c.if-not-only_one.true) refl
-
-pub returns : goal.returns
-returns c = rw (sym c.only_one.ensures ∙ c.if-not-only_one.false) c.keep.ensures

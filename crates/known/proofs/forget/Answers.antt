@@ -1,6 +1,0 @@
--- `known::forget` meets its contract: the one number that it stores. Assumes nothing.
-use mathlib.Core.Path.{refl}
-use Rattle.known.proofs.forget.Goals as goal
-
-pub returns : goal.returns
-returns c = refl
