@@ -9,58 +9,44 @@
 // Its line has fields parted by tabs: the name, then `accepted` and the letters of the type, or `refused`, number, and place or `-`.
 #![tactic(auto)]
 
-use script::table::{WIDTH};
-use script::{Script};
+use script::Script;
+use script::table::WIDTH;
 use std::io;
-use trial::{name_end, read_full, say, say_checked, say_refusal, text_end};
+use trial::{name_end, read_full, say, say_checked, text_end, try_all};
 
 // Reads a text, checks it if it could be read, and prints what came of it. The line is left open.
 fn try_text(rt: &impl Print, text: &[u8]) -> io::Result<()> {
     let mut table = [0u32; WIDTH * Script::NODES];
     let mut entries = [0u32; Script::ENTRIES];
-    match call_texts::read(text, &mut table, &mut entries) {
-        Ok(script) => {
-            let nodes = script.nodes;
-            let count = script.entries;
-            say_checked(rt, calls::check(&table, nodes, &entries, count))
-        }
-        Err(r) => say_refusal(rt, r),
-    }
+    let checked = call_texts::read(text, &mut table, &mut entries).and_then(|script| calls::check(
+        &table,
+        script.nodes,
+        &entries,
+        script.entries,
+    ));
+    say_checked(rt, checked)
 }
 
-// Tries the script at `at`, and answers where the next one starts; 0 after a malformed one.
-fn try_script(rt: &impl Print, input: &[u8], at: usize) -> io::Result<usize> {
-    let stop = name_end(input, at);
-    if stop <= at {
-        return Ok(0);
-    }
+// Tries the script at `at`, and answers where the next one starts; none after a malformed one.
+#[tactic(auto, using(trial::specs::Given::Laws::found))]
+fn try_script(rt: &impl Print, input: &[u8], at: usize) -> io::Result<Option<usize>> {
+    let Some(stop) = name_end(input, at) else {
+        return Ok(None);
+    };
     let from = stop + 1;
-    let end = text_end(input, from);
-    if input.len() <= end {
-        return Ok(0);
-    }
+    let Some(end) = text_end(input, from) else {
+        return Ok(None);
+    };
     say(rt, &input[at..stop])?;
-    say(rt, b"\t")?;
+    print!(rt; "\t")?;
     try_text(rt, &input[from..end])?;
-    say(rt, b"\n")?;
-    Ok(end + 1)
-}
-
-// Tries all scripts in turn. A malformed one ends it.
-fn try_all(rt: &impl Print, input: &[u8]) -> io::Result<()> {
-    let mut at = 0;
-    while at < input.len() {
-        let next = try_script(rt, input, at)?;
-        if next <= at {
-            return say(rt, b"malformed\n");
-        }
-        at = next;
-    }
-    Ok(())
+    print!(rt; "\n")?;
+    Ok(Some(end + 1))
 }
 
 fn main(rt: HostRuntime) -> io::Result<()> {
     let mut input = [0u8; 262144];
     let n = read_full(&mut rt.stdin(), &mut input)?;
-    try_all(&rt, &input[..n])
+    let input = &input[..n];
+    try_all(&rt, input, &mut (), |_, at| try_script(&rt, input, at))
 }

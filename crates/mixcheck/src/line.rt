@@ -6,7 +6,7 @@ ghost use Rattle.host.specs.Texts.{check_text};
 ghost use Rattle.mixcheck.specs.Line.{place_text, line_of, line_limit, PutLine};
 
 use output::{put, put_bytes, put_number, put_type};
-use script::{Refusal};
+use script::Refusal;
 
 // No line is longer.
 pub const MOST: usize = 26;

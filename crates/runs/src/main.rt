@@ -21,13 +21,14 @@ mod outcome;
 use outcome::try_text;
 use std::io;
 use trial::given::bytes_line;
-use trial::{Header, Number, header_at, name_end, read_full, say, text_end};
+use trial::{Header, header_at, name_end, read_full, say, text_end, try_all};
 
 // What lent bytes hold that the input does not give.
 const BLANK: u8 = 165;
 
 // Tries a run from the line of its values on. The line of its cells goes into `before` and `cells` alike: the run changes only `cells`.
-// Answers where the next run starts; 0 after a malformed one. A failure to print changes nothing of what the lent bytes then hold.
+// Answers where the next run starts; none after a malformed one. A failure to print changes nothing of what the lent bytes then hold.
+#[tactic(auto, using(trial::specs::Given::Laws::found))]
 fn try_given(
     rt: &impl Print,
     input: &[u8],
@@ -36,48 +37,49 @@ fn try_given(
     before: &mut [u8],
     cells: &mut [u8],
     used: u32,
-) -> io::Result<usize>
+) -> io::Result<Option<usize>>
     ensures ok { IfOk result (λ next. left next values.new before.new cells.new ≡ given_at input.now used at values.old before.old cells.old) }
     ensures err { OnErr result (left (given_at input.now used at values.old before.old cells.old).next values.new before.new cells.new ≡ given_at input.now used at values.old before.old cells.old) }
 {
-    let Number::Is(count, next) = bytes_line(input, at, values) else {
-        return Ok(0);
+    let Some((count, next)) = bytes_line(input, at, values) else {
+        return Ok(None);
     };
-    let Number::Is(_, from) = bytes_line(input, next, before) else {
-        return Ok(0);
+    let Some((_, from)) = bytes_line(input, next, before) else {
+        return Ok(None);
     };
     bytes_line(input, next, cells);
-    let end = text_end(input, from);
-    if input.len() <= end {
-        return Ok(0);
-    }
+    let Some(end) = text_end(input, from) else {
+        return Ok(None);
+    };
     let text = &input[from..end];
     try_text(rt, text, &values[..count], before, cells, used)?;
-    say(rt, b"\n")?;
-    Ok(end + 1)
+    print!(rt; "\n")?;
+    Ok(Some(end + 1))
 }
 
-// Tries the run at `at`, and answers where the next one starts; 0 after a malformed one.
-fn try_run(rt: &impl Print, input: &[u8], at: usize) -> io::Result<usize> {
-    let Header::Is {
-        first: lent,
-        second: used,
-        name,
-    } = header_at(input, at)
+// Tries the run at `at`, and answers where the next one starts; none after a malformed one.
+#[tactic(auto, using(trial::specs::Given::Laws::found))]
+fn try_run(rt: &impl Print, input: &[u8], at: usize) -> io::Result<Option<usize>> {
+    let Some(
+        Header {
+            first: lent,
+            second: used,
+            name,
+        },
+    ) = header_at(input, at)
     else {
-        return Ok(0);
+        return Ok(None);
     };
-    let stop = name_end(input, name);
-    if stop <= name {
-        return Ok(0);
-    }
+    let Some(stop) = name_end(input, name) else {
+        return Ok(None);
+    };
     say(rt, &input[name..stop])?;
-    say(rt, b"\t")?;
+    print!(rt; "\t")?;
     let mut values = [0u8; 128];
     let mut before = [BLANK; 1024];
     let mut cells = [BLANK; 1024];
     if cells.len() < lent {
-        return Ok(0);
+        return Ok(None);
     }
     try_given(
         rt,
@@ -90,21 +92,9 @@ fn try_run(rt: &impl Print, input: &[u8], at: usize) -> io::Result<usize> {
     )
 }
 
-// Tries all runs in turn. A malformed one ends it.
-fn try_all(rt: &impl Print, input: &[u8]) -> io::Result<()> {
-    let mut at = 0;
-    while at < input.len() {
-        let next = try_run(rt, input, at)?;
-        if next <= at {
-            return say(rt, b"malformed\n");
-        }
-        at = next;
-    }
-    Ok(())
-}
-
 fn main(rt: HostRuntime) -> io::Result<()> {
     let mut input = [0u8; 262144];
     let n = read_full(&mut rt.stdin(), &mut input)?;
-    try_all(&rt, &input[..n])
+    let input = &input[..n];
+    try_all(&rt, input, &mut (), |_, at| try_run(&rt, input, at))
 }

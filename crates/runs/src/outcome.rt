@@ -1,86 +1,69 @@
 // One run: the text is read, the script run, and what came of it printed.
-ghost use Rattle.std.specs.Prelude.{◌≡◌, ◌+◌, ◌*◌, ◌≤◌, ◌<◌, length};
+ghost use Rattle.std.specs.Prelude.{◌≡◌};
 ghost use Rattle.rules.specs.Running.{run_table};
 ghost use Rattle.call_texts.specs.Tables.{table_as};
 ghost use Rattle.runs.specs.Outcome.{cells_after};
 
-use script::table::{WIDTH};
+use script::table::WIDTH;
 use script::{Ended, Refusal, Script};
 use std::io;
-use trial::{say, say_decimal, say_either, say_number, say_refusal};
+use trial::{say_either, say_refusal};
 
-// A byte as a number of 64 bits.
-fn wide(b: u8) -> u64
-    ensures { result ≤ 255 }
-{
-    b as u64
-}
-
-// Prints the cell at place i: its kind, a colon, and its bits.
-fn say_cell(rt: &impl Print, cells: &[u8], i: usize) -> io::Result<()>
-    requires { 5 * i + 4 < length cells.now }
-{
-    let at = 5 * i;
-    say_decimal(rt, wide(cells[at]))?;
-    say(rt, b":")?;
-    say_decimal(
-        rt,
-        wide(cells[at + 1])
-            + 256 * wide(cells[at + 2])
-            + 65536 * wide(cells[at + 3])
-            + 16777216 * wide(cells[at + 4]),
-    )
+// Prints a cell: its kind, a colon, and its bits.
+fn say_cell(rt: &impl Print, cell: &[u8; 5]) -> io::Result<()> {
+    let [kind, a, b, c, d] = *cell;
+    let bits = u32::from_le_bytes([a, b, c, d]);
+    print!(rt; "{kind}:{bits}")
 }
 
 // Prints the first `count` cells after a tab, parted by blanks: `-` if there is none, `?` if they are not lent.
 fn say_cells(rt: &impl Print, cells: &[u8], count: usize) -> io::Result<()> {
-    say(rt, b"\t")?;
     if count == 0 {
-        return say(rt, b"-");
+        return print!(rt; "\t-");
     }
-    if cells.len() / 5 < count {
-        return say(rt, b"?");
+    let (cells, _) = cells.as_chunks::<5>();
+    if cells.len() < count {
+        return print!(rt; "\t?");
     }
-    say_cell(rt, cells, 0)?;
-    let mut i = 1;
-    while i < count {
-        say(rt, b" ")?;
-        say_cell(rt, cells, i)?;
-        i += 1;
+    print!(rt; "\t")?;
+    say_cell(rt, &cells[0])?;
+    for cell in &cells[1..count] {
+        print!(rt; " ")?;
+        say_cell(rt, cell)?;
     }
     Ok(())
 }
 
 // Prints whether the lent bytes from `from` on are as they were.
 fn say_kept(rt: &impl Print, before: &[u8], cells: &[u8], from: usize) -> io::Result<()> {
-    if from <= before.len() {
-        if from <= cells.len() {
-            return say_either(rt, &before[from..] == &cells[from..], b"kept", b"touched");
-        }
-    }
-    say(rt, b"\ttouched")
+    let kept = before
+        .get(from..)
+        .is_some_and(|rest| cells.get(from..) == Some(rest));
+    say_either(rt, kept, "kept", "touched")
 }
 
 // Prints a used count, the used cells, and whether those after them are as they were.
 fn say_after(rt: &impl Print, before: &[u8], cells: &[u8], used: u32) -> io::Result<()> {
     let count = used as usize;
-    say_number(rt, used as u64)?;
+    print!(rt; "\t{used}")?;
     say_cells(rt, cells, count)?;
     say_kept(rt, before, cells, 5 * count)
 }
 
 // Prints what came of a run, on cells that held what `before` holds.
-fn say_ran(rt: &impl Print, before: &[u8], cells: &[u8], answer: Result<Ended, Refusal>) -> io::Result<()> {
+fn say_ran(
+    rt: &impl Print,
+    before: &[u8],
+    cells: &[u8],
+    answer: Result<Ended, Refusal>,
+) -> io::Result<()> {
     match answer {
         Ok(Ended::Gave(v, now)) => {
-            say(rt, b"value")?;
-            say_number(rt, v.kind() as u64)?;
-            say_number(rt, v.bits() as u64)?;
+            print!(rt; "value\t{}\t{}", v.kind(), v.bits())?;
             say_after(rt, before, cells, now)
         }
         Ok(Ended::Failed(node, now)) => {
-            say(rt, b"error")?;
-            say_number(rt, node as u64)?;
+            print!(rt; "error\t{node}")?;
             say_after(rt, before, cells, now)
         }
         Err(r) => {
@@ -93,7 +76,7 @@ fn say_ran(rt: &impl Print, before: &[u8], cells: &[u8], answer: Result<Ended, R
 // Prints why a text could not be read, so that nothing was run.
 fn say_unread(rt: &impl Print, why: Refusal) -> io::Result<()> {
     say_refusal(rt, why)?;
-    say(rt, b"\tunread")
+    print!(rt; "\tunread")
 }
 
 // Runs a script that was read, on cells that hold what `before` holds, and then prints what came of it.

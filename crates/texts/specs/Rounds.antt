@@ -11,8 +11,7 @@ use Rattle.text.specs.Writing.{Outcome, writing}
 use Rattle.copies.specs.Copies.{copied}
 use Rattle.record_texts.specs.Texts.{Writes}
 use Rattle.call_texts.specs.Tables.{place_count, table_as, ReadBack}
-use Rattle.script.specs.Answers.Named.{Reading}
-use Rattle.script.specs.Answers.Named.{Writing}
+use Rattle.script.specs.Answers.Named.{Reading, Writing}
 
 -- the output after a writing onto full stops
 abbrev pub wrote_by : List ℕ → ℕ → List ℕ → ℕ → List ℕ → List ℕ

@@ -3,36 +3,76 @@
 // Names tell what is tried.
 #![tactic(auto)]
 
-ghost use Rattle.std.specs.Prelude.{◌≡◌, ℕ, length, IfOk, OnOk, OnErr};
-ghost use Rattle.texts.specs.Frames.{frame_at, lent, after_frame, Framed, after_frames};
+ghost use Rattle.std.specs.Prelude.{◌≡◌, ◌≤◌, ℕ, None, Some, length, MatchOption, IfOk, OnOk, OnErr};
+ghost use Rattle.texts.specs.Frames.{frame_as, frame_at, lent, after_frame, Framed, after_frames};
 
 mod rounds;
 mod slices;
 
 use call_texts::PLACES;
 use rounds::{Round, say_text, try_text};
+use script::Refusal;
 use script::table::WIDTH;
 use std::io;
-use trial::{Header, header_at, name_end, read_full, say};
+use trial::{header_at, name_end, read_full, say, try_all};
+
+// A frame: its name, its text, how many bytes of the output are lent to the writer, and where the next frame starts.
+#[derive(Clone, Copy)]
+struct Frame<'a> {
+    name: &'a [u8],
+    text: &'a [u8],
+    share: usize,
+    next: usize,
+}
+
+// What the trials are lent: a table, its entries, and bytes for the writer.
+#[derive(Drop)]
+struct Lent {
+    table: [u32; WIDTH * PLACES],
+    entries: [u32; 16],
+    out: [u8; 8193],
+}
+
+// The frame at `at`, if it is of the form and the writer's share of the output is no more than `room`.
+#[tactic(auto, using(crate::specs::Frames::Laws::frame_steps))]
+fn frame_at(input: &[u8], at: usize, room: usize) -> Option<Frame<'_>>
+    ensures { MatchOption result (frame_at input.now room at ≡ None) (λ f. frame_at input.now room at ≡ Some (frame_as f.text.now f.share f.next)) }
+{
+    let header = header_at(input, at)?;
+    let stop = name_end(input, header.name)?;
+    let rest = &input[stop + 1..];
+    if *rest.get(header.first)? != b'\n' {
+        return None;
+    }
+    if room < header.second {
+        return None;
+    }
+    Some(Frame {
+        name: &input[header.name..stop],
+        text: &rest[..header.first],
+        share: header.second,
+        next: stop + 1 + header.first + 1,
+    })
+}
 
 // Prints the line of a frame.
 fn say_frame(
     rt: &impl Print,
-    name: &[u8],
-    text: &[u8],
+    frame: &Frame<'_>,
     table: &[u32],
     entries: &[u32],
     out: &[u8],
-    round: Round,
+    round: Result<Round, Refusal>,
 ) -> io::Result<()> {
-    say(rt, name)?;
-    say(rt, b"\t")?;
-    say_text(rt, text, table, entries, out, round)?;
-    say(rt, b"\n")
+    say(rt, frame.name)?;
+    print!(rt; "\t")?;
+    say_text(rt, frame.text, table, entries, out, round)?;
+    print!(rt; "\n")
 }
 
-// Tries the frame at `at`, with `out` to lend from, and answers where the next one starts; 0 after a malformed one. Only its printing can fail, and that
+// Tries the frame at `at`, with `out` to lend from, and answers where the next one starts; none after a malformed one. Only its printing can fail, and that
 // comes last.
+#[tactic(auto, using(crate::specs::Frames::Laws::share_most, crate::specs::Frames::Laws::share_lent))]
 fn try_frame(
     rt: &impl Print,
     input: &[u8],
@@ -40,74 +80,42 @@ fn try_frame(
     table: &mut [u32],
     entries: &mut [u32],
     out: &mut [u8],
-) -> io::Result<usize>
+) -> io::Result<Option<usize>>
     ensures ok { IfOk result (λ next. Framed (frame_at input.now (length out.old) at) (lent table.old entries.old out.old) next (lent table.new entries.new out.new)) }
     ensures err { OnErr result (lent table.new entries.new out.new ≡ after_frame (frame_at input.now (length out.old) at) (lent table.old entries.old out.old)) }
 {
-    let Header::Is {
-        first: length,
-        second: lent,
-        name,
-    } = header_at(input, at)
-    else {
-        return Ok(0);
+    let Some(frame) = frame_at(input, at, out.len()) else {
+        return Ok(None);
     };
-    let stop = name_end(input, name);
-    if stop <= name {
-        return Ok(0);
-    }
-    let from = stop + 1;
-    if input.len() - from <= length {
-        return Ok(0);
-    }
-    let end = from + length;
-    if input[end] != b'\n' {
-        return Ok(0);
-    }
-    if out.len() < lent {
-        return Ok(0);
-    }
-    let text = &input[from..end];
-    let round = try_text(text, table, entries, &mut out[..lent]);
-    say_frame(
-        rt,
-        &input[name..stop],
-        text,
-        table,
-        entries,
-        &out[..lent],
-        round,
-    )?;
-    Ok(end + 1)
+    let round = try_text(frame.text, table, entries, &mut out[..frame.share]);
+    say_frame(rt, &frame, table, entries, &out[..frame.share], round)?;
+    Ok(Some(frame.next))
 }
 
 // Tries all frames in turn. A malformed one ends it, and so does a failure to print, after which what is lent holds what the trials up to there leave.
-fn try_all(
-    rt: &impl Print,
-    input: &[u8],
-    table: &mut [u32],
-    entries: &mut [u32],
-    out: &mut [u8],
-) -> io::Result<()>
-    ensures ok { OnOk result (lent table.new entries.new out.new ≡ after_frames input.now (length input.now) 0 (lent table.old entries.old out.old)) }
-    ensures err { OnErr result ((turns : ℕ) × (lent table.new entries.new out.new ≡ after_frames input.now turns 0 (lent table.old entries.old out.old))) }
+fn try_frames(rt: &impl Print, input: &[u8], lent: &mut Lent) -> io::Result<()>
+    ensures ok { OnOk result (lent.new ≡ after_frames input.now (length input.now) 0 lent.old) }
+    ensures err { OnErr result ((turns : ℕ) × (lent.new ≡ after_frames input.now turns 0 lent.old)) }
 {
-    let mut at = 0;
-    while at < input.len() {
-        let next = try_frame(rt, input, at, table, entries, out)?;
-        if next <= at {
-            return say(rt, b"malformed\n");
-        }
-        at = next;
-    }
-    Ok(())
+    try_all(
+        rt,
+        input,
+        lent,
+        |Lent {
+            table,
+            entries,
+            out,
+        }, at| { try_frame(rt, input, at, table, entries, out) },
+    )
 }
 
 fn main(rt: HostRuntime) -> io::Result<()> {
     let mut input = [0u8; 262144];
     let n = read_full(&mut rt.stdin(), &mut input)?;
-    let mut table = [0u32; WIDTH * PLACES];
-    let mut entries = [0u32; 16];
-    let mut out = [0u8; 8193];
-    try_all(&rt, &input[..n], &mut table, &mut entries, &mut out)
+    let mut lent = Lent {
+        table: [0; WIDTH * PLACES],
+        entries: [0; 16],
+        out: [0; 8193],
+    };
+    try_frames(&rt, &input[..n], &mut lent)
 }

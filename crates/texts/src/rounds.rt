@@ -2,10 +2,10 @@
 ghost use Rattle.std.specs.Prelude.{◌≡◌};
 ghost use Rattle.texts.specs.Rounds.{wrote_by, Tried};
 
-use crate::slices::{all_bytes, entries_clear, fill_bytes, fill_words, nodes_clear};
+use crate::slices::{all_bytes, entries_clear, nodes_clear};
 use script::{Refusal, Script};
 use std::io;
-use trial::{say, say_either, say_number, say_refusal};
+use trial::{say_either, say_refusal};
 
 // What the table and the entries hold before a reading: no place of it is `false`, no entry 0.
 const STALE: u32 = 7;
@@ -13,11 +13,11 @@ const STALE: u32 = 7;
 // What the writer's output holds before a writing.
 const BLANK: u8 = b'.';
 
-// What came of a text: what was read, and the answer of its writing; or why it could not be read.
+// What came of a text that could be read: its counts, and the answer of its writing.
 #[derive(Clone, Copy)]
-pub enum Round {
-    Read(Script, Result<usize, Refusal>),
-    Refused(Refusal),
+pub struct Round {
+    pub script: Script,
+    pub wrote: Result<usize, Refusal>,
 }
 
 // Prints whether the places from these counts on hold what reading leaves in unused places.
@@ -30,42 +30,45 @@ fn say_clean(
 ) -> io::Result<()> {
     let clear = nodes_clear(table, nodes);
     let zero = entries_clear(entries, used);
-    say_either(rt, clear && zero, b"clean", b"dirty")
+    say_either(rt, clear && zero, "clean", "dirty")
 }
 
 // Prints whether the output from `from` on is as it was.
 fn say_kept(rt: &impl Print, out: &[u8], from: usize) -> io::Result<()> {
-    if from <= out.len() {
-        say_either(rt, all_bytes(&out[from..], BLANK), b"kept", b"touched")
-    } else {
-        say(rt, b"\ttouched")
-    }
+    let kept = out.get(from..).is_some_and(|rest| all_bytes(rest, BLANK));
+    say_either(rt, kept, "kept", "touched")
 }
 
 // Prints whether the output begins with a text of this length, and it is `text`.
 fn say_same(rt: &impl Print, text: &[u8], out: &[u8], length: usize) -> io::Result<()> {
-    if length <= out.len() {
-        say_either(rt, text == &out[..length], b"same", b"differs")
-    } else {
-        say(rt, b"\tdiffers")
-    }
+    say_either(rt, out.get(..length) == Some(text), "same", "differs")
 }
 
 // Writes a table that was read.
-fn try_writer(table: &[u32], nodes: usize, entries: &[u32], used: usize, out: &mut [u8]) -> Result<usize, Refusal>
+fn try_writer(
+    table: &[u32],
+    nodes: usize,
+    entries: &[u32],
+    used: usize,
+    out: &mut [u8],
+) -> Result<usize, Refusal>
     ensures { out.new ≡ wrote_by table.now nodes entries.now «used» out.old }
 {
-    fill_bytes(out, BLANK);
+    out.fill(BLANK);
     call_texts::write(table, nodes, entries, used, out)
 }
 
 // Prints what came of the writing of what was read from `text`.
-fn say_wrote(rt: &impl Print, text: &[u8], out: &[u8], answer: Result<usize, Refusal>) -> io::Result<()> {
-    say(rt, b"\t")?;
+fn say_wrote(
+    rt: &impl Print,
+    text: &[u8],
+    out: &[u8],
+    answer: Result<usize, Refusal>,
+) -> io::Result<()> {
+    print!(rt; "\t")?;
     match answer {
         Ok(length) => {
-            say(rt, b"wrote")?;
-            say_number(rt, length as u64)?;
+            print!(rt; "wrote\t{length}")?;
             say_same(rt, text, out, length)?;
             say_kept(rt, out, length)
         }
@@ -77,20 +80,19 @@ fn say_wrote(rt: &impl Print, text: &[u8], out: &[u8], answer: Result<usize, Ref
 }
 
 // Reads a text into a table that holds other numbers, and goes on to the writer.
-pub fn try_text(text: &[u8], table: &mut [u32], entries: &mut [u32], out: &mut [u8]) -> Round
+pub fn try_text(
+    text: &[u8],
+    table: &mut [u32],
+    entries: &mut [u32],
+    out: &mut [u8],
+) -> Result<Round, Refusal>
     ensures { Tried text.now table.old entries.old out.old table.new entries.new out.new }
 {
-    fill_words(table, STALE);
-    fill_words(entries, STALE);
-    match call_texts::read(text, table, entries) {
-        Ok(script) => {
-            let nodes = script.nodes;
-            let used = script.entries;
-            let answer = try_writer(table, nodes, entries, used, out);
-            Round::Read(script, answer)
-        }
-        Err(r) => Round::Refused(r),
-    }
+    table.fill(STALE);
+    entries.fill(STALE);
+    let script = call_texts::read(text, table, entries)?;
+    let wrote = try_writer(table, script.nodes, entries, script.entries, out);
+    Ok(Round { script, wrote })
 }
 
 // Prints what came of a text. The line is left open.
@@ -100,20 +102,16 @@ pub fn say_text(
     table: &[u32],
     entries: &[u32],
     out: &[u8],
-    round: Round,
+    round: Result<Round, Refusal>,
 ) -> io::Result<()> {
     match round {
-        Round::Read(script, answer) => {
-            let nodes = script.nodes;
-            let used = script.entries;
-            say(rt, b"read")?;
-            say_number(rt, nodes as u64)?;
-            say_number(rt, used as u64)?;
-            say_clean(rt, table, nodes, entries, used)?;
-            say_wrote(rt, text, out, answer)
+        Ok(Round { script, wrote }) => {
+            print!(rt; "read\t{}\t{}", script.nodes, script.entries)?;
+            say_clean(rt, table, script.nodes, entries, script.entries)?;
+            say_wrote(rt, text, out, wrote)
         }
-        Round::Refused(r) => {
-            say_refusal(rt, r)?;
+        Err(why) => {
+            say_refusal(rt, why)?;
             say_clean(rt, table, 0, entries, 0)
         }
     }

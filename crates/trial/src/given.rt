@@ -2,67 +2,49 @@
 ghost use Rattle.std.specs.Prelude.{◌≡◌};
 ghost use Rattle.trial.specs.Given.{byte_at, line, bytes_line};
 
-use crate::{Number, number_until};
+use crate::number_until;
 
-// A byte of a line and what comes after it: where the next byte starts, or where the next line does; or not of the form.
+// A byte of a line, whether it is the line's last, and where the next byte starts, or after the last the next line.
 #[derive(Clone, Copy)]
-pub enum Byte {
-    More(u8, usize),
-    Last(u8, usize),
-    Bad,
+struct Byte {
+    value: u8,
+    last: bool,
+    next: usize,
 }
 
-// The decimal byte at `at`, with a blank or an LF after it, and the place after that.
-fn byte_at(input: &[u8], at: usize) -> Byte
+// The decimal byte at `at`, with a blank or an LF after it.
+#[tactic(auto, unfolding(crate::specs::Given::byte_at))]
+fn byte_at(input: &[u8], at: usize) -> Option<Byte>
     ensures { result ≡ byte_at input.now at }
 {
-    match number_until(input, at, b' ') {
-        Number::Is(value, next) => {
-            if value <= 255 {
-                return Byte::More(value as u8, next);
-            }
-            Byte::Bad
+    let (value, last, next) = match number_until(input, at, b' ') {
+        Some((value, next)) => (value, false, next),
+        None => {
+            let (value, next) = number_until(input, at, b'\n')?;
+            (value, true, next)
         }
-        Number::Bad => match number_until(input, at, b'\n') {
-            Number::Is(value, next) => {
-                if value <= 255 {
-                    return Byte::Last(value as u8, next);
-                }
-                Byte::Bad
-            }
-            Number::Bad => Byte::Bad,
-        },
-    }
+    };
+    let value = u8::try_from(value).ok()?;
+    Some(Byte { value, last, next })
 }
 
 // Reads the line of decimal bytes at `at`, parted by blanks or none at all, into `out`: how many they are, and where the next line starts.
 // If it is not of the form or has more bytes than `out`, the bytes before that place are in `out`.
-pub fn bytes_line(input: &[u8], at: usize, out: &mut [u8]) -> Number
+#[tactic(auto, using(crate::specs::Given::Laws::line_steps))]
+pub fn bytes_line(input: &[u8], at: usize, out: &mut [u8]) -> Option<(usize, usize)>
     ensures { line result out.new ≡ bytes_line input.now at out.old }
 {
-    if input.len() <= at {
-        return Number::Bad;
-    }
-    if input[at] == b'\n' {
-        return Number::Is(0, at + 1);
+    if *input.get(at)? == b'\n' {
+        return Some((0, at + 1));
     }
     let mut i = at;
-    let mut n = 0;
-    while n < out.len() {
-        match byte_at(input, i) {
-            Byte::More(b, next) => {
-                out[n] = b;
-                n += 1;
-                i = next;
-            }
-            Byte::Last(b, next) => {
-                out[n] = b;
-                return Number::Is(n + 1, next);
-            }
-            Byte::Bad => {
-                return Number::Bad;
-            }
+    for n in 0..out.len() {
+        let byte = byte_at(input, i)?;
+        out[n] = byte.value;
+        i = byte.next;
+        if byte.last {
+            return Some((n + 1, i));
         }
     }
-    Number::Bad
+    None
 }

@@ -3,14 +3,14 @@ use Rattle.text.specs.Code.Output.Laws.{put_length}
 use Rattle.mixcheck.specs.Line.Laws.{line_put}
 use Rattle.mixcheck.proofs.line.put_line.Goals as goal
 
-pub shape_of-out-in-Accepted : goal.shape_of-out-in-Accepted
-shape_of-out-in-Accepted c = put_length c.put_accepted.ensures
+pub shape_of-out-in-Ok : goal.shape_of-out-in-Ok
+shape_of-out-in-Ok c = put_length c.put_accepted.ensures
 
-pub returns-in-Accepted : goal.returns-in-Accepted
-returns-in-Accepted c = line_put _ c.check_text.ensures c.requires c.in-Accepted.is c.put_accepted.ensures
+pub returns-in-Ok : goal.returns-in-Ok
+returns-in-Ok c = line_put _ c.check_text.ensures c.requires c.in-Ok.is c.put_accepted.ensures
 
-pub shape_of-out-in-Refused : goal.shape_of-out-in-Refused
-shape_of-out-in-Refused c = put_length c.put_refused.ensures
+pub shape_of-out-in-Err : goal.shape_of-out-in-Err
+shape_of-out-in-Err c = put_length c.put_refused.ensures
 
-pub returns-in-Refused : goal.returns-in-Refused
-returns-in-Refused c = line_put _ c.check_text.ensures c.requires c.in-Refused.is c.put_refused.ensures
+pub returns-in-Err : goal.returns-in-Err
+returns-in-Err c = line_put _ c.check_text.ensures c.requires c.in-Err.is c.put_refused.ensures

@@ -8,19 +8,19 @@ pub overflow_add-next : goal.overflow_add-next
 overflow_add-next c = omega (arith, c.requires)
 
 pub overflow_add-result : goal.overflow_add-result
-overflow_add-result c = omega (arith, c.requires, nowhere-length c.in-Nowhere.is)
+overflow_add-result c = omega (arith, c.requires, nowhere-length c.in-None.is)
 
 pub put_number-requires : goal.put_number-requires
-put_number-requires c = omega (arith, c.requires, at_length c.in-At.is)
+put_number-requires c = omega (arith, c.requires, at_length c.in-Some.is)
 
-pub shape_of-out-in-Nowhere : goal.shape_of-out-in-Nowhere
-shape_of-out-in-Nowhere c = put_length ((put_nowhere c.in-Nowhere.is (put_then (put_one c.put.ensures) (put_one c.put-in-Nowhere.ensures))))
+pub shape_of-out-in-None : goal.shape_of-out-in-None
+shape_of-out-in-None c = put_length ((put_nowhere c.in-None.is (put_then (put_one c.put.ensures) (put_one c.put-in-None.ensures))))
 
-pub returns-in-Nowhere : goal.returns-in-Nowhere
-returns-in-Nowhere c = put_nowhere c.in-Nowhere.is (put_then (put_one c.put.ensures) (put_one c.put-in-Nowhere.ensures))
+pub returns-in-None : goal.returns-in-None
+returns-in-None c = put_nowhere c.in-None.is (put_then (put_one c.put.ensures) (put_one c.put-in-None.ensures))
 
-pub shape_of-out-in-At : goal.shape_of-out-in-At
-shape_of-out-in-At c = put_length ((put_at c.in-At.is (put_then (put_one c.put.ensures) c.put_number.ensures)))
+pub shape_of-out-in-Some : goal.shape_of-out-in-Some
+shape_of-out-in-Some c = put_length ((put_at c.in-Some.is (put_then (put_one c.put.ensures) c.put_number.ensures)))
 
-pub returns-in-At : goal.returns-in-At
-returns-in-At c = put_at c.in-At.is (put_then (put_one c.put.ensures) c.put_number.ensures)
+pub returns-in-Some : goal.returns-in-Some
+returns-in-Some c = put_at c.in-Some.is (put_then (put_one c.put.ensures) c.put_number.ensures)

@@ -2,10 +2,11 @@
 use Rattle.texts.specs.Rounds.{tried_read, tried-refused}
 use Rattle.texts.proofs.rounds.try_text.Goals as goal
 
-pub returns-in-Read : goal.returns-in-Read
-returns-in-Read c =
-    tried_read c.args.table.now c.args.entries.now c.fill_words.ensures c.fill_words-2.ensures c.read.ensures c.in-Read.is c.try_writer-answer.ensures
+pub returns-in_err-script : goal.returns-in_err-script
+returns-in_err-script c =
+    tried-refused c.args.table.now c.args.entries.now (c.fill.ensures.after (λ y e. e)) (c.fill-2.ensures.after (λ y e. e)) c.read.ensures c.in_err-script.was
 
-pub returns-in-Refused : goal.returns-in-Refused
-returns-in-Refused c =
-    tried-refused c.args.table.now c.args.entries.now c.fill_words.ensures c.fill_words-2.ensures c.read.ensures c.in-Refused.is
+pub returns : goal.returns
+returns c =
+    tried_read c.args.table.now c.args.entries.now (c.fill.ensures.after (λ y e. e)) (c.fill-2.ensures.after (λ y e. e)) c.read.ensures c.in_ok-script.was
+    c.try_writer-wrote.ensures

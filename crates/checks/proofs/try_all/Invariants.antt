@@ -1,6 +1,0 @@
--- Each turn goes on in the input.
-use Rattle.std.proofs.Common.{◌-◌, length}
-use Rattle.checks.proofs.try_all.Given as goal
-
-abbrev pub decreases-loop-at : goal.decreases-loop-at
-decreases-loop-at g l = length l.input - l.at
