@@ -10,7 +10,7 @@
 #![tactic(auto)]
 
 use script::Script;
-use script::table::WIDTH;
+use script::table::{LentTable, WIDTH};
 use std::io;
 use trial::{name_end, read_full, say, say_checked, text_end, try_all};
 
@@ -18,12 +18,14 @@ use trial::{name_end, read_full, say, say_checked, text_end, try_all};
 fn try_text(rt: &impl Print, text: &[u8]) -> io::Result<()> {
     let mut table = [0u32; WIDTH * Script::NODES];
     let mut entries = [0u32; Script::ENTRIES];
-    let checked = call_texts::read(text, &mut table, &mut entries).and_then(|script| calls::check(
-        &table,
-        script.nodes,
-        &entries,
-        script.entries,
-    ));
+    let checked = call_texts::read(text, &mut table, &mut entries).and_then(|script| {
+        calls::check(&LentTable {
+            table: &table,
+            nodes: script.nodes,
+            entries: &entries,
+            entry_count: script.entries,
+        })
+    });
     say_checked(rt, checked)
 }
 

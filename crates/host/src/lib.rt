@@ -7,7 +7,7 @@ ghost use Rattle.answers.specs.Answers.{answer_of_check, AnswersRun};
 ghost use Rattle.host.specs.Texts.{check_text, run_text, RanTo};
 
 use answers::{check_answer, run_answer};
-use script::table::WIDTH;
+use script::table::{LentTable, WIDTH};
 use script::{Ended, Refusal, Script};
 
 // Reads a text and checks it: accepted with its type, or why not.
@@ -17,7 +17,13 @@ pub fn check_text(text: &[u8]) -> Result<u32, Refusal>
     let mut table = [0u32; WIDTH * Script::NODES];
     let mut entries = [0u32; Script::ENTRIES];
     let script = reader::read(text, &mut table, &mut entries)?;
-    checker::check_passed(&table, script.nodes, &entries, script.entries)
+    let lent = LentTable {
+        table: &table,
+        nodes: script.nodes,
+        entries: &entries,
+        entry_count: script.entries,
+    };
+    checker::check_passed(&lent)
 }
 
 // Reads a text and runs it on entry values and cells, of which the first `used` are used: a value or the error state, or why not.
@@ -27,15 +33,13 @@ pub fn run_text(text: &[u8], values: &[u8], cells: &mut [u8], used: u32) -> Resu
     let mut table = [0u32; WIDTH * Script::NODES];
     let mut entries = [0u32; Script::ENTRIES];
     let script = reader::read(text, &mut table, &mut entries)?;
-    runner::run_passed(
-        &table,
-        script.nodes,
-        &entries,
-        script.entries,
-        values,
-        cells,
-        used,
-    )
+    let lent = LentTable {
+        table: &table,
+        nodes: script.nodes,
+        entries: &entries,
+        entry_count: script.entries,
+    };
+    runner::run_passed(&lent, values, cells, used)
 }
 
 // Checks a script text. The answer is a number that include/teqharis.h takes apart.

@@ -1,10 +1,10 @@
 // One run: the text is read, the script run, and what came of it printed.
 ghost use Rattle.std.specs.Prelude.{◌≡◌};
 ghost use Rattle.rules.specs.Running.{run_table};
-ghost use Rattle.call_texts.specs.Tables.{table_as};
+ghost use Rattle.call_texts.specs.Tables.{flat_by};
 ghost use Rattle.runs.specs.Outcome.{cells_after};
 
-use script::table::WIDTH;
+use script::table::{LentTable, WIDTH};
 use script::{Ended, Refusal, Script};
 use std::io;
 use trial::{say_either, say_refusal};
@@ -82,18 +82,15 @@ fn say_unread(rt: &impl Print, why: Refusal) -> io::Result<()> {
 // Runs a script that was read, on cells that hold what `before` holds, and then prints what came of it.
 fn try_script(
     rt: &impl Print,
-    table: &[u32],
-    nodes: usize,
-    entries: &[u32],
-    entry_count: usize,
+    lent: &LentTable<u32>,
     values: &[u8],
     before: &[u8],
     cells: &mut [u8],
     used: u32,
 ) -> io::Result<()>
-    ensures { cells.new ≡ (run_table (table_as table.now nodes entries.now entry_count) values.now cells.old used).cells }
+    ensures { cells.new ≡ (run_table (flat_by lent.now) values.now cells.old used).cells }
 {
-    let answer = calls::run(table, nodes, entries, entry_count, values, cells, used);
+    let answer = calls::run(lent, values, cells, used);
     say_ran(rt, before, cells, answer)
 }
 
@@ -112,11 +109,13 @@ pub fn try_text(
     let mut entries = [0u32; 16];
     match call_texts::read(text, &mut table, &mut entries) {
         Ok(script) => {
-            let nodes = script.nodes;
-            let count = script.entries;
-            try_script(
-                rt, &table, nodes, &entries, count, values, before, cells, used,
-            )
+            let lent = LentTable {
+                table: &table,
+                nodes: script.nodes,
+                entries: &entries,
+                entry_count: script.entries,
+            };
+            try_script(rt, &lent, values, before, cells, used)
         }
         Err(why) => say_unread(rt, why),
     }

@@ -13,7 +13,7 @@
 ghost use Rattle.std.specs.Prelude.{◌++◌, ◌≡◌, ◌≤◌, length, drop};
 
 use call_texts::PLACES;
-use script::table::WIDTH;
+use script::table::{LentTable, WIDTH};
 use std::io;
 use trial::given::bytes_line;
 use trial::{Header, header_at, name_end, read_full, say, say_checked, say_refusal, try_all};
@@ -29,17 +29,11 @@ fn widen(bytes: &[u8], words: &mut [u32])
 }
 
 // Checks and writes a table, and prints what came of it. The line is left open.
-fn try_table(
-    rt: &impl Print,
-    table: &[u32],
-    nodes: usize,
-    entries: &[u32],
-    used: usize,
-) -> io::Result<()> {
+fn try_table(rt: &impl Print, lent: &LentTable<u32>) -> io::Result<()> {
     let mut out = [0u8; 2288];
-    say_checked(rt, calls::check(table, nodes, entries, used))?;
+    say_checked(rt, calls::check(lent))?;
     print!(rt; "\t")?;
-    match call_texts::write(table, nodes, entries, used, &mut out) {
+    match call_texts::write(lent, &mut out) {
         Ok(length) => print!(rt; "wrote\t{length}"),
         Err(r) => say_refusal(rt, r),
     }
@@ -68,7 +62,13 @@ fn try_given(
     }
     widen(&codes, &mut entries);
     widen(&numbers, &mut table);
-    try_table(rt, &table, nodes, &entries[..lent], used)?;
+    let given = LentTable {
+        table: &table,
+        nodes,
+        entries: &entries[..lent],
+        entry_count: used,
+    };
+    try_table(rt, &given)?;
     print!(rt; "\n")?;
     Ok(Some(end))
 }

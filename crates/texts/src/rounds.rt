@@ -3,6 +3,7 @@ ghost use Rattle.std.specs.Prelude.{◌≡◌};
 ghost use Rattle.texts.specs.Rounds.{wrote_by, Tried};
 
 use crate::slices::{all_bytes, entries_clear, nodes_clear};
+use script::table::LentTable;
 use script::{Refusal, Script};
 use std::io;
 use trial::{say_either, say_refusal};
@@ -45,17 +46,11 @@ fn say_same(rt: &impl Print, text: &[u8], out: &[u8], length: usize) -> io::Resu
 }
 
 // Writes a table that was read.
-fn try_writer(
-    table: &[u32],
-    nodes: usize,
-    entries: &[u32],
-    used: usize,
-    out: &mut [u8],
-) -> Result<usize, Refusal>
-    ensures { out.new ≡ wrote_by table.now nodes entries.now «used» out.old }
+fn try_writer(lent: &LentTable<u32>, out: &mut [u8]) -> Result<usize, Refusal>
+    ensures { out.new ≡ wrote_by lent.now.table.now lent.now.nodes lent.now.entries.now lent.now.entry_count out.old }
 {
     out.fill(BLANK);
-    call_texts::write(table, nodes, entries, used, out)
+    call_texts::write(lent, out)
 }
 
 // Prints what came of the writing of what was read from `text`.
@@ -91,7 +86,13 @@ pub fn try_text(
     table.fill(STALE);
     entries.fill(STALE);
     let script = call_texts::read(text, table, entries)?;
-    let wrote = try_writer(table, script.nodes, entries, script.entries, out);
+    let lent = LentTable {
+        table,
+        nodes: script.nodes,
+        entries,
+        entry_count: script.entries,
+    };
+    let wrote = try_writer(&lent, out);
     Ok(Round { script, wrote })
 }
 

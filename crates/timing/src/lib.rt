@@ -9,7 +9,7 @@ ghost use Rattle.text.specs.Writing.{writing};
 ghost use Rattle.timing.specs.Answers.{ReadTo, WroteTo, wrong_use};
 
 use script::Script;
-use script::table::WIDTH;
+use script::table::{LentTable, WIDTH};
 use uses::walk;
 
 // Reads a text into a lent table and lent entries: how many nodes it has; 0 if it is refused.
@@ -32,7 +32,13 @@ pub fn timing_write(
 ) -> u64
     ensures { WroteTo (writing (table_in table.now nodes entries.now entry_count) out.old) result out.new }
 {
-    match writer::write(table, nodes, entries, entry_count, out) {
+    let lent = LentTable {
+        table,
+        nodes,
+        entries,
+        entry_count,
+    };
+    match writer::write(&lent, out) {
         Ok(length) => length as u64,
         Err(_) => 0,
     }
