@@ -12,11 +12,11 @@ entry_types-requires c =
       entry_count_in_bounds_2 = omega (arith, p.entries_most);
     }
 
-pub overflow_sub-nodes : goal.overflow_sub-nodes
-overflow_sub-nodes c = (passes _ c.requires).nodes_least
+pub overflow_sub-lent : goal.overflow_sub-lent
+overflow_sub-lent c = (passes _ c.requires).nodes_least
 
-pub overflow_cast-nodes : goal.overflow_cast-nodes
-overflow_cast-nodes c =
+pub overflow_cast-lent : goal.overflow_cast-lent
+overflow_cast-lent c =
     let p = passes _ c.requires in
     omega (arith, p.nodes_most)
 
