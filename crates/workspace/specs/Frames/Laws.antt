@@ -1,13 +1,47 @@
--- Whether a node waits, and each step down the first operands. Assumes nothing.
-use Rattle.std.specs.Prelude.{Bool, true, false, not, ◌&&◌, List, ◌≡◌, refl, ℕ, suc, ◌≤◌, ◌<◌, leb, eqb}
-use Rattle.std.proofs.lemmas.Bool.{false≢true}
-use Rattle.std.proofs.Common.{sym, ◌∙◌, arith, leb-true, eq-eqb}
+-- What a new frame holds and what it leaves as it was, and each step down the first operands. Assumes nothing.
+use Rattle.std.specs.Prelude.{Bool, true, false, not, ◌&&◌, List, ◌≡◌, refl, ℕ, suc, ◌+◌, ◌*◌, ◌≤◌, ◌<◌, leb, eqb, length, get_or, set}
+use Rattle.std.proofs.lemmas.Bool.{false≢true, lt-leb}
+use Rattle.std.proofs.Common.{sym, ◌∙◌, arith, length-set, get_or-set_same, get_or-set_other, leb-true, leb-false, le-leb, eq-eqb, ne_eqb}
 use Rattle.script.specs.Code.Forms.{node_in, tree_in, some-operand, formed_less}
 use Rattle.script.specs.Rows.{typed_form}
 use Rattle.script.specs.Rows.Kinds.{kind_for, leaf_kinds}
 use Rattle.script.specs.Tree.{Expr, int, truth, var, unary, binary, if_else, let_in, typed_block, sym_block, size}
-use Rattle.workspace.specs.Frames.{waits_for, Waitable, Waits, Descendable, for_first}
+use Rattle.workspace.specs.Frames.{frame_in, top_in, waits_for, Waitable, Waits, Descendable, up_to, for_first}
+use Rattle.workspace.specs.Places.{frame_width, goal_at, top_at}
 use Rattle.workspace.specs.Rules.Nodes.{First, shaped, first_of}
+
+-- ---- a new frame
+
+module _ (fs : List ℕ) (at a b x y top : ℕ) where
+  abbrev one : List ℕ
+  one = set fs at a
+
+  abbrev two : List ℕ
+  two = set one (at + 1) b
+
+  abbrev three : List ℕ
+  three = set two (at + 2) x
+
+  abbrev four : List ℕ
+  four = set three (at + 3) y
+
+  abbrev five : List ℕ
+  five = set four top_at top
+
+  abbrev pub stored : List ℕ
+  stored = set five goal_at top
+
+  module _ (h : frame_width ≤ at) (l : at + 3 < length fs) where
+    pub stored-length : length stored ≡ length fs
+    stored-length = simp length-set
+
+    behind : (k : ℕ) → 2 ≤ k → get_or stored k 0 ≡ get_or four k 0
+    behind k i = get_or-set_other five goal_at k top 0 (λ e. omega arith) ∙ get_or-set_other four top_at k top 0 (λ e. omega arith)
+
+-- in a frame with number top
+module _ (n awaits x y : ℕ) (fs : List ℕ) (w : Waitable fs) (top : ℕ) (e : top ≡ suc (top_in fs)) where
+  abbrev left : List ℕ
+  left = stored fs (frame_width * top) n (up_to (frame_in fs) awaits) x y top
 
 -- ---- whether a node waits
 

@@ -1,13 +1,14 @@
 -- The loops over the log: what a turn leaves of the whole. Assumes nothing.
-use Rattle.std.specs.Prelude.{true, false, ◌&&◌, ◌||◌, List, ◌≡◌, eqb, get_or, Some, None}
+use Rattle.std.specs.Prelude.{true, false, ◌&&◌, ◌||◌, List, ◌≡◌, leb, eqb, get_or, Some, None}
 use Rattle.std.proofs.Math.Path.{refl, sym}
-use Rattle.std.proofs.Common.{ap, ◌∙◌, add-one, eq-eqb, ne_eqb}
+use Rattle.std.proofs.Common.{ap, ◌∙◌, add-one, le-leb, eq-eqb, ne_eqb}
 use Prim.Native.Nat.{ℕ, suc, ◌+◌, ◌-◌, ◌≤◌, ◌<◌}
 use native.Mathlib.Omega.{arith}
+use Rattle.std.proofs.lemmas.Bool.{lt-leb}
 use Rattle.script.specs.Tests.{pick}
 use Rattle.terms.specs.References.{apart_at, symbol_at}
 use Rattle.workspace.specs.Answers.{Found}
-use Rattle.workspace.specs.Log.{mends_on, mended_on, settled_on, consistent_on, lookup_at, lookup_on}
+use Rattle.workspace.specs.Log.{right_on, mends_on, mended_on, settled_on, consistent_on, lookup_at, lookup_on}
 use Rattle.workspace.specs.Places.{write_at}
 
 -- ---- a later write that mends

@@ -9,7 +9,7 @@ use Rattle.std.proofs.Math.Numerals.{add-one}
 use native.Mathlib.Omega.{arith}
 use Rattle.std.proofs.Math.Dec.{leb, eqb}
 use Rattle.std.proofs.Math.ListN.{get_elem?, length-set}
-use borrow.Author.Tests.{eqb-true, eqb-false, ne_eqb, leb-true, leb-false}
+use borrow.Author.Tests.{eqb-true, eqb-false, ne_eqb, leb-true, leb-false, le-leb, lt-leb}
 use Rattle.script.specs.Code.Forms.{tree_in}
 use Rattle.script.specs.Tests.Laws.{true_or_false}
 use Rattle.script.specs.Tree.{Expr}
@@ -56,6 +56,7 @@ pub record Upto (e : Expr) (depth at : ℕ) (ws : List ℕ) (k count : ℕ) (lef
   pub is : names_from e at k count (depth - k) left ≡ names_to e depth at ws
   pub naming : Naming e at ws k count left
   pub within : base_in ws ≤ depth → k ≤ depth
+  pub bounded : k ≤ depth + base_in ws
 
 module _ (e : Expr) (depth at : ℕ) (ws : List ℕ) where
   module _ (n : Nameable ws depth at) (k count : ℕ) (left : List ℕ) (u : Upto e depth at ws k count left) (low : k < depth) where
@@ -79,6 +80,7 @@ module _ (e : Expr) (depth at : ℕ) (ws : List ℕ) where
             all = λ v l h m. go v m (eq-or-lt_of_le {n = v} {m = k} (omega arith)) (s.all v l);
           };
           within = λ h. omega arith;
+          bounded = omega arith;
         }
       where
         go : (v : ℕ) → mentions e v ≡ true → (v ≡ k) ⊎ (v < k) → (v < k → mentions e v ≡ true → (i : ℕ) × (i < count) × (name_in left at i ≡ v))
@@ -141,6 +143,7 @@ module _ (e : Expr) (depth at : ℕ) (ws : List ℕ) where
               all = λ v b h m. more-all v b m (eq-or-lt_of_le {n = v} {m = k} (omega arith));
             };
             within = λ h. omega arith;
+            bounded = omega arith;
           }
 
       pub upto_more : mentions e k ≡ true → {xs : List ℕ} {m : ℕ} → xs ≡ more → m ≡ count + 1 → Upto e depth at ws (k + 1) m xs

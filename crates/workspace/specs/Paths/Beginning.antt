@@ -2,7 +2,7 @@
 use Rattle.std.proofs.Math.Bool.{true}
 use Rattle.std.specs.Prelude.{List, [], ◌∷◌, ◌++◌, ◌≡◌, refl, ℕ, suc, ◌+◌, ◌*◌, ◌≤◌, ◌<◌, length, get_or, set}
 use Rattle.std.proofs.Math.Path.{sym}
-use Rattle.std.proofs.Common.{ap, ◌∙◌, arith, length-set, get_or-set_same, get_or-set_other}
+use Rattle.std.proofs.Common.{ap, ◌∙◌, add-one, arith, length-set, get_or-set_same, get_or-set_other}
 use Rattle.rules.specs.Paths.{start}
 use Rattle.rules.proofs.Satisfiable.Laws.{true-satisfiable}
 use Rattle.rules.specs.Symbolic.{initial, Symbolic, symbol, symbols}
@@ -13,7 +13,7 @@ use Rattle.workspace.specs.Notes.{Bare}
 use Rattle.workspace.specs.Paths.{Fresh, Blank, Starting}
 use Rattle.workspace.specs.Places.{base_at, condition_at, depth_at, known_at, next_at, note_at, space_size, start_at, writes_at}
 use Rattle.workspace.specs.Rules.{Started}
-use Rattle.workspace.specs.State.{types_on, Means, Variables, no_variable, one_more, no_write, PathIn}
+use Rattle.workspace.specs.State.{types_on, Means, Variables, no_variable, one_more, no_write, PathIn, Room}
 use Rattle.workspace.specs.State.Laws.{nothing_known, still_known, types-length, variables-kept, means-at, path-kept, path_rewound, distinct-same, same-grown}
 
 -- one variable more is one symbol more

@@ -1,5 +1,5 @@
 -- The decision at an `if`: each answer of the code is the branch that the rules take. Assumes nothing.
-use Rattle.std.specs.Prelude.{Bool, true, false, List, ◌≡◌, refl, ℕ, ◌<◌, leb, length, Ok, Err}
+use Rattle.std.specs.Prelude.{Bool, true, false, List, ◌≡◌, refl, ℕ, ◌≤◌, ◌<◌, leb, length, Ok, Err}
 use Rattle.std.proofs.Common.{sym, ap, ◌∙◌, arith}
 use Rattle.script.specs.Tests.{pick}
 use Rattle.script.specs.declared.Refusal.TheVariants.{WrongType, TooManyAtoms}
@@ -8,17 +8,19 @@ use Rattle.rules.specs.Satisfiable.{satisfiable, different_atoms}
 use Rattle.rules.proofs.Satisfiable.Laws.{one_branch}
 use Rattle.rules.specs.Symbolic.{Formula, negation, conjunction, Symbolic, a_truth}
 use Rattle.rules.specs.SymbolicRules.{branches, decide, atom_limit}
-use Rattle.terms.specs.Terms.{count_in, TruthRow, of_conjunction, of_exclusion}
+use Rattle.terms.specs.Terms.{count_in, Space, TruthRow, of_conjunction, of_exclusion}
 use Rattle.rows.specs.Decision.{branches_of, decision_of}
 use Rattle.rows.specs.declared.Decision.{Decision}
 use Rattle.rows.specs.declared.Decision.TheVariants.{TooMany, Both, OnlyTrue, OnlyFalse}
-use Rattle.rows.specs.Promise.{Asked, Decides}
+use Rattle.rows.specs.Known.{remembers-sound}
+use Rattle.rows.specs.Promise.{Asked, Decides, Decidable as DecidableRows}
 use Rattle.workspace.specs.Answers.{Choice}
 use Rattle.workspace.specs.Paths.{assumed, Learns}
-use Rattle.workspace.specs.Paths.Conditions.{ruled-refl, assumed-ruled, assumed_with, assumed-without}
-use Rattle.workspace.specs.Places.{known_at}
-use Rattle.workspace.specs.Rules.{with_guard, without_guard, Chosen, first, second, both, neither, Chooses}
+use Rattle.workspace.specs.Paths.Conditions.{ruled-refl, learnt_room, assumed-ruled, assumed_with, assumed-without}
+use Rattle.workspace.specs.Places.{known_at, space_size}
+use Rattle.workspace.specs.Rules.{Decidable, with_guard, without_guard, Chosen, first, second, both, neither, Chooses}
 use Rattle.workspace.specs.State.{condition_in, Means, word_row, truth_row, reference_place, PathIn, Room}
+use Rattle.workspace.specs.State.Laws.{room-space}
 use Rattle.workspace.specs.declared.Branch.{Branch}
 use Rattle.workspace.specs.declared.Branch.TheVariants.{First, Second}
 

@@ -1,5 +1,5 @@
 -- A typed block on a path, as the notes answer it, or else the typed rules, whose answer is then noted. Assumes nothing.
-use Rattle.std.specs.Prelude.{List, ◌≡◌, refl, ℕ, ◌≤◌, Some, Ok}
+use Rattle.std.specs.Prelude.{List, ◌≡◌, refl, ℕ, ◌≤◌, length, Some, Ok}
 use Rattle.std.proofs.Common.{sym, ◌∙◌, arith}
 use Rattle.script.specs.Code.Forms.{tree_in}
 use Rattle.script.specs.Answers.Named.{Checked}
@@ -9,7 +9,7 @@ use Rattle.workspace.specs.Answers.{Known}
 use Rattle.workspace.specs.Notes.{Recallables, recalled_on, Kept, Noted, Noting, Blocked}
 use Rattle.workspace.specs.Notes.Keeping.{still_holding}
 use Rattle.workspace.specs.Notes.Recalling.{kept_recallables, recalled-right}
-use Rattle.workspace.specs.Places.{base_at}
+use Rattle.workspace.specs.Places.{base_at, space_size}
 use Rattle.workspace.specs.Rules.{Checkable, Judged}
 use Rattle.workspace.specs.State.{types_on}
 use Rattle.workspace.specs.State.Laws.{types-kept}

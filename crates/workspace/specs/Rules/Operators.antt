@@ -20,8 +20,8 @@ use Rattle.terms.specs.Atoms.Made.{made-references}
 use Rattle.terms.specs.References.{reference_at}
 use Rattle.terms.specs.Terms.{count_in, Space, pushed, Distinct, Added, Made, MadeWord, of_conjunction, of_constant, of_equality, of_negation, of_number, of_sum}
 use Rattle.terms.specs.Terms.Laws.{pushed-length, pushed-added, made-number, made_sum, made-constant, made-negation, made-conjunction, made-equality}
-use Rattle.words.specs.Words.{equal_row, equal_left}
-use Rattle.words.specs.Words.Laws.{equal-length}
+use Rattle.words.specs.Words.{Words, equal_row, equal_left}
+use Rattle.words.specs.Words.Laws.{equal-length, words-asked}
 use Rattle.words.specs.Words.Made.{made-equal}
 use Rattle.workspace.specs.Answers.{Step}
 use Rattle.workspace.specs.Numbers.{Outcome, gives, leaf_gives, unary_gives, one_gives, equal_place, equal_numbers, both_of, binary_gives, two_gives}
