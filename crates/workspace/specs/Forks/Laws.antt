@@ -16,6 +16,12 @@ lowest a b l = omega arith
 upper : (a b : ℕ) → a < small → (a + small * b) / small ≡ b
 upper a b l = omega arith
 
+lower_row : (a b : ℕ) → a < many_rows → (a + many_rows * b) % many_rows ≡ a
+lower_row a b l = omega arith
+
+upper-row : (a b : ℕ) → a < many_rows → (a + many_rows * b) / many_rows ≡ b
+upper-row a b l = omega arith
+
 -- ---- keeping a fork
 
 -- its two numbers and the count of the forks, one store after the other
@@ -49,6 +55,31 @@ module _ (ws fs : List ℕ) (can : Forkable ws fs) where
       get_or-set_other x2 forked_at (fork_at (forked_in fs) + 1) (forked_in fs + 1) 0 (λ e. omega arith)
       ∙ get_or-set_same x1 (fork_at (forked_in fs) + 1) second 0 (simp length-set (omega (arith, can.framed, can.few)))
 
+  pub kept_fork : Forks ws fs x3
+  kept_fork =
+      record {
+        same = simp length-set;
+        forked = get_or-set_same x2 forked_at (forked_in fs + 1) 0 (simp length-set (omega (arith, can.framed))) ∙ omega arith;
+        slot = record {
+          next = rw first-is (lowest (next_in ws) _ can.next);
+          count = rw (first-is, upper (next_in ws) (count_in ws + many_rows * condition_in ws) can.next) (lower_row (count_in ws) _ can.count);
+          condition = rw (first-is, upper (next_in ws) (count_in ws + many_rows * condition_in ws) can.next) (upper-row (count_in ws) _ can.count);
+          frame = rw second_is (lowest (frame_in fs) _ can.frame);
+          writes = rw (second_is, upper (frame_in fs) later can.frame) (lowest (writes_in ws) _ can.writes);
+          start = rw (second_is, upper (frame_in fs) later can.frame, upper (writes_in ws) (start_in ws + small * depth_in ws) can.writes)
+              (lowest (start_in ws) _ can.start);
+          depth = rw (second_is, upper (frame_in fs) later can.frame, upper (writes_in ws) (start_in ws + small * depth_in ws) can.writes)
+              (upper (start_in ws) _ can.start);
+        };
+        others = λ k n l.
+            get_or-set_other x2 forked_at k (forked_in fs + 1) 0 n ∙ get_or-set_other x1 (fork_at (forked_in fs) + 1) k second 0 (λ e. omega arith)
+            ∙ get_or-set_other fs (fork_at (forked_in fs)) k first 0 (λ e. omega arith);
+        behind = λ k l.
+            get_or-set_other x2 forked_at k (forked_in fs + 1) 0 (λ e. omega arith)
+            ∙ get_or-set_other x1 (fork_at (forked_in fs) + 1) k second 0 (λ e. omega arith)
+            ∙ get_or-set_other fs (fork_at (forked_in fs)) k first 0 (λ e. omega arith);
+      }
+
 -- ---- going back to a fork
 
 -- seven numbers in the workspace, in the order of their places, and the first three of the frames
@@ -74,6 +105,24 @@ module _ (ws fs : List ℕ) (lent : space_size ≤ length ws) (framed : frames_s
   abbrev y7 : List ℕ
   y7 = set y6 known_at 0
 
+  below6 : (k : ℕ) → k < known_at → get_or y7 k 0 ≡ get_or y6 k 0
+  below6 k l = get_or-set_other y6 known_at k 0 0 λ e. omega arith
+
+  below5 : (k : ℕ) → k < depth_at → get_or y7 k 0 ≡ get_or y5 k 0
+  below5 k l = below6 k (omega arith) ∙ get_or-set_other y5 depth_at k (saved_depth fs j) 0 λ e. omega arith
+
+  below4 : (k : ℕ) → k < start_at → get_or y7 k 0 ≡ get_or y4 k 0
+  below4 k l = below5 k (omega arith) ∙ get_or-set_other y4 start_at k (saved_start fs j) 0 λ e. omega arith
+
+  below3 : (k : ℕ) → k < writes_at → get_or y7 k 0 ≡ get_or y3 k 0
+  below3 k l = below4 k (omega arith) ∙ get_or-set_other y3 writes_at k (saved_writes fs j) 0 λ e. omega arith
+
+  below2 : (k : ℕ) → k < condition_at → get_or y7 k 0 ≡ get_or y2 k 0
+  below2 k l = below3 k (omega arith) ∙ get_or-set_other y2 condition_at k (saved_condition fs j) 0 λ e. omega arith
+
+  below1 : (k : ℕ) → k < rows_end → get_or y7 k 0 ≡ get_or y1 k 0
+  below1 k l = below2 k (omega arith) ∙ get_or-set_other y1 next_at k (saved_next fs j) 0 λ e. omega arith
+
   above : (k : ℕ) → log_at ≤ k → (k ≡ known_at → ⊥) → get_or y7 k 0 ≡ get_or ws k 0
   above k l n =
       get_or-set_other y6 known_at k 0 0 n
@@ -83,3 +132,44 @@ module _ (ws fs : List ℕ) (lent : space_size ≤ length ws) (framed : frames_s
       ∙ get_or-set_other y2 condition_at k (saved_condition fs j) 0 (λ e. omega arith)
       ∙ get_or-set_other y1 next_at k (saved_next fs j) 0 (λ e. omega arith)
       ∙ get_or-set_other ws count_at k (saved_count fs j) 0 (λ e. omega arith)
+
+  abbrev z1 : List ℕ
+  z1 = set fs goal_at (saved_frame fs j)
+
+  abbrev z2 : List ℕ
+  z2 = set z1 top_at (saved_frame fs j)
+
+  abbrev z3 : List ℕ
+  z3 = set z2 forked_at j
+
+  pub gone_back : Rewound j ws fs y7 z3
+  gone_back =
+      record {
+        same = simp length-set;
+        framed = simp length-set;
+        count = below1 count_at (omega arith) ∙ get_or-set_same ws count_at (saved_count fs j) 0 (omega arith);
+        next = below2 next_at (omega arith) ∙ get_or-set_same y1 next_at (saved_next fs j) 0 (simp length-set (omega arith));
+        condition = below3 condition_at (omega arith) ∙ get_or-set_same y2 condition_at (saved_condition fs j) 0 (simp length-set (omega arith));
+        writes = below4 writes_at (omega arith) ∙ get_or-set_same y3 writes_at (saved_writes fs j) 0 (simp length-set (omega arith));
+        start = below5 start_at (omega arith) ∙ get_or-set_same y4 start_at (saved_start fs j) 0 (simp length-set (omega arith));
+        depth = below6 depth_at (omega arith) ∙ get_or-set_same y5 depth_at (saved_depth fs j) 0 (simp length-set (omega arith));
+        before = λ k l n. below1 k l ∙ get_or-set_other ws count_at k (saved_count fs j) 0 n;
+        beyond = above;
+        known = get_or-set_same y6 known_at 0 0 (simp length-set (omega arith));
+        frame = get_or-set_other z2 forked_at goal_at j 0 (λ e. omega arith) ∙ get_or-set_other z1 top_at goal_at (saved_frame fs j) 0 (λ e. omega arith)
+            ∙ get_or-set_same fs goal_at (saved_frame fs j) 0 (omega arith);
+        top = get_or-set_other z2 forked_at top_at j 0 (λ e. omega arith) ∙ get_or-set_same z1 top_at (saved_frame fs j) 0 (simp length-set (omega arith));
+        forked = get_or-set_same z2 forked_at j 0 (simp length-set (omega arith));
+        others = λ k l. get_or-set_other z2 forked_at k j 0 (λ e. omega arith) ∙ get_or-set_other z1 top_at k (saved_frame fs j) 0 (λ e. omega arith)
+            ∙ get_or-set_other fs goal_at k (saved_frame fs j) 0 λ e. omega arith;
+      }
+
+-- ---- a variable that a frame has
+
+module _ {fs ws : List ℕ} {f d : ℕ} where
+  pub restored_body : 1 ≤ d → awaits_of fs f ≡ for_body
+      → RestoredOne fs f d ws (d - 1) (set (set ws (2 * (d - 1)) (first_of fs f)) (2 * (d - 1) + 1) (second_of fs f))
+  restored_body l e = record { body = λ _. (omega arith, refl); other = λ n. absurd (n e) }
+
+  pub restored_other : (awaits_of fs f ≡ for_body → ⊥) → RestoredOne fs f d ws d ws
+  restored_other n = record { body = λ e. absurd (n e); other = λ _. (refl, refl) }

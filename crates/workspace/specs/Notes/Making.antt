@@ -59,6 +59,22 @@ pub record Upto (e : Expr) (depth at : ℕ) (ws : List ℕ) (k count : ℕ) (lef
   pub bounded : k ≤ depth + base_in ws
 
 module _ (e : Expr) (depth at : ℕ) (ws : List ℕ) where
+  pub upto_start : Upto e depth at ws (base_in ws) 0 ws
+  upto_start =
+      record {
+        is = refl;
+        naming = record {
+          same = refl;
+          others = λ j h. refl;
+          few = omega arith;
+          inside = λ i l. absurd (omega arith);
+          types = λ i l. absurd (omega arith);
+          all = λ v l h m. absurd (omega arith);
+        };
+        within = λ h. h;
+        bounded = omega arith;
+      }
+
   module _ (n : Nameable ws depth at) (k count : ℕ) (left : List ℕ) (u : Upto e depth at ws k count left) (low : k < depth) where
     -- what is left at k
     left_on : depth - k ≡ suc (depth - (k + 1))
@@ -283,6 +299,9 @@ module _ (ws : List ℕ) (depth turn : ℕ) (its : turn ≡ get_or ws turn_at 0 
 
   cleared_length : length cleared ≡ length ws
   cleared_length = simp length-set
+
+  pub cleared_nameable : Nameable cleared depth (note_at turn)
+  cleared_nameable = record { lent = omega (arith, lent, cleared_length); small = small; low = omega arith; high = omega arith }
 
   module _ (table : List ℕ) (a t : ℕ) {r : Count} {middle : List ℕ} (n : Names (tree_in table a) depth (note_at turn) cleared r middle) where
     middle_other : (k : ℕ) → (note_at turn ≤ k → k < note_at turn + note_width → ⊥) → get_or middle k 0 ≡ get_or ws k 0

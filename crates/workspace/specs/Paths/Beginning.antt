@@ -81,6 +81,15 @@ module _ {ws : List ℕ} (b : Blank ws) where
 -- ---- a variable more
 
 module _ {types ws : List ℕ} {i : ℕ} (l : i < symbol_limit) (s : Starting types ws i) where
+  pub starting_room : Room ws 1
+  starting_room =
+      record {
+        lent = s.lent;
+        rows = omega (arith, s.rows);
+        symbols = omega (arith, s.next);
+        writes = omega (arith, s.writes);
+      }
+
   module _ {q : ℕ} {xs : List ℕ} (f : Fresh initial (get_or types (2 * i) 0) ws q xs) where
     fresh-lent : space_size ≤ length xs
     fresh-lent = omega (arith, f.ruled.went.same, s.lent)
@@ -145,6 +154,9 @@ module _ {types ws : List ℕ} {i : ℕ} (l : i < symbol_limit) (s : Starting ty
         }
 
 -- ---- the loop
+
+pub starting_on : {types ws : List ℕ} (i : ℕ) → Starting types ws (suc i) → Starting types ws (i + 1)
+starting_on i s = rw (add-one i) s
 
 -- ---- all variables
 

@@ -97,6 +97,9 @@ no_truth d (reference_place x) = neither λ e f. refl
 pub chooses_no_truth : (n t q : ℕ) (ws : List ℕ) → (t ≡ 1 → ⊥) → Chooses n t q ws (Err (WrongType n)) ws
 chooses_no_truth n t q ws d = record { ruled = ruled-refl ws; chosen = λ v p m h. no_truth d m }
 
+below_row : {ws : List ℕ} {q : ℕ} {v : Symbolic} → Means ws 1 q v → q < count_in ws
+below_row (truth_row l r) = l
+
 -- the rows of the path's condition and of the guard
 asked : {ws : List ℕ} {q : ℕ} {g : Formula} {p : Path} → Room ws 1 → TruthRow ws q g → q < count_in ws → PathIn ws p
     → Asked ws (condition_in ws) q p.condition g
@@ -139,6 +142,13 @@ module _ {q : ℕ} {ws xs : List ℕ} {D : Decision} (room : Room ws 1) (d : Dec
   pub chooses_both : (n t : ℕ) → t ≡ 1 → D ≡ Both → Chooses n t q ws (Ok Branch.Both) xs
   chooses_both n t x is = rw (d.both is) (record { ruled = ruled-refl ws; chosen = λ v p m h. two_ways n is v p (rw x at m) h })
 
+  -- a workspace with room for a row, as before
+  pub decided-space : Space xs 1
+  decided-space = room-space (learnt_room room learns)
+
+  pub decided-lent : space_size ≤ length xs
+  decided-lent = (learnt_room room learns).lent
+
   -- what is known then is the condition's with the guard, or without it
   only-true : (n : ℕ) → D ≡ OnlyTrue → (v : Symbolic) (p : Path) → Means ws 1 q v → PathIn ws p → Chosen ws (assumed xs of_conjunction q) n v p (Ok First)
   only-true n is v p (truth_row {f = g} l u) h =
@@ -162,3 +172,15 @@ module _ {q : ℕ} {ws xs : List ℕ} {D : Decision} (room : Room ws 1) (d : Dec
 
 pub chooses_as : {n t q : ℕ} {ws left xs : List ℕ} {r : Choice} → left ≡ xs → Chooses n t q ws r xs → Chooses n t q ws r left
 chooses_as e k = rw e k
+
+-- what the decision asks
+pub decide-needs : (ws : List ℕ) (t q : ℕ) → t ≡ 1 → Decidable ws t q → DecidableRows ws known_at (condition_in ws) q
+decide-needs ws t q e d =
+    let m = below_row (rw e at d.valued.means) in
+    record {
+      behind = omega arith;
+      lent = omega (arith, d.room.lent);
+      sound = remembers-sound (omega (arith, d.room.rows)) d.holds.remembers;
+      low = omega (arith, d.holds.inside, d.room.rows);
+      high = omega (arith, m, d.room.rows);
+    }

@@ -39,6 +39,9 @@ module _ {limit : ℕ} {table ws : List ℕ} {depth a : ℕ} (q : Checkable tabl
     judged_kept : Kept limit table left
     judged_kept = (still_holding n j.aside.before (record { each = λ k l h. j.aside.beyond k (omega arith) })).kept
 
+    pub judged_lent : space_size ≤ length left
+    judged_lent = omega (arith, n.lent, j.aside.same)
+
     pub block_judged : {c : Checked} → r ≡ c → Blocked limit table (check limit (tree_in table a) (types_on ws depth)) depth ws c left
     block_judged e =
         record {

@@ -262,6 +262,9 @@ module _ (n t : ℕ) {ws : List ℕ} {b : Bool} (e : b ≡ consistent_in ws) whe
           log = λ k l h. emptied-other k λ z. omega arith;
         }
 
+    pub emptied-room : Room (emptied ws) 1
+    emptied-room = room_on x emptied-went
+
     pub block_made : b ≡ true → {i : ℕ} {left : List ℕ} → Fresh other t (emptied ws) i left → After n t ws (Ok (t, i)) left
     unfolding typed_result
     block_made z y =

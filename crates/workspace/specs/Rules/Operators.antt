@@ -228,6 +228,9 @@ equal-place zero q s ws l = absurd (omega arith)
 equal-place (suc zero) q s ws l = absurd (omega arith)
 equal-place (suc (suc t)) q s ws l = (refl, refl)
 
+word-inside : {ws : List ℕ} {q : ℕ} {v : Symbolic} → Means ws 0 q v → q < count_in ws
+word-inside (word_row l f) = l
+
 module _ (n t q u s : ℕ) {ws : List ℕ} where
   sum_wrong : (t ≡ 0 → u ≡ 0 → ⊥) → Two (binary_form add_op) n t q u s ws (Err (WrongType n)) ws
   unfolding two_exec two_gives binary_gives
@@ -276,6 +279,10 @@ module _ (n t q u s : ℕ) {ws : List ℕ} where
   pub both_conjunction : {left : List ℕ} {r : Step} → Room ws 1 → OfBoth 1 of_conjunction n t q u s ws r left → Two (binary_form and_op) n t q u s ws r left
   both_conjunction x (both-wrong d) = conjunction-wrong d
   both_conjunction x (both-made a b er e) = conjunction-made x a b er e
+
+  pub words_required : Operable ws t q u s → t ≡ 0 → t ≡ u → Words ws q s
+  words_required x a b =
+      words-asked (room-space x.room) (word-inside (rw a at x.first.means)) (word-inside (rw (sym b ∙ a) at x.second.means))
 
   module _ {left : List ℕ} {r : ℕ} (x : Operable ws t q u s) where
     pub words-equal : t ≡ 0 → t ≡ u → r ≡ equal_row ws q s → left ≡ equal_left ws q s → Two (binary_form eq_op) n t q u s ws (Ok (1, r)) left
