@@ -232,11 +232,11 @@ word-inside : {ws : List ℕ} {q : ℕ} {v : Symbolic} → Means ws 0 q v → q 
 word-inside (word_row l f) = l
 
 module _ (n t q u s : ℕ) {ws : List ℕ} where
-  sum_wrong : (t ≡ 0 → u ≡ 0 → ⊥) → Two (binary_form add_op) n t q u s ws (Err (WrongType n)) ws
+  pub sum_wrong : (t ≡ 0 → u ≡ 0 → ⊥) → Two (binary_form add_op) n t q u s ws (Err (WrongType n)) ws
   unfolding two_exec two_gives binary_gives
   sum_wrong d = record { ruled = ruled-refl ws; yields = λ v w p m k h. no_word n p d m k; exactly = sym (not-both 0 n t u ws _ d) }
 
-  conjunction-wrong : (t ≡ 1 → u ≡ 1 → ⊥) → Two (binary_form and_op) n t q u s ws (Err (WrongType n)) ws
+  pub conjunction-wrong : (t ≡ 1 → u ≡ 1 → ⊥) → Two (binary_form and_op) n t q u s ws (Err (WrongType n)) ws
   unfolding two_exec two_gives binary_gives
   conjunction-wrong d = record { ruled = ruled-refl ws; yields = λ v w p m k h. no_truth n p d m k; exactly = sym (not-both 1 n t u ws _ d) }
 
@@ -245,7 +245,7 @@ module _ (n t q u s : ℕ) {ws : List ℕ} where
   equality-wrong d = record { ruled = ruled-refl ws; yields = λ v w p m k h. other-types n p d m k; exactly = rw (ne_eqb t u d) refl }
 
   module _ {left : List ℕ} {r : ℕ} (x : Room ws 1) where
-    sum_made : t ≡ 0 → u ≡ 0 → r ≡ count_in ws → left ≡ pushed ws of_sum q s → Two (binary_form add_op) n t q u s ws (Ok (0, r)) left
+    pub sum_made : t ≡ 0 → u ≡ 0 → r ≡ count_in ws → left ≡ pushed ws of_sum q s → Two (binary_form add_op) n t q u s ws (Ok (0, r)) left
     unfolding two_exec two_gives binary_gives
     sum_made a b er e =
         record {
@@ -254,7 +254,7 @@ module _ (n t q u s : ℕ) {ws : List ℕ} where
           exactly = rw (eq-eqb t 0 a, eq-eqb u 0 b, er, e) refl;
         }
 
-    conjunction-made : t ≡ 1 → u ≡ 1 → r ≡ count_in ws → left ≡ pushed ws of_conjunction q s → Two (binary_form and_op) n t q u s ws (Ok (1, r)) left
+    pub conjunction-made : t ≡ 1 → u ≡ 1 → r ≡ count_in ws → left ≡ pushed ws of_conjunction q s → Two (binary_form and_op) n t q u s ws (Ok (1, r)) left
     unfolding two_exec two_gives binary_gives
     conjunction-made a b er e =
         record {
