@@ -1,4 +1,5 @@
 -- The forks of a path as the code keeps them, two numbers each behind the frames, and what going back to one leaves. Assumes nothing.
+pub mod Laws
 use Rattle.std.specs.Prelude.{List, ◌≡◌, ℕ, suc, ◌+◌, ◌*◌, ◌-◌, ◌/◌, ◌%◌, ◌≤◌, ◌<◌, length, get_or, set}
 use Rattle.terms.specs.Places.{count_at, rows_end}
 use Rattle.terms.specs.Terms.{count_in}

@@ -1,13 +1,14 @@
 -- The loops over the log: what a turn leaves of the whole. Assumes nothing.
-use Rattle.std.specs.Prelude.{true, false, ◌&&◌, ◌||◌, List, ◌≡◌, eqb, get_or, Some, None}
+use Rattle.std.specs.Prelude.{true, false, ◌&&◌, ◌||◌, List, ◌≡◌, leb, eqb, get_or, Some, None}
 use Rattle.std.proofs.Math.Path.{refl, sym}
-use Rattle.std.proofs.Common.{ap, ◌∙◌, add-one, eq-eqb, ne_eqb}
+use Rattle.std.proofs.Common.{ap, ◌∙◌, add-one, le-leb, eq-eqb, ne_eqb}
 use Prim.Native.Nat.{ℕ, suc, ◌+◌, ◌-◌, ◌≤◌, ◌<◌}
 use native.Mathlib.Omega.{arith}
+use Rattle.std.proofs.lemmas.Bool.{lt-leb}
 use Rattle.script.specs.Tests.{pick}
 use Rattle.terms.specs.References.{apart_at, symbol_at}
 use Rattle.workspace.specs.Answers.{Found}
-use Rattle.workspace.specs.Log.{mends_on, mended_on, settled_on, consistent_on, lookup_at, lookup_on}
+use Rattle.workspace.specs.Log.{right_on, mends_on, mended_on, settled_on, consistent_on, lookup_at, lookup_on}
 use Rattle.workspace.specs.Places.{write_at}
 
 -- ---- a later write that mends
@@ -20,6 +21,9 @@ module _ (ws : List ℕ) (s i count : ℕ) where
   mending_by : (j : ℕ) → j < count → mended_on ws s j (count - j) ≡ (mends_on ws s j || mended_on ws s (suc j) (count - suc j))
   unfolding mended_on
   mending_by j l = let e : count - j ≡ suc (count - suc j) = omega arith in rw e refl
+
+  pub mending_start : i < count → Mending ws s i count (i + 1)
+  mending_start l = rw (add-one i) (record { within = omega arith; rest = refl })
 
   pub mending_found : (j : ℕ) → Mending ws s i count j → j < count → mends_on ws s j ≡ true → true ≡ mended_on ws s (suc i) (count - suc i)
   mending_found j m l e = sym (m.rest ∙ mending_by j l ∙ rw e refl)
@@ -56,6 +60,9 @@ module _ (ws : List ℕ) (begin count : ℕ) where
   settling_by i j e b l =
       let k : suc (count - suc j) ≡ count - j = omega arith in
       rw e (consistent-some ws begin (count - suc j) j (omega arith) ∙ rw k refl)
+
+  pub settling_start : Settling ws begin count count
+  settling_start = let e : count - count ≡ 0 = omega arith in record { within = omega arith; rest = rw e refl }
 
   pub settling_wrong : (i j : ℕ) → i ≡ suc j → begin < i → Settling ws begin count i → settled_on ws j (count - suc j) ≡ false
       → false ≡ consistent_on ws begin 0 (count - begin)
@@ -96,6 +103,9 @@ module _ (ws : List ℕ) (begin q count : ℕ) where
       ≡ pick (apart_at (through_on j) q) (lookup_on ws begin q (j - begin)) (pick (eqb (symbol_at (through_on j)) (symbol_at q)) (value_on j) None)
   looking-by i j e b = rw e (lookup-some ws begin q j (omega arith))
 
+  pub looking-start : Looking ws begin q count count
+  looking-start = record { within = omega arith; rest = refl }
+
   pub looking-found : (i j : ℕ) → i ≡ suc j → begin < i → Looking ws begin q count i → apart_at (through_on j) q ≡ false → symbol_at (through_on j) ≡ symbol_at q
       → value_on j ≡ lookup_on ws begin q (count - begin)
   looking-found i j e b m f t = sym (m.rest ∙ looking-by i j e b ∙ rw (f, eq-eqb (symbol_at (through_on j)) (symbol_at q) t) refl)
@@ -111,3 +121,9 @@ module _ (ws : List ℕ) (begin q count : ℕ) where
   looking_end i l m = sym (m.rest ∙ lookup-none ws begin q i l)
 
 -- ---- tests of a write
+
+pub right-typed : (ws : List ℕ) (i : ℕ) → 2 ≤ get_or ws (write_at i) 0 → eqb (get_or ws (write_at i) 0 - 2) (get_or ws (write_at i + 2) 0) ≡ right_on ws i
+right-typed ws i l = rw (le-leb 2 (get_or ws (write_at i) 0) l) refl
+
+pub right_untyped : (ws : List ℕ) (i : ℕ) → get_or ws (write_at i) 0 < 2 → leb 2 (get_or ws (write_at i) 0) ≡ right_on ws i
+right_untyped ws i l = rw (lt-leb 2 (get_or ws (write_at i) 0) l) refl

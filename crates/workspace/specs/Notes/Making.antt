@@ -56,8 +56,25 @@ pub record Upto (e : Expr) (depth at : ℕ) (ws : List ℕ) (k count : ℕ) (lef
   pub is : names_from e at k count (depth - k) left ≡ names_to e depth at ws
   pub naming : Naming e at ws k count left
   pub within : base_in ws ≤ depth → k ≤ depth
+  pub bounded : k ≤ depth + base_in ws
 
 module _ (e : Expr) (depth at : ℕ) (ws : List ℕ) where
+  pub upto_start : Upto e depth at ws (base_in ws) 0 ws
+  upto_start =
+      record {
+        is = refl;
+        naming = record {
+          same = refl;
+          others = λ j h. refl;
+          few = omega arith;
+          inside = λ i l. absurd (omega arith);
+          types = λ i l. absurd (omega arith);
+          all = λ v l h m. absurd (omega arith);
+        };
+        within = λ h. h;
+        bounded = omega arith;
+      }
+
   module _ (n : Nameable ws depth at) (k count : ℕ) (left : List ℕ) (u : Upto e depth at ws k count left) (low : k < depth) where
     -- what is left at k
     left_on : depth - k ≡ suc (depth - (k + 1))
@@ -79,6 +96,7 @@ module _ (e : Expr) (depth at : ℕ) (ws : List ℕ) where
             all = λ v l h m. go v m (eq-or-lt_of_le {n = v} {m = k} (omega arith)) (s.all v l);
           };
           within = λ h. omega arith;
+          bounded = omega arith;
         }
       where
         go : (v : ℕ) → mentions e v ≡ true → (v ≡ k) ⊎ (v < k) → (v < k → mentions e v ≡ true → (i : ℕ) × (i < count) × (name_in left at i ≡ v))
@@ -141,6 +159,7 @@ module _ (e : Expr) (depth at : ℕ) (ws : List ℕ) where
               all = λ v b h m. more-all v b m (eq-or-lt_of_le {n = v} {m = k} (omega arith));
             };
             within = λ h. omega arith;
+            bounded = omega arith;
           }
 
       pub upto_more : mentions e k ≡ true → {xs : List ℕ} {m : ℕ} → xs ≡ more → m ≡ count + 1 → Upto e depth at ws (k + 1) m xs
@@ -280,6 +299,9 @@ module _ (ws : List ℕ) (depth turn : ℕ) (its : turn ≡ get_or ws turn_at 0 
 
   cleared_length : length cleared ≡ length ws
   cleared_length = simp length-set
+
+  pub cleared_nameable : Nameable cleared depth (note_at turn)
+  cleared_nameable = record { lent = omega (arith, lent, cleared_length); small = small; low = omega arith; high = omega arith }
 
   module _ (table : List ℕ) (a t : ℕ) {r : Count} {middle : List ℕ} (n : Names (tree_in table a) depth (note_at turn) cleared r middle) where
     middle_other : (k : ℕ) → (note_at turn ≤ k → k < note_at turn + note_width → ⊥) → get_or middle k 0 ≡ get_or ws k 0

@@ -31,6 +31,9 @@ module _ (ws : List ℕ) (at : ℕ) where
   unfolding agrees_from
   agreeing_by i l = let e : names_in ws at - i ≡ suc (names_in ws at - suc i) = omega arith in rw e refl
 
+  pub agreeing_start : Agreeing ws at 0
+  agreeing_start = let e : names_in ws at - 0 ≡ names_in ws at = omega arith in record { within = omega arith; rest = rw e refl }
+
   module _ (i : ℕ) (m : Agreeing ws at i) where
     pub agreeing_wrong : i < names_in ws at → (get_or ws (2 * name_in ws at i) 0 ≡ named_type ws at i → ⊥) → false ≡ agrees_on ws at
     agreeing_wrong l d = sym (m.rest ∙ agreeing_by i l ∙ rw (ne_eqb (get_or ws (2 * name_in ws at i) 0) (named_type ws at i) d) refl)
@@ -44,6 +47,18 @@ module _ (ws : List ℕ) (at : ℕ) where
     unfolding agrees_from
     agreeing_end l = let e : names_in ws at - i ≡ 0 = omega arith in sym (m.rest ∙ rw e refl)
 
+-- ---- the tests of a note
+
+module _ (ws : List ℕ) (at depth a : ℕ) where
+  pub other-operand : (operand_in ws at ≡ a → ⊥) → false ≡ is_of ws at depth a
+  other-operand d = rw (ne_eqb (operand_in ws at) a d) refl
+
+  pub other-depth : operand_in ws at ≡ a → (note_depth ws at ≡ depth + 1 → ⊥) → false ≡ is_of ws at depth a
+  other-depth e d = rw (eq-eqb (operand_in ws at) a e, ne_eqb (note_depth ws at) (depth + 1) d) refl
+
+  pub same_note : operand_in ws at ≡ a → note_depth ws at ≡ depth + 1 → agrees_on ws at ≡ is_of ws at depth a
+  same_note e d = rw (eq-eqb (operand_in ws at) a e, eq-eqb (note_depth ws at) (depth + 1) d) refl
+
 -- ---- the loop over the notes
 
 -- none of the first i notes is one of node a
@@ -56,6 +71,9 @@ module _ (ws : List ℕ) (depth a : ℕ) where
       ≡ pick (is_of ws (note_at i) depth a) (Some (type_in ws (note_at i))) (recalled_on ws depth a (suc i) (8 - suc i))
   unfolding recalled_on
   recalling-by i l = let e : 8 - i ≡ suc (8 - suc i) = omega arith in rw e refl
+
+  pub recalling-start : Recalling ws depth a 0
+  recalling-start = record { within = omega arith; rest = refl }
 
   module _ (i : ℕ) (m : Recalling ws depth a i) where
     pub recalling-found : i < note_limit → is_of ws (note_at i) depth a ≡ true → Some (type_in ws (note_at i)) ≡ recalled_on ws depth a 0 note_limit

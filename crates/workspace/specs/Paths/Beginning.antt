@@ -2,7 +2,7 @@
 use Rattle.std.proofs.Math.Bool.{true}
 use Rattle.std.specs.Prelude.{List, [], ◌∷◌, ◌++◌, ◌≡◌, refl, ℕ, suc, ◌+◌, ◌*◌, ◌≤◌, ◌<◌, length, get_or, set}
 use Rattle.std.proofs.Math.Path.{sym}
-use Rattle.std.proofs.Common.{ap, ◌∙◌, arith, length-set, get_or-set_same, get_or-set_other}
+use Rattle.std.proofs.Common.{ap, ◌∙◌, add-one, arith, length-set, get_or-set_same, get_or-set_other}
 use Rattle.rules.specs.Paths.{start}
 use Rattle.rules.proofs.Satisfiable.Laws.{true-satisfiable}
 use Rattle.rules.specs.Symbolic.{initial, Symbolic, symbol, symbols}
@@ -13,7 +13,7 @@ use Rattle.workspace.specs.Notes.{Bare}
 use Rattle.workspace.specs.Paths.{Fresh, Blank, Starting}
 use Rattle.workspace.specs.Places.{base_at, condition_at, depth_at, known_at, next_at, note_at, space_size, start_at, writes_at}
 use Rattle.workspace.specs.Rules.{Started}
-use Rattle.workspace.specs.State.{types_on, Means, Variables, no_variable, one_more, no_write, PathIn}
+use Rattle.workspace.specs.State.{types_on, Means, Variables, no_variable, one_more, no_write, PathIn, Room}
 use Rattle.workspace.specs.State.Laws.{nothing_known, still_known, types-length, variables-kept, means-at, path-kept, path_rewound, distinct-same, same-grown}
 
 -- one variable more is one symbol more
@@ -81,6 +81,15 @@ module _ {ws : List ℕ} (b : Blank ws) where
 -- ---- a variable more
 
 module _ {types ws : List ℕ} {i : ℕ} (l : i < symbol_limit) (s : Starting types ws i) where
+  pub starting_room : Room ws 1
+  starting_room =
+      record {
+        lent = s.lent;
+        rows = omega (arith, s.rows);
+        symbols = omega (arith, s.next);
+        writes = omega (arith, s.writes);
+      }
+
   module _ {q : ℕ} {xs : List ℕ} (f : Fresh initial (get_or types (2 * i) 0) ws q xs) where
     fresh-lent : space_size ≤ length xs
     fresh-lent = omega (arith, f.ruled.went.same, s.lent)
@@ -145,6 +154,9 @@ module _ {types ws : List ℕ} {i : ℕ} (l : i < symbol_limit) (s : Starting ty
         }
 
 -- ---- the loop
+
+pub starting_on : {types ws : List ℕ} (i : ℕ) → Starting types ws (suc i) → Starting types ws (i + 1)
+starting_on i s = rw (add-one i) s
 
 -- ---- all variables
 

@@ -1,5 +1,5 @@
 -- The decision at an `if`: each answer of the code is the branch that the rules take. Assumes nothing.
-use Rattle.std.specs.Prelude.{Bool, true, false, List, ◌≡◌, refl, ℕ, ◌<◌, leb, length, Ok, Err}
+use Rattle.std.specs.Prelude.{Bool, true, false, List, ◌≡◌, refl, ℕ, ◌≤◌, ◌<◌, leb, length, Ok, Err}
 use Rattle.std.proofs.Common.{sym, ap, ◌∙◌, arith}
 use Rattle.script.specs.Tests.{pick}
 use Rattle.script.specs.declared.Refusal.TheVariants.{WrongType, TooManyAtoms}
@@ -8,17 +8,19 @@ use Rattle.rules.specs.Satisfiable.{satisfiable, different_atoms}
 use Rattle.rules.proofs.Satisfiable.Laws.{one_branch}
 use Rattle.rules.specs.Symbolic.{Formula, negation, conjunction, Symbolic, a_truth}
 use Rattle.rules.specs.SymbolicRules.{branches, decide, atom_limit}
-use Rattle.terms.specs.Terms.{count_in, TruthRow, of_conjunction, of_exclusion}
+use Rattle.terms.specs.Terms.{count_in, Space, TruthRow, of_conjunction, of_exclusion}
 use Rattle.rows.specs.Decision.{branches_of, decision_of}
 use Rattle.rows.specs.declared.Decision.{Decision}
 use Rattle.rows.specs.declared.Decision.TheVariants.{TooMany, Both, OnlyTrue, OnlyFalse}
-use Rattle.rows.specs.Promise.{Asked, Decides}
+use Rattle.rows.specs.Known.{remembers-sound}
+use Rattle.rows.specs.Promise.{Asked, Decides, Decidable as DecidableRows}
 use Rattle.workspace.specs.Answers.{Choice}
 use Rattle.workspace.specs.Paths.{assumed, Learns}
-use Rattle.workspace.specs.Paths.Conditions.{ruled-refl, assumed-ruled, assumed_with, assumed-without}
-use Rattle.workspace.specs.Places.{known_at}
-use Rattle.workspace.specs.Rules.{with_guard, without_guard, Chosen, first, second, both, neither, Chooses}
+use Rattle.workspace.specs.Paths.Conditions.{ruled-refl, learnt_room, assumed-ruled, assumed_with, assumed-without}
+use Rattle.workspace.specs.Places.{known_at, space_size}
+use Rattle.workspace.specs.Rules.{Decidable, with_guard, without_guard, Chosen, first, second, both, neither, Chooses}
 use Rattle.workspace.specs.State.{condition_in, Means, word_row, truth_row, reference_place, PathIn, Room}
+use Rattle.workspace.specs.State.Laws.{room-space}
 use Rattle.workspace.specs.declared.Branch.{Branch}
 use Rattle.workspace.specs.declared.Branch.TheVariants.{First, Second}
 
@@ -95,6 +97,9 @@ no_truth d (reference_place x) = neither λ e f. refl
 pub chooses_no_truth : (n t q : ℕ) (ws : List ℕ) → (t ≡ 1 → ⊥) → Chooses n t q ws (Err (WrongType n)) ws
 chooses_no_truth n t q ws d = record { ruled = ruled-refl ws; chosen = λ v p m h. no_truth d m }
 
+below_row : {ws : List ℕ} {q : ℕ} {v : Symbolic} → Means ws 1 q v → q < count_in ws
+below_row (truth_row l r) = l
+
 -- the rows of the path's condition and of the guard
 asked : {ws : List ℕ} {q : ℕ} {g : Formula} {p : Path} → Room ws 1 → TruthRow ws q g → q < count_in ws → PathIn ws p
     → Asked ws (condition_in ws) q p.condition g
@@ -137,6 +142,13 @@ module _ {q : ℕ} {ws xs : List ℕ} {D : Decision} (room : Room ws 1) (d : Dec
   pub chooses_both : (n t : ℕ) → t ≡ 1 → D ≡ Both → Chooses n t q ws (Ok Branch.Both) xs
   chooses_both n t x is = rw (d.both is) (record { ruled = ruled-refl ws; chosen = λ v p m h. two_ways n is v p (rw x at m) h })
 
+  -- a workspace with room for a row, as before
+  pub decided-space : Space xs 1
+  decided-space = room-space (learnt_room room learns)
+
+  pub decided-lent : space_size ≤ length xs
+  decided-lent = (learnt_room room learns).lent
+
   -- what is known then is the condition's with the guard, or without it
   only-true : (n : ℕ) → D ≡ OnlyTrue → (v : Symbolic) (p : Path) → Means ws 1 q v → PathIn ws p → Chosen ws (assumed xs of_conjunction q) n v p (Ok First)
   only-true n is v p (truth_row {f = g} l u) h =
@@ -160,3 +172,15 @@ module _ {q : ℕ} {ws xs : List ℕ} {D : Decision} (room : Room ws 1) (d : Dec
 
 pub chooses_as : {n t q : ℕ} {ws left xs : List ℕ} {r : Choice} → left ≡ xs → Chooses n t q ws r xs → Chooses n t q ws r left
 chooses_as e k = rw e k
+
+-- what the decision asks
+pub decide-needs : (ws : List ℕ) (t q : ℕ) → t ≡ 1 → Decidable ws t q → DecidableRows ws known_at (condition_in ws) q
+decide-needs ws t q e d =
+    let m = below_row (rw e at d.valued.means) in
+    record {
+      behind = omega arith;
+      lent = omega (arith, d.room.lent);
+      sound = remembers-sound (omega (arith, d.room.rows)) d.holds.remembers;
+      low = omega (arith, d.holds.inside, d.room.rows);
+      high = omega (arith, m, d.room.rows);
+    }

@@ -1,5 +1,5 @@
 -- A typed block on a path, as the notes answer it, or else the typed rules, whose answer is then noted. Assumes nothing.
-use Rattle.std.specs.Prelude.{List, ◌≡◌, refl, ℕ, ◌≤◌, Some, Ok}
+use Rattle.std.specs.Prelude.{List, ◌≡◌, refl, ℕ, ◌≤◌, length, Some, Ok}
 use Rattle.std.proofs.Common.{sym, ◌∙◌, arith}
 use Rattle.script.specs.Code.Forms.{tree_in}
 use Rattle.script.specs.Answers.Named.{Checked}
@@ -9,7 +9,7 @@ use Rattle.workspace.specs.Answers.{Known}
 use Rattle.workspace.specs.Notes.{Recallables, recalled_on, Kept, Noted, Noting, Blocked}
 use Rattle.workspace.specs.Notes.Keeping.{still_holding}
 use Rattle.workspace.specs.Notes.Recalling.{kept_recallables, recalled-right}
-use Rattle.workspace.specs.Places.{base_at}
+use Rattle.workspace.specs.Places.{base_at, space_size}
 use Rattle.workspace.specs.Rules.{Checkable, Judged}
 use Rattle.workspace.specs.State.{types_on}
 use Rattle.workspace.specs.State.Laws.{types-kept}
@@ -38,6 +38,9 @@ module _ {limit : ℕ} {table ws : List ℕ} {depth a : ℕ} (q : Checkable tabl
   module _ {r : Checked} {left : List ℕ} (j : Judged (check limit (tree_in table a) (types_on ws depth)) depth ws r left) where
     judged_kept : Kept limit table left
     judged_kept = (still_holding n j.aside.before (record { each = λ k l h. j.aside.beyond k (omega arith) })).kept
+
+    pub judged_lent : space_size ≤ length left
+    judged_lent = omega (arith, n.lent, j.aside.same)
 
     pub block_judged : {c : Checked} → r ≡ c → Blocked limit table (check limit (tree_in table a) (types_on ws depth)) depth ws c left
     block_judged e =

@@ -25,7 +25,7 @@ use Rattle.workspace.specs.Paths.Conditions.{ruled-refl}
 use Rattle.workspace.specs.Places.{condition_at, depth_at, next_at, space_size, start_at, writes_at}
 use Rattle.workspace.specs.Rules.{one_exec, two_exec, Ruled, One, Two, After}
 use Rattle.workspace.specs.State.{next_in, writes_in, start_in, depth_in, Means, word_row, truth_row, reference_place, no_write, PathIn, Room, Went, Unnoted, Yields, ending, stopping, deepest}
-use Rattle.workspace.specs.State.Laws.{still_known, path_moved, means-type, means-kept, went_trans, unnoted_trans, Refers, refer, refers}
+use Rattle.workspace.specs.State.Laws.{still_known, path_moved, means-type, means-kept, went_trans, room_on, unnoted_trans, Refers, refer, refers}
 
 -- ---- references
 
@@ -261,6 +261,9 @@ module _ (n t : ℕ) {ws : List ℕ} {b : Bool} (e : b ≡ consistent_in ws) whe
           logged = omega (arith, emptied-writes);
           log = λ k l h. emptied-other k λ z. omega arith;
         }
+
+    pub emptied-room : Room (emptied ws) 1
+    emptied-room = room_on x emptied-went
 
     pub block_made : b ≡ true → {i : ℕ} {left : List ℕ} → Fresh other t (emptied ws) i left → After n t ws (Ok (t, i)) left
     unfolding typed_result

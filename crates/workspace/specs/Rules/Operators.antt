@@ -20,8 +20,8 @@ use Rattle.terms.specs.Atoms.Made.{made-references}
 use Rattle.terms.specs.References.{reference_at}
 use Rattle.terms.specs.Terms.{count_in, Space, pushed, Distinct, Added, Made, MadeWord, of_conjunction, of_constant, of_equality, of_negation, of_number, of_sum}
 use Rattle.terms.specs.Terms.Laws.{pushed-length, pushed-added, made-number, made_sum, made-constant, made-negation, made-conjunction, made-equality}
-use Rattle.words.specs.Words.{equal_row, equal_left}
-use Rattle.words.specs.Words.Laws.{equal-length}
+use Rattle.words.specs.Words.{Words, equal_row, equal_left}
+use Rattle.words.specs.Words.Laws.{equal-length, words-asked}
 use Rattle.words.specs.Words.Made.{made-equal}
 use Rattle.workspace.specs.Answers.{Step}
 use Rattle.workspace.specs.Numbers.{Outcome, gives, leaf_gives, unary_gives, one_gives, equal_place, equal_numbers, both_of, binary_gives, two_gives}
@@ -228,12 +228,15 @@ equal-place zero q s ws l = absurd (omega arith)
 equal-place (suc zero) q s ws l = absurd (omega arith)
 equal-place (suc (suc t)) q s ws l = (refl, refl)
 
+word-inside : {ws : List ℕ} {q : ℕ} {v : Symbolic} → Means ws 0 q v → q < count_in ws
+word-inside (word_row l f) = l
+
 module _ (n t q u s : ℕ) {ws : List ℕ} where
-  sum_wrong : (t ≡ 0 → u ≡ 0 → ⊥) → Two (binary_form add_op) n t q u s ws (Err (WrongType n)) ws
+  pub sum_wrong : (t ≡ 0 → u ≡ 0 → ⊥) → Two (binary_form add_op) n t q u s ws (Err (WrongType n)) ws
   unfolding two_exec two_gives binary_gives
   sum_wrong d = record { ruled = ruled-refl ws; yields = λ v w p m k h. no_word n p d m k; exactly = sym (not-both 0 n t u ws _ d) }
 
-  conjunction-wrong : (t ≡ 1 → u ≡ 1 → ⊥) → Two (binary_form and_op) n t q u s ws (Err (WrongType n)) ws
+  pub conjunction-wrong : (t ≡ 1 → u ≡ 1 → ⊥) → Two (binary_form and_op) n t q u s ws (Err (WrongType n)) ws
   unfolding two_exec two_gives binary_gives
   conjunction-wrong d = record { ruled = ruled-refl ws; yields = λ v w p m k h. no_truth n p d m k; exactly = sym (not-both 1 n t u ws _ d) }
 
@@ -242,7 +245,7 @@ module _ (n t q u s : ℕ) {ws : List ℕ} where
   equality-wrong d = record { ruled = ruled-refl ws; yields = λ v w p m k h. other-types n p d m k; exactly = rw (ne_eqb t u d) refl }
 
   module _ {left : List ℕ} {r : ℕ} (x : Room ws 1) where
-    sum_made : t ≡ 0 → u ≡ 0 → r ≡ count_in ws → left ≡ pushed ws of_sum q s → Two (binary_form add_op) n t q u s ws (Ok (0, r)) left
+    pub sum_made : t ≡ 0 → u ≡ 0 → r ≡ count_in ws → left ≡ pushed ws of_sum q s → Two (binary_form add_op) n t q u s ws (Ok (0, r)) left
     unfolding two_exec two_gives binary_gives
     sum_made a b er e =
         record {
@@ -251,7 +254,7 @@ module _ (n t q u s : ℕ) {ws : List ℕ} where
           exactly = rw (eq-eqb t 0 a, eq-eqb u 0 b, er, e) refl;
         }
 
-    conjunction-made : t ≡ 1 → u ≡ 1 → r ≡ count_in ws → left ≡ pushed ws of_conjunction q s → Two (binary_form and_op) n t q u s ws (Ok (1, r)) left
+    pub conjunction-made : t ≡ 1 → u ≡ 1 → r ≡ count_in ws → left ≡ pushed ws of_conjunction q s → Two (binary_form and_op) n t q u s ws (Ok (1, r)) left
     unfolding two_exec two_gives binary_gives
     conjunction-made a b er e =
         record {
@@ -276,6 +279,10 @@ module _ (n t q u s : ℕ) {ws : List ℕ} where
   pub both_conjunction : {left : List ℕ} {r : Step} → Room ws 1 → OfBoth 1 of_conjunction n t q u s ws r left → Two (binary_form and_op) n t q u s ws r left
   both_conjunction x (both-wrong d) = conjunction-wrong d
   both_conjunction x (both-made a b er e) = conjunction-made x a b er e
+
+  pub words_required : Operable ws t q u s → t ≡ 0 → t ≡ u → Words ws q s
+  words_required x a b =
+      words-asked (room-space x.room) (word-inside (rw a at x.first.means)) (word-inside (rw (sym b ∙ a) at x.second.means))
 
   module _ {left : List ℕ} {r : ℕ} (x : Operable ws t q u s) where
     pub words-equal : t ≡ 0 → t ≡ u → r ≡ equal_row ws q s → left ≡ equal_left ws q s → Two (binary_form eq_op) n t q u s ws (Ok (1, r)) left

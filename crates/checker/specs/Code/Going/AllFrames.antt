@@ -40,6 +40,9 @@ pub record Climbing (table : List ℕ) (t q : ℕ) (ws fs left gs : List ℕ) (u
   pub goes : (limit bound base : ℕ) (beneath : List Symbolic) (ls : List Leaf) → Returning limit table bound base beneath ws fs t q ls
       → Returning limit table bound base beneath left gs u s ls
 
+pub climbing_start : {table ws fs : List ℕ} {t q : ℕ} → Returnable table ws fs t q → Climbing table t q ws fs ws fs t q
+climbing_start x = record { same = refl; framed = refl; tops = omega arith; can = x; goes = λ limit bound base beneath ls r. r }
+
 module _ {table ws fs left gs : List ℕ} {t q u s : ℕ} (c : Climbing table t q ws fs left gs u s) where
   pub climbing_end : frame_in gs ≡ 0 → Climbs table t q ws fs (Ok (Value u s)) left gs
   climbing_end z =
@@ -70,4 +73,20 @@ module _ {table ws fs left gs : List ℕ} {t q u s : ℕ} (c : Climbing table t 
             returning = came-returning (b.came x.limit x.bound x.base x.beneath x.to_come x.returning) e;
           };
           goes = λ limit bound base beneath ls y. came-returning (came-now limit bound base beneath ls y) e;
+        }
+
+    pub climbing_operand : {m : ℕ} → r ≡ Ok (Operand m) → Climbs table t q ws fs (Ok (Operand m)) left₂ hs
+    climbing_operand e =
+        record {
+          came = λ limit bound base beneath ls y. came-operand (came-entering (came-now limit bound base beneath ls y) e);
+          ended = λ i. cc;
+          rises = λ i. omega (arith, c.tops, b.rises e);
+        }
+
+    pub climbing_stopped : {x : Refusal} → r ≡ Err x → Climbs table t q ws fs (Err x) left₂ hs
+    climbing_stopped e =
+        record {
+          came = λ limit bound base beneath ls y. let n = came-none (came-now limit bound base beneath ls y) e in came-stopped n.0 n.1;
+          ended = λ i. cc;
+          rises = λ i. cc;
         }

@@ -222,6 +222,12 @@ module _ {limit : ℕ} {table ws fs : List ℕ} {n : ℕ} (x : Enterable limit t
   some : 1 ≤ node_operands (node_in table n).kind
   some = some-operand (enters_formed x.entering) (omega arith)
 
+  pub up-node : HasNode table n
+  up-node = omega (arith, (enters_formed x.entering).room)
+
+  pub up-space : space_size ≤ length ws
+  up-space = x.entering.stands.lent
+
   pub up-earlier : (node_in table n).a < n
   up-earlier = block_earlier x.entering k some
 

@@ -22,6 +22,13 @@ use Rattle.checker.specs.declared.steps.Move.TheVariants.{Value, Operand}
 
 -- ---- the last operand
 
+pub lasts-body : {kind awaits n t q u s : ℕ} {ws left : List ℕ} → awaits ≡ for_body → left ≡ unbound ws → Lasts kind awaits n t q u s ws (Ok (Value u s)) left
+lasts-body e l = record { body = λ _. (refl, l); other = λ d. absurd (d e) }
+
+pub lasts-other : {kind awaits n t q u s : ℕ} {ws left : List ℕ} {a : Step} {r : Moved} → (awaits ≡ for_body → ⊥) → r ≡ moved_by a
+    → Two (form_of kind) n t q u s ws a left → Lasts kind awaits n t q u s ws r left
+lasts-other {a = a} d e w = record { body = λ x. absurd (d x); other = λ _. (a, e, w) }
+
 -- ---- the branch
 
 -- where both branches can be taken, the workspace is as it was
@@ -34,6 +41,9 @@ module _ {n t q : ℕ} {ws left : List ℕ} {r : Choice} (d : Decidable ws t q) 
 
   both-room : Room left 1
   both-room = rw both-same d.room
+
+  pub both-lent : space_size ≤ length left
+  both-lent = both-room.lent
 
   -- whatever is stored at the place of what is known
   both_stored : (x : ℕ) → Room (set left known_at x) 1

@@ -81,6 +81,24 @@ module _ {limit : ℕ} {table : List ℕ} {bound base : ℕ} {beneath : List Sym
             went_on r.others right
             (u.resumed limit bound base beneath r.environment r.path r.later r.owed r.frames r.others r.stands) goes
 
+  pub end_resumable : 1 ≤ forked_in fs → Resumable table ws fs
+  end_resumable z =
+      record {
+        some = z;
+        limit = limit;
+        bound = bound;
+        base = base;
+        beneath = beneath;
+        environment = r.environment;
+        path = r.path;
+        later = r.later;
+        owed = r.owed;
+        frames = r.frames;
+        to_come = r.others;
+        few = omega (arith, r.tops);
+        stands = r.stands;
+      }
+
 -- ---- as the code ends a path
 
 module _ {table ws fs : List ℕ} {t n : ℕ} {wanted : Option ℕ} (x : AtEnd table ws fs t) {a : Bool} (c : a ≡ consistent_in ws) where
@@ -98,3 +116,6 @@ module _ {table ws fs : List ℕ} {t n : ℕ} {wanted : Option ℕ} (x : AtEnd t
 
       pub path-more : {m : ℕ} {left gs : List ℕ} → Resumes table ws fs m left gs → PathEnds table n t wanted ws fs (Ok (More t m)) left gs
       path-more u = record { ends = λ limit bound base q beneath ls r. end_more r x.none n wanted (sym c ∙ not-false a e) (sym w ∙ not-false b d) u }
+
+pub path_resumable : {table ws fs : List ℕ} {t : ℕ} → AtEnd table ws fs t → (forked_in fs ≡ 0 → ⊥) → Resumable table ws fs
+path_resumable x z = end_resumable x.returnable.returning x.none (omega arith)

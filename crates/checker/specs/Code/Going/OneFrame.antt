@@ -36,6 +36,12 @@ module _ {table ws fs : List ℕ} {t q : ℕ} (x : Returnable table ws fs t q) (
   abbrev fs₁ : List ℕ
   fs₁ = set fs goal_at (goes_to fs (frame_in fs))
 
+  pub back_inside : frame_in fs < node_limit
+  back_inside = let i = x.returning.stands.inside in omega (arith, i, x.returning.tops)
+
+  pub back_lent : frames_end ≤ length fs
+  back_lent = omega (arith, x.returning.stands.framed)
+
   pub back_framed : frames_size ≤ length fs₁
   back_framed = omega (arith, x.returning.stands.framed, length-set fs goal_at (goes_to fs (frame_in fs)))
 

@@ -259,6 +259,15 @@ module _ {limit : ℕ} {table : List ℕ} {bound base : ℕ} {beneath : List Sym
 -- ---- as the code goes back
 
 module _ {table ws fs : List ℕ} (x : Resumable table ws fs) where
+  pub resume_lent : space_size ≤ length ws
+  resume_lent = x.stands.lent
+
+  pub resume_framed : frames_size ≤ length fs
+  resume_framed = x.stands.framed
+
+  pub resume_few : forked_in fs ≤ fork_limit
+  resume_few = omega (arith, x.few, x.stands.few)
+
   some_is : forked_in fs ≡ suc (forked_in fs - 1)
   some_is = omega (arith, x.some)
 
@@ -278,6 +287,12 @@ module _ {table ws fs : List ℕ} (x : Resumable table ws fs) where
           let e = node-is x.stands (forked_in fs - 1) some_is w v in
           let l = last-low x.stands (forked_in fs - 1) some_is w in
           omega (arith, e, l, x.stands.formed.room)
+
+      pub branch-few : waiter_of hs (frame_in hs) < node_limit
+      branch-few =
+          let e = node-is x.stands (forked_in fs - 1) some_is w v in
+          let l = last-low x.stands (forked_in fs - 1) some_is w in
+          omega (arith, e, l, x.stands.formed.most)
 
       pub resumed : {left : List ℕ} → left ≡ assumed ws₂ of_exclusion (second_of hs (frame_in hs)) → Resumes table ws fs (node_in table (waiter_of hs (frame_in hs))).c left hs
       resumed e =

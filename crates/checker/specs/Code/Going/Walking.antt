@@ -38,6 +38,9 @@ pub record Walking (limit : ℕ) (table : List ℕ) (n m : ℕ) (ws fs left gs :
   pub goes : (bound base : ℕ) (beneath : List Symbolic) (ls : List Leaf) → Entering limit table bound base beneath ws fs m ls
       → Entering limit table bound base beneath left gs next ls
 
+pub walking_start : {limit : ℕ} {table ws fs : List ℕ} {n m : ℕ} → Walkable limit table ws fs n m → Walking limit table n m ws fs ws fs m
+walking_start x = record { same = refl; framed = refl; can = x; goes = λ bound base beneath ls q. q }
+
 module _ {limit : ℕ} {table : List ℕ} {n m : ℕ} {ws fs left gs : List ℕ} {next : ℕ} (w : Walking limit table n m ws fs left gs next) where
   pub walking_descendable : Descendable table gs next
   walking_descendable = enters_descendable w.can.can.entering
