@@ -13,7 +13,7 @@ use Rattle.std.proofs.Math.Seq.{get_or_at}
 use Rattle.script.specs.Tests.{pick}
 use Rattle.terms.specs.Places.{row_limit}
 use Rattle.terms.specs.Terms.{row_in, first_atom, of_truth}
-use Rattle.rows.specs.Code.{seen_after, rank, rows_from, seen_at, seen_to, number_row, numbers_to, no_numbers, numbers_from}
+use Rattle.rows.specs.Code.{seen_after, rank, rows_from, seen_at, seen_to, number_row, numbers_to, numbered_to, no_numbers, numbers_from, evaluate_row, evaluated_to, change_row, changed_to}
 
 -- ---- the first rows alone count
 
@@ -31,6 +31,22 @@ module _ (ws : List ℕ) (xs ys : List ℕ) where
   numbers-alike ns zero h = refl
   numbers-alike ns (suc m) h =
       rw (numbers-alike ns m (λ j l. h j (omega arith)), h m (omega arith), seen_alike m (λ j l. h j (omega arith))) refl
+
+  pub numbered-alike : (ns : List ℕ) (m : ℕ) → Alike m → numbered_to ws xs ns m ≡ numbered_to ws ys ns m
+  unfolding numbered_to
+  numbered-alike ns zero h = refl
+  numbered-alike ns (suc m) h = rw (numbered-alike ns m (λ j l. h j (omega arith)), h m (omega arith)) refl
+
+  pub evaluated_alike : (ns : List ℕ) (block : ℕ) (vs : List ℕ) (m : ℕ) → Alike m → evaluated_to ws xs ns block vs m ≡ evaluated_to ws ys ns block vs m
+  unfolding evaluated_to
+  evaluated_alike ns block vs zero h = refl
+  evaluated_alike ns block vs (suc m) h =
+      ap₂ (evaluate_row ws ns block) (evaluated_alike ns block vs m (λ j l. h j (omega arith))) (h m (omega arith))
+
+  pub changed_alike : (ns hs : List ℕ) (m : ℕ) → Alike m → changed_to ws xs ns hs m ≡ changed_to ws ys ns hs m
+  unfolding changed_to
+  changed_alike ns hs zero h = refl
+  changed_alike ns hs (suc m) h = ap₂ (change_row ws ns) (changed_alike ns hs m (λ j l. h j (omega arith))) (h m (omega arith))
 
 -- the first rows of a longer list
 pub taken-alike : (os rows : List ℕ) (count : ℕ) → take count os ≡ rows → (j : ℕ) → j < count → get_or os j 0 ≡ get_or rows j 0

@@ -16,7 +16,7 @@ use Rattle.rows.specs.Code.Loops.{Searching, searching, searching_on, searching-
 use Rattle.rows.specs.Decision.{branches_of}
 use Rattle.rows.specs.declared.Decision.{Decision}
 use Rattle.rows.specs.declared.Decision.TheVariants.{Both}
-use Rattle.known.specs.Ordered.{taken-alike, rows_few, rows-below}
+use Rattle.known.specs.Ordered.{numbers-alike, taken-alike, rows_few, rows-below}
 use Rattle.known.specs.Steady.{Steadily, first-steadily, first-length, later-words, later-length, later-steadily}
 
 -- ---- the rows as they are listed
@@ -31,6 +31,17 @@ rows-listed ws ms least n os lent few is =
       few = omega arith;
       each = λ j l. let b = rows-below ms least n j l in omega arith;
     })
+
+-- an array has room for them
+pub order_long : (ms : List ℕ) (least n count : ℕ) (os : List ℕ) → n ≤ row_limit → count ≡ length (rows_from ms least n) → length os ≡ row_limit → count ≤ length os
+order_long ms least n count os few many long = let f = rows_few ms least n in omega arith
+
+pub numbers-listed : (ws ms : List ℕ) (least n : ℕ) (os : List ℕ) (count : ℕ) → count ≡ length (rows_from ms least n) → take count os ≡ rows_from ms least n
+    → numbers_to ws os no_numbers count ≡ numbers_from ws ms least n
+unfolding numbers_from
+numbers-listed ws ms least n os count many is =
+    numbers-alike ws os (rows_from ms least n) no_numbers count (taken-alike os (rows_from ms least n) count is)
+    ∙ ap (numbers_to ws (rows_from ms least n) no_numbers) many
 
 -- ---- a search
 
@@ -66,6 +77,12 @@ module _ {ws : List ℕ} {c g : ℕ} {ms : List ℕ} {least n : ℕ} {os ns : Li
 
   rows_are : os ≡ listed
   rows_are = p.rows ∙ ap (rows_from ms least) p.up
+
+  many_are : length os ≡ length listed
+  many_are = ap length rows_are
+
+  alike : (j : ℕ) → j < length os → get_or os j 0 ≡ get_or listed j 0
+  alike j h = ap (λ (l : List ℕ). get_or l j 0) rows_are
 
   numbers_are : ns ≡ numbers
   unfolding numbers_from
@@ -104,6 +121,9 @@ module _ {ws : List ℕ} {c g : ℕ} {ms : List ℕ} {least n : ℕ} {os ns : Li
 
     later_are : ls ≡ rows_from said 1 (above c g)
     later_are = later ∙ ap₂ (λ (x : List ℕ) (m : ℕ). rows_from x 1 m) changes_are p.up
+
+    more_are : length ls ≡ length (rows_from said 1 (above c g))
+    more_are = ap length later_are
 
     out-words : take (above c g) out ≡ words ws ms least numbers block (above c g)
     out-words =
