@@ -52,6 +52,17 @@ module _ (ws : List ℕ) (xs ys : List ℕ) where
 pub taken-alike : (os rows : List ℕ) (count : ℕ) → take count os ≡ rows → (j : ℕ) → j < count → get_or os j 0 ≡ get_or rows j 0
 taken-alike os rows count e j l = sym (get_or-take count os j 0 l) ∙ ap (λ (l : List ℕ). get_or l j 0) e
 
+-- and what is made of them is what is made of the list that they are
+module _ (ws os rows : List ℕ) (count : ℕ) (many : count ≡ length rows) (is : take count os ≡ rows) (ns : List ℕ) where
+  pub numbered-first : numbered_to ws os ns count ≡ numbered_to ws rows ns (length rows)
+  numbered-first = numbered-alike ws os rows ns count (taken-alike os rows count is) ∙ ap (numbered_to ws rows ns) many
+
+  pub evaluated-first : (block : ℕ) (vs : List ℕ) → evaluated_to ws os ns block vs count ≡ evaluated_to ws rows ns block vs (length rows)
+  evaluated-first block vs = evaluated_alike ws os rows ns block vs count (taken-alike os rows count is) ∙ ap (evaluated_to ws rows ns block vs) many
+
+  pub changed-first : (hs : List ℕ) → changed_to ws os ns hs count ≡ changed_to ws rows ns hs (length rows)
+  changed-first hs = changed_alike ws os rows ns hs count (taken-alike os rows count is) ∙ ap (changed_to ws rows ns hs) many
+
 longer_alike : (rows : List ℕ) (i j : ℕ) → j < length rows → get_or (rows ++ (i ∷ [])) j 0 ≡ get_or rows j 0
 longer_alike rows i j l = get_or-append rows (i ∷ []) 0 j l
 
