@@ -44,6 +44,11 @@ link-is op o e = rw e (go (eqb op of_conjunction) (eqb op of_exclusion) refl ref
     go false true p q = with-negation p q
     go false false p q = with-neither p q
 
+-- an operator that is neither
+pub link-neither : (op : ℕ) → (op ≡ of_conjunction → ⊥) → (op ≡ of_exclusion → ⊥) → None ≡ link_of op
+unfolding link_of
+link-neither op m n = rw (ne_eqb op of_conjunction m, ne_eqb op of_exclusion n) refl
+
 linking : {op : ℕ} {d : Decision} → LinkIs op (Some d) → is_link op ≡ true
 unfolding is_link
 linking (with-guard p) = rw p refl
@@ -64,7 +69,7 @@ pub walking : (ws : List ℕ) (c g : ℕ) → c < row_limit → Walking ws c g c
 unfolding conjunct_of
 walking ws c g h = record { low = h; left = c + 1; more = omega arith; is = refl }
 
-turn : (ws : List ℕ) (g left i : ℕ) → i < left
+turn : (ws : List ℕ) (g left i : ℕ) → 0 < left
     → conjunct_at ws g left i
     ≡ pick (is_link (row_in ws i).op)
     (pick (eqb (row_in ws i).b g) (row_in ws i).op (pick (ltb (row_in ws i).a i) (conjunct_at ws g (left - 1) (row_in ws i).a) 0))
@@ -72,6 +77,44 @@ turn : (ws : List ℕ) (g left i : ℕ) → i < left
 unfolding conjunct_at
 turn ws g zero i h = absurd (omega arith)
 turn ws g (suc n) i h = let e : suc n - 1 ≡ n = omega arith in rw e
+
+-- what is found of the condition where it is what is found from row i on: by the row's operator and its operands
+module _ (ws : List ℕ) (c g left i : ℕ) (is : conjunct_at ws g left i ≡ conjunct_of ws c g) (more : 0 < left) (row : Row) (er : row ≡ row_in ws i) where
+  pub conjunct-none : (b : Bool) → b ≡ is_link row.op → not b ≡ true → 0 ≡ conjunct_of ws c g
+  conjunct-none b e n =
+      let t : is_link (row_in ws i).op ≡ false = rw er at (sym e ∙ not-true b n) in
+      rw t at (sym (turn ws g left i more)) ∙ is
+
+  link_true : (b : Bool) → b ≡ is_link row.op → not b ≡ false → is_link (row_in ws i).op ≡ true
+  link_true true e n = rw er at (sym e)
+  link_true false e n = absurd (true_or_false true refl n)
+
+  module _ (b : Bool) (is_link_lem : b ≡ is_link row.op) (n : not b ≡ false) where
+    pub conjunct-found : row.b ≡ g → row.op ≡ conjunct_of ws c g
+    conjunct-found e =
+        let f : (row_in ws i).b ≡ g = rw er at e in
+        rw er (rw (link_true b is_link_lem n, eq-eqb (row_in ws i).b g f) at (sym (turn ws g left i more)) ∙ is)
+
+    module _ (d : row.b ≡ g → ⊥) where
+      guard_other : eqb (row_in ws i).b g ≡ false
+      guard_other = ne_eqb (row_in ws i).b g (rw er at d)
+
+      pub conjunct-up : i ≤ row.a → 0 ≡ conjunct_of ws c g
+      conjunct-up h =
+          let l : i ≤ (row_in ws i).a = rw er at h in
+          rw (link_true b is_link_lem n, guard_other, le-ltb (row_in ws i).a i l) at (sym (turn ws g left i more)) ∙ is
+
+      pub conjunct_on : row.a < i → conjunct_at ws g (left - 1) row.a ≡ conjunct_of ws c g
+      conjunct_on h =
+          let l : (row_in ws i).a < i = rw er at h in
+          rw er (rw (link_true b is_link_lem n, guard_other, lt-ltb (row_in ws i).a i l) at (sym (turn ws g left i more)) ∙ is)
+
+pub walking_end : (ws : List ℕ) (c g left i : ℕ) → conjunct_at ws g left i ≡ conjunct_of ws c g → left ≤ 0 → 0 ≡ conjunct_of ws c g
+unfolding conjunct_at
+walking_end ws c g left i is h = let e : left ≡ 0 = omega arith in rw e at is
+
+some_left : {ws : List ℕ} {c g i : ℕ} (w : Walking ws c g i) → 0 < w.left
+some_left w = let m = w.more in omega arith
 
 module _ {ws : List ℕ} {c g i : ℕ} (w : Walking ws c g i) (row : Row) (er : row ≡ row_in ws i) where
   -- no operator links 0
@@ -82,7 +125,7 @@ module _ {ws : List ℕ} {c g i : ℕ} (w : Walking ws c g i) (row : Row) (er : 
   pub walking-none : None ≡ link_of row.op → None ≡ link_of (conjunct_of ws c g)
   walking-none e =
       let t : is_link (row_in ws i).op ≡ false = rw er at (not-linking (link-is row.op None e)) in
-      none_of (rw t at (sym (turn ws g w.left i w.more)) ∙ w.is)
+      none_of (rw t at (sym (turn ws g w.left i (some_left w))) ∙ w.is)
 
   module _ (d : Decision) (e : Some d ≡ link_of row.op) where
     here : is_link (row_in ws i).op ≡ true
@@ -91,7 +134,7 @@ module _ {ws : List ℕ} {c g i : ℕ} (w : Walking ws c g i) (row : Row) (er : 
     pub walking-found : row.b ≡ g → Some d ≡ link_of (conjunct_of ws c g)
     walking-found q =
         let f : (row_in ws i).b ≡ g = rw er at q in
-        e ∙ ap link_of (rw er (rw (here, eq-eqb (row_in ws i).b g f) at (sym (turn ws g w.left i w.more)) ∙ w.is))
+        e ∙ ap link_of (rw er (rw (here, eq-eqb (row_in ws i).b g f) at (sym (turn ws g w.left i (some_left w))) ∙ w.is))
 
     module _ (n : row.b ≡ g → ⊥) where
       other-guard : eqb (row_in ws i).b g ≡ false
@@ -100,7 +143,7 @@ module _ {ws : List ℕ} {c g i : ℕ} (w : Walking ws c g i) (row : Row) (er : 
       pub walking-up : i ≤ row.a → None ≡ link_of (conjunct_of ws c g)
       walking-up h =
           let l : i ≤ (row_in ws i).a = rw er at h in
-          none_of (rw (here, other-guard, le-ltb (row_in ws i).a i l) at (sym (turn ws g w.left i w.more)) ∙ w.is)
+          none_of (rw (here, other-guard, le-ltb (row_in ws i).a i l) at (sym (turn ws g w.left i (some_left w))) ∙ w.is)
 
       pub walking_on : row.a < i → Walking ws c g row.a
       walking_on h =
@@ -111,7 +154,7 @@ module _ {ws : List ℕ} {c g i : ℕ} (w : Walking ws c g i) (row : Row) (er : 
             low = omega arith;
             left = w.left - 1;
             more = omega arith;
-            is = rw er (rw (here, other-guard, lt-ltb (row_in ws i).a i l) at (sym (turn ws g w.left i w.more)) ∙ w.is);
+            is = rw er (rw (here, other-guard, lt-ltb (row_in ws i).a i l) at (sym (turn ws g w.left i (some_left w))) ∙ w.is);
           }
 
 -- ---- the formulas of one row hold alike

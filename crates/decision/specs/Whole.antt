@@ -1,7 +1,7 @@
 -- The decision from its parts. Assumes nothing.
-use Rattle.decision.specs.Conjuncts.{link_of, LinkIs, link-is, with-guard, with-negation, with-neither}
-use Rattle.std.specs.Prelude.{Some, None, Bool, true, false, List, ◌≡◌, eqb, get_or, set}
-use Rattle.std.proofs.Math.Path.{refl, ap, ap₂}
+use Rattle.decision.specs.Conjuncts.{link_of, LinkIs, link-is, link-neither, with-guard, with-negation, with-neither}
+use Rattle.std.specs.Prelude.{Some, None, Bool, true, false, List, ◌≡◌, eqb, get_or, set, take}
+use Rattle.std.proofs.Math.Path.{refl, sym, ap, ap₂}
 use Rattle.std.proofs.Common.{◌∙◌}
 use Prim.Native.Nat.{ℕ, ◌+◌, ◌≤◌, ◌<◌}
 use borrow.Author.Tests.{lt-ltb, le-ltb, eq-eqb, ne_eqb}
@@ -16,7 +16,8 @@ use Rattle.rows.specs.Marks.{start-length}
 use Rattle.rows.specs.declared.Counts.{Counts}
 use Rattle.rows.specs.declared.Decision.{Decision}
 use Rattle.rows.specs.declared.Decision.TheVariants.{TooMany, Both, OnlyTrue, OnlyFalse}
-use Rattle.known.specs.Searching.{rows-listed}
+use Rattle.known.specs.Ordered.{numbered-alike, taken-alike}
+use Rattle.known.specs.Searching.{rows-listed, order_long}
 use Rattle.terms.specs.Terms.{of_conjunction, of_exclusion}
 
 module _ (ws : List ℕ) (c g : ℕ) where
@@ -62,6 +63,28 @@ module _ (ws : List ℕ) (c g : ℕ) where
         let f = parts_shared in
         rw (le-ltb 10 (atoms_from ws c g 1) (omega arith), eq-eqb (atoms_from ws c g 3) 0 (omega arith), ed, eb, parts-marks, parts-own)
 
+    -- the guard is a conjunct of the condition
+    pub decided_with : (link : ℕ) → k.all ≤ 10 → (k.shared ≡ 0 → ⊥) → link ≡ conjunct_of ws c g → link ≡ of_conjunction → OnlyTrue ≡ decided_anew ws c g
+    unfolding decided_anew
+    decided_with link h z el l =
+        let e = parts_all in
+        let f = parts_shared in
+        rw (le-ltb 10 (atoms_from ws c g 1) (omega arith), ne_eqb (atoms_from ws c g 3) 0 (λ q. z (f ∙ q)), eq-eqb (conjunct_of ws c g) of_conjunction (sym el ∙ l))
+
+    -- its negation is one
+    pub decided-without : (link : ℕ) → k.all ≤ 10 → (k.shared ≡ 0 → ⊥) → link ≡ conjunct_of ws c g → link ≡ of_exclusion → OnlyFalse ≡ decided_anew ws c g
+    unfolding decided_anew
+    decided-without link h z el l =
+        let e = parts_all in
+        let f = parts_shared in
+        let m : conjunct_of ws c g ≡ 7 = sym el ∙ l in
+        rw (
+          le-ltb 10 (atoms_from ws c g 1) (omega arith),
+          ne_eqb (atoms_from ws c g 3) 0 (λ q. z (f ∙ q)),
+          ne_eqb (conjunct_of ws c g) of_conjunction (λ q. omega arith),
+          eq-eqb (conjunct_of ws c g) of_exclusion m,
+        )
+
     -- the guard is a conjunct of the condition, or its negation is one
     pub decided-link : (d : Decision) → k.all ≤ 10 → (k.shared ≡ 0 → ⊥) → Some d ≡ link_of (conjunct_of ws c g) → d ≡ decided_anew ws c g
     unfolding decided_anew
@@ -90,10 +113,26 @@ module _ (ws : List ℕ) (c g : ℕ) where
             let f = parts_shared in
             rw (le-ltb 10 (atoms_from ws c g 1) (omega arith), ne_eqb (atoms_from ws c g 3) 0 (λ q. z (f ∙ q)), m, n, ed, eb, parts-marks, e)
 
+    pub decided-neither : (link blocks : ℕ) (d : Decision) → k.all ≤ 10 → (k.shared ≡ 0 → ⊥) → link ≡ conjunct_of ws c g → (link ≡ of_conjunction → ⊥) → (link ≡ of_exclusion → ⊥)
+        → blocks ≡ blocks_of k.all → d ≡ searched ws ms 1 c g blocks → d ≡ decided_anew ws c g
+    decided-neither link blocks d h z el m n eb ed =
+        decided-both blocks d h z (link-neither (conjunct_of ws c g) (λ q. m (el ∙ q)) (λ q. n (el ∙ q))) eb ed
+
     -- whether the condition's truths were computed
     pub aside-alone : k.shared ≡ 0 → aside ws c g ≡ true
     unfolding aside
     aside-alone z = let f = parts_shared in rw (eq-eqb (atoms_from ws c g 3) 0 (omega arith)) refl
+
+    pub aside_with : (link : ℕ) → (k.shared ≡ 0 → ⊥) → link ≡ conjunct_of ws c g → link ≡ of_conjunction → aside ws c g ≡ true
+    unfolding aside is_link
+    aside_with link z el l = let f = parts_shared in rw (ne_eqb (atoms_from ws c g 3) 0 (λ q. z (f ∙ q)), eq-eqb (conjunct_of ws c g) of_conjunction (sym el ∙ l)) refl
+
+    pub aside-without : (link : ℕ) → (k.shared ≡ 0 → ⊥) → link ≡ conjunct_of ws c g → link ≡ of_exclusion → aside ws c g ≡ true
+    unfolding aside is_link
+    aside-without link z el l =
+        let f = parts_shared in
+        let m : conjunct_of ws c g ≡ 7 = sym el ∙ l in
+        rw (ne_eqb (atoms_from ws c g 3) 0 (λ q. z (f ∙ q)), ne_eqb (conjunct_of ws c g) of_conjunction (λ q. omega arith), eq-eqb (conjunct_of ws c g) of_exclusion m) refl
 
     pub aside-link : (d : Decision) → (k.shared ≡ 0 → ⊥) → Some d ≡ link_of (conjunct_of ws c g) → (only_one d ≡ true) × (aside ws c g ≡ true)
     unfolding aside is_link
@@ -115,6 +154,9 @@ module _ (ws : List ℕ) (c g : ℕ) where
       where
         go : LinkIs (conjunct_of ws c g) None → is_link (conjunct_of ws c g) ≡ false
         go (with-neither m n) = rw (m, n) refl
+
+    pub aside-neither : (link : ℕ) → (k.shared ≡ 0 → ⊥) → link ≡ conjunct_of ws c g → (link ≡ of_conjunction → ⊥) → (link ≡ of_exclusion → ⊥) → aside ws c g ≡ false
+    aside-neither link z el n m = aside-not z (link-neither (conjunct_of ws c g) (λ q. n (el ∙ q)) (λ q. m (el ∙ q)))
 
     -- what is kept then
     pub keepable : (at : ℕ) → rows_end ≤ at → at + known_size ≤ length ws → c < row_limit → g < row_limit → k.all ≤ 10 → Keepable ws at ms n
@@ -206,3 +248,15 @@ module _ (ws : List ℕ) (at g : ℕ) (os ns : List ℕ) (rows : os ≡ guard_ro
   pub guard-rows : rows_end ≤ length ws → g < row_limit → Rows ws os
   unfolding guard_rows
   guard-rows b h = rows-listed ws (guard_marks ws g) 1 (g + 1) os b (omega arith) rows
+
+-- where they are the first of a longer list
+module _ (ws : List ℕ) (at g : ℕ) (os : List ℕ) (count : ℕ) (ns : List ℕ) (many : count ≡ length (guard_rows ws g)) (rows : take count os ≡ guard_rows ws g) where
+  pub recalls-first : (b : Bool) → ns ≡ recalled ws at → b ≡ numbered_to ws os ns count → b ≡ recalls ws at g
+  unfolding recalls
+  recalls-first b e f =
+      f ∙ numbered-alike ws os (guard_rows ws g) ns count (taken-alike os (guard_rows ws g) count rows) ∙ ap₂ (numbered_to ws (guard_rows ws g)) e many
+
+  -- an array has room for them
+  pub guard-long : g < row_limit → length os ≡ row_limit → count ≤ length os
+  unfolding guard_rows
+  guard-long h l = order_long (guard_marks ws g) 1 (g + 1) count os (omega arith) many l

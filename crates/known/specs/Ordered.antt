@@ -13,7 +13,7 @@ use Rattle.std.proofs.Math.Seq.{get_or_at}
 use Rattle.script.specs.Tests.{pick}
 use Rattle.terms.specs.Places.{row_limit}
 use Rattle.terms.specs.Terms.{row_in, first_atom, of_truth}
-use Rattle.rows.specs.Code.{seen_after, rank, rows_from, seen_at, seen_to, number_row, numbers_to, no_numbers, numbers_from}
+use Rattle.rows.specs.Code.{seen_after, rank, rows_from, seen_at, seen_to, number_row, numbers_to, numbered_to, no_numbers, numbers_from, evaluate_row, evaluated_to, change_row, changed_to}
 
 -- ---- the first rows alone count
 
@@ -32,9 +32,36 @@ module _ (ws : List ℕ) (xs ys : List ℕ) where
   numbers-alike ns (suc m) h =
       rw (numbers-alike ns m (λ j l. h j (omega arith)), h m (omega arith), seen_alike m (λ j l. h j (omega arith))) refl
 
+  pub numbered-alike : (ns : List ℕ) (m : ℕ) → Alike m → numbered_to ws xs ns m ≡ numbered_to ws ys ns m
+  unfolding numbered_to
+  numbered-alike ns zero h = refl
+  numbered-alike ns (suc m) h = rw (numbered-alike ns m (λ j l. h j (omega arith)), h m (omega arith)) refl
+
+  pub evaluated_alike : (ns : List ℕ) (block : ℕ) (vs : List ℕ) (m : ℕ) → Alike m → evaluated_to ws xs ns block vs m ≡ evaluated_to ws ys ns block vs m
+  unfolding evaluated_to
+  evaluated_alike ns block vs zero h = refl
+  evaluated_alike ns block vs (suc m) h =
+      ap₂ (evaluate_row ws ns block) (evaluated_alike ns block vs m (λ j l. h j (omega arith))) (h m (omega arith))
+
+  pub changed_alike : (ns hs : List ℕ) (m : ℕ) → Alike m → changed_to ws xs ns hs m ≡ changed_to ws ys ns hs m
+  unfolding changed_to
+  changed_alike ns hs zero h = refl
+  changed_alike ns hs (suc m) h = ap₂ (change_row ws ns) (changed_alike ns hs m (λ j l. h j (omega arith))) (h m (omega arith))
+
 -- the first rows of a longer list
 pub taken-alike : (os rows : List ℕ) (count : ℕ) → take count os ≡ rows → (j : ℕ) → j < count → get_or os j 0 ≡ get_or rows j 0
 taken-alike os rows count e j l = sym (get_or-take count os j 0 l) ∙ ap (λ (l : List ℕ). get_or l j 0) e
+
+-- and what is made of them is what is made of the list that they are
+module _ (ws os rows : List ℕ) (count : ℕ) (many : count ≡ length rows) (is : take count os ≡ rows) (ns : List ℕ) where
+  pub numbered-first : numbered_to ws os ns count ≡ numbered_to ws rows ns (length rows)
+  numbered-first = numbered-alike ws os rows ns count (taken-alike os rows count is) ∙ ap (numbered_to ws rows ns) many
+
+  pub evaluated-first : (block : ℕ) (vs : List ℕ) → evaluated_to ws os ns block vs count ≡ evaluated_to ws rows ns block vs (length rows)
+  evaluated-first block vs = evaluated_alike ws os rows ns block vs count (taken-alike os rows count is) ∙ ap (evaluated_to ws rows ns block vs) many
+
+  pub changed-first : (hs : List ℕ) → changed_to ws os ns hs count ≡ changed_to ws rows ns hs (length rows)
+  changed-first hs = changed_alike ws os rows ns hs count (taken-alike os rows count is) ∙ ap (changed_to ws rows ns hs) many
 
 longer_alike : (rows : List ℕ) (i j : ℕ) → j < length rows → get_or (rows ++ (i ∷ [])) j 0 ≡ get_or rows j 0
 longer_alike rows i j l = get_or-append rows (i ∷ []) 0 j l

@@ -7,6 +7,7 @@ use Rattle.std.proofs.Common.{◌∙◌, eqb-true, arith, length-set, get_or-set
 use Rattle.std.proofs.Math.Decide.{ℕ_discrete}
 use Rattle.std.specs.Int.Bits.{bit_and, bit_or, and_zero_l}
 use Rattle.std.proofs.Math.ListN.{length-replicate}
+use Rattle.std.proofs.Math.Seq.{take-length}
 use Rattle.script.specs.Rows.Laws.{same_anywhere}
 use Rattle.script.specs.Tests.{pick}
 use Rattle.terms.specs.Places.{row_limit, rows_end}
@@ -16,7 +17,7 @@ use Rattle.rows.specs.Code.Loops.{Searching, searching, searching_on, searching-
 use Rattle.rows.specs.Decision.{branches_of}
 use Rattle.rows.specs.declared.Decision.{Decision}
 use Rattle.rows.specs.declared.Decision.TheVariants.{Both}
-use Rattle.known.specs.Ordered.{taken-alike, rows_few, rows-below}
+use Rattle.known.specs.Ordered.{numbers-alike, taken-alike, rows_few, rows-below}
 use Rattle.known.specs.Steady.{Steadily, first-steadily, first-length, later-words, later-length, later-steadily}
 
 -- ---- the rows as they are listed
@@ -31,6 +32,17 @@ rows-listed ws ms least n os lent few is =
       few = omega arith;
       each = λ j l. let b = rows-below ms least n j l in omega arith;
     })
+
+-- an array has room for them
+pub order_long : (ms : List ℕ) (least n count : ℕ) (os : List ℕ) → n ≤ row_limit → count ≡ length (rows_from ms least n) → length os ≡ row_limit → count ≤ length os
+order_long ms least n count os few many long = let f = rows_few ms least n in omega arith
+
+pub numbers-listed : (ws ms : List ℕ) (least n : ℕ) (os : List ℕ) (count : ℕ) → count ≡ length (rows_from ms least n) → take count os ≡ rows_from ms least n
+    → numbers_to ws os no_numbers count ≡ numbers_from ws ms least n
+unfolding numbers_from
+numbers-listed ws ms least n os count many is =
+    numbers-alike ws os (rows_from ms least n) no_numbers count (taken-alike os (rows_from ms least n) count is)
+    ∙ ap (numbers_to ws (rows_from ms least n) no_numbers) many
 
 -- ---- a search
 
@@ -67,6 +79,12 @@ module _ {ws : List ℕ} {c g : ℕ} {ms : List ℕ} {least n : ℕ} {os ns : Li
   rows_are : os ≡ listed
   rows_are = p.rows ∙ ap (rows_from ms least) p.up
 
+  many_are : length os ≡ length listed
+  many_are = ap length rows_are
+
+  alike : (j : ℕ) → j < length os → get_or os j 0 ≡ get_or listed j 0
+  alike j h = ap (λ (l : List ℕ). get_or l j 0) rows_are
+
   numbers_are : ns ≡ numbers
   unfolding numbers_from
   numbers_are = p.numbers ∙ ap (λ (l : List ℕ). numbers_to ws l no_numbers (length l)) rows_are
@@ -86,10 +104,10 @@ module _ {ws : List ℕ} {c g : ℕ} {ms : List ℕ} {least n : ℕ} {os ns : Li
         found = searching _ _ blocks;
         steadily =
             rw q
-            (first-steadily ws numbers ms least (above c g) f listed refl (replicate row_limit 0) (same_anywhere row_limit 0) (omega arith));
+            (first-steadily ws numbers ms least (above c g) f listed (length listed) refl (take-length listed) (replicate row_limit 0) (same_anywhere row_limit 0) (omega arith));
         whole =
             rw q
-            (first-length ws numbers ms least (above c g) f listed refl (replicate row_limit 0) (same_anywhere row_limit 0) (omega arith)
+            (first-length ws numbers ms least (above c g) f listed (length listed) refl (take-length listed) (replicate row_limit 0) (same_anywhere row_limit 0) (omega arith)
             ∙ l);
         same = refl;
         truths = λ b l. absurd (omega arith);
@@ -105,10 +123,13 @@ module _ {ws : List ℕ} {c g : ℕ} {ms : List ℕ} {least n : ℕ} {os ns : Li
     later_are : ls ≡ rows_from said 1 (above c g)
     later_are = later ∙ ap₂ (λ (x : List ℕ) (m : ℕ). rows_from x 1 m) changes_are p.up
 
+    more_are : length ls ≡ length (rows_from said 1 (above c g))
+    more_are = ap length later_are
+
     out-words : take (above c g) out ≡ words ws ms least numbers block (above c g)
     out-words =
         rw out-is
-        (later-words ws numbers ms least (above c g) s.room.few listed refl ls later_are vs k.steadily block)
+        (later-words ws numbers ms least (above c g) s.room.few listed (length listed) refl (take-length listed) ls (length ls) more_are (take-length ls ∙ later_are) vs k.steadily block)
 
     word_at : (i : ℕ) → i < above c g → get_or out i 0 ≡ get_or (words ws ms least numbers block (above c g)) i 0
     word_at i l = taken-alike out (words ws ms least numbers block (above c g)) (above c g) out-words i l
@@ -133,10 +154,10 @@ module _ {ws : List ℕ} {c g : ℕ} {ms : List ℕ} {least n : ℕ} {os ns : Li
           found = searching_on (bit_and w (get_or out g 0)) (bit_and w (ones - get_or out g 0)) k.found h true-is false-is;
           steadily =
               rw out-is
-              (later-steadily ws numbers ms least (above c g) s.room.few listed refl ls later_are vs k.steadily block);
+              (later-steadily ws numbers ms least (above c g) s.room.few listed (length listed) refl (take-length listed) ls (length ls) more_are (take-length ls ∙ later_are) vs k.steadily block);
           whole =
               rw out-is
-              (later-length ws numbers ms least (above c g) s.room.few listed refl ls later_are vs k.steadily block
+              (later-length ws numbers ms least (above c g) s.room.few listed (length listed) refl (take-length listed) ls (length ls) more_are (take-length ls ∙ later_are) vs k.steadily block
               ∙ k.whole);
           same = ap length put ∙ length-set ts block w ∙ k.same;
           truths = λ b m. rw put (go b m (ℕ_discrete b block));
@@ -187,10 +208,10 @@ module _ {ws : List ℕ} {at : ℕ} {os ns : List ℕ} {g : ℕ} (p : Comparable
       record {
         found = searching _ _ blocks;
         steadily =
-            rw e (first-steadily ws ns (guard_marks ws g) 1 (g + 1) f os p.rows (replicate row_limit 0) (same_anywhere row_limit 0) (omega arith));
+            rw e (first-steadily ws ns (guard_marks ws g) 1 (g + 1) f os (length os) (ap length p.rows) (take-length os ∙ p.rows) (replicate row_limit 0) (same_anywhere row_limit 0) (omega arith));
         whole =
             rw e
-            (first-length ws ns (guard_marks ws g) 1 (g + 1) f os p.rows (replicate row_limit 0) (same_anywhere row_limit 0) (omega arith) ∙ l);
+            (first-length ws ns (guard_marks ws g) 1 (g + 1) f os (length os) (ap length p.rows) (take-length os ∙ p.rows) (replicate row_limit 0) (same_anywhere row_limit 0) (omega arith) ∙ l);
       }
 
   module _ {vs : List ℕ} {yes' no' block : ℕ} (k : Comparing ws at ns g blocks noted vs yes' no' block) where
@@ -216,13 +237,13 @@ module _ {ws : List ℕ} {at : ℕ} {os ns : List ℕ} {g : ℕ} (p : Comparable
             })
         go false e eo ew =
             let f = guard-few in
-            let q = later-words ws ns (guard_marks ws g) 1 (g + 1) f os p.rows ls later vs k.steadily block in
+            let q = later-words ws ns (guard_marks ws g) 1 (g + 1) f os (length os) (ap length p.rows) (take-length os ∙ p.rows) ls (length ls) (ap length later) (take-length ls ∙ later) vs k.steadily block in
             let a = ew ∙ ap (λ (v : List ℕ). get_or v g 0) eo ∙ taken-alike (evaluated_to ws ls ns block vs (length ls)) _ (g + 1) q g (omega arith) in
             rw eo
             (record {
               found = searching_on (bit_and c w) (bit_and c (ones - w)) k.found h (ap₂ bit_and ec a) (ap₂ (λ (x y : ℕ). bit_and x (ones - y)) ec a);
-              steadily = later-steadily ws ns (guard_marks ws g) 1 (g + 1) f os p.rows ls later vs k.steadily block;
-              whole = later-length ws ns (guard_marks ws g) 1 (g + 1) f os p.rows ls later vs k.steadily block ∙ k.whole;
+              steadily = later-steadily ws ns (guard_marks ws g) 1 (g + 1) f os (length os) (ap length p.rows) (take-length os ∙ p.rows) ls (length ls) (ap length later) (take-length ls ∙ later) vs k.steadily block;
+              whole = later-length ws ns (guard_marks ws g) 1 (g + 1) f os (length os) (ap length p.rows) (take-length os ∙ p.rows) ls (length ls) (ap length later) (take-length ls ∙ later) vs k.steadily block ∙ k.whole;
             })
 
     pub comparing-both : (b : Bool) → blocks ≡ blocks_of (get_or ws (at + 1) 0) → b ≡ (non_zero yes' && non_zero no') → b ≡ true → Both ≡ compared ws at ns g

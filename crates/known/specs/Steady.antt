@@ -16,7 +16,7 @@ use Rattle.terms.specs.Terms.{row_in, first_atom, of_truth}
 use Rattle.terms.specs.declared.Row.{Row}
 use Rattle.rows.specs.Code.{pattern_of, row_word, word_of, words, rows_from, evaluate_row, evaluated_to, change_of, change_row, changed_to, changes_of}
 use Rattle.rows.specs.Code.Laws.{words-length, operand-out}
-use Rattle.known.specs.Ordered.{taken-alike, filled_to, after, after-length, after_kept, after-fixed, after-all}
+use Rattle.known.specs.Ordered.{taken-alike, filled_to, filled_alike, after, after-length, after_kept, after-fixed, after-all}
 use Rattle.known.specs.Words.{words-at, words_same}
 
 -- ---- words
@@ -50,16 +50,18 @@ module _ (ws : List ℕ) (ns : List ℕ) (block : ℕ) where
         ∙ rw (le-ltb (get_or ms i 0) least m, before i (row_in ws i).a h, before i (row_in ws i).b h) refl
 
     -- the rows that are listed have the mark, and the others have their words
-    module _ (fs : List ℕ) (low : ℕ) (os : List ℕ) (is : os ≡ rows_from fs low n)
+    module _ (fs : List ℕ) (low : ℕ) (os : List ℕ) (count : ℕ) (many : count ≡ length (rows_from fs low n)) (is : take count os ≡ rows_from fs low n)
         (listed : (i : ℕ) → i < n → low ≤ get_or fs i 0 → least ≤ get_or ms i 0) (vs : List ℕ) where
-      evaluated_after : evaluated_to ws os ns block vs (length os) ≡ after word_by fs low vs n
+      evaluated_after : evaluated_to ws os ns block vs count ≡ after word_by fs low vs n
       unfolding after
-      evaluated_after = evaluated_filled os vs (length os) ∙ ap (λ (l : List ℕ). filled_to word_by l vs (length l)) is
+      evaluated_after =
+          evaluated_filled os vs count ∙ filled_alike word_by os (rows_from fs low n) vs count (taken-alike os (rows_from fs low n) count is)
+          ∙ ap (filled_to word_by (rows_from fs low n) vs) many
 
-      pub evaluated_length : length (evaluated_to ws os ns block vs (length os)) ≡ length vs
+      pub evaluated_length : length (evaluated_to ws os ns block vs count) ≡ length vs
       evaluated_length = ap length evaluated_after ∙ after-length word_by fs low vs n
 
-      pub evaluated_words : n ≤ length vs → ((i : ℕ) → i < n → get_or fs i 0 < low → get_or vs i 0 ≡ get_or all i 0) → take n (evaluated_to ws os ns block vs (length os)) ≡ all
+      pub evaluated_words : n ≤ length vs → ((i : ℕ) → i < n → get_or fs i 0 < low → get_or vs i 0 ≡ get_or all i 0) → take n (evaluated_to ws os ns block vs count) ≡ all
       evaluated_words long there =
           let l = words-length ws ms least ns block n in
           ap (take n) evaluated_after
@@ -103,9 +105,9 @@ atom-steady : (r : Row) (x y u v m block : ℕ) → first_atom ≤ r.op → m < 
 unfolding row_word
 atom-steady r x y u v m block h l = rw (le-leb first_atom r.op h) (pattern_steady m block l)
 
-module _ (ws ns ms : List ℕ) (least n : ℕ) (few : n ≤ row_limit) (os : List ℕ) (is : os ≡ rows_from ms least n) where
+module _ (ws ns ms : List ℕ) (least n : ℕ) (few : n ≤ row_limit) (os : List ℕ) (count : ℕ) (many : count ≡ length (rows_from ms least n)) (is : take count os ≡ rows_from ms least n) where
   abbrev changes : List ℕ
-  changes = changes_of ws os ns (length os)
+  changes = changes_of ws os ns count
 
   change_by : List ℕ → ℕ → ℕ
   change_by hs i = change_of (row_in ws i) (get_or ns i 0) (get_or hs (row_in ws i).a 0) (get_or hs (row_in ws i).b 0)
@@ -118,7 +120,9 @@ module _ (ws ns ms : List ℕ) (least n : ℕ) (few : n ≤ row_limit) (os : Lis
   changes-after : changes ≡ after change_by ms least (replicate row_limit 0) n
   unfolding changes_of after
   changes-after =
-      changed_filled os (replicate row_limit 0) (length os) ∙ ap (λ (l : List ℕ). filled_to change_by l (replicate row_limit 0) (length l)) is
+      changed_filled os (replicate row_limit 0) count
+      ∙ filled_alike change_by os (rows_from ms least n) (replicate row_limit 0) count (taken-alike os (rows_from ms least n) count is)
+      ∙ ap (filled_to change_by (rows_from ms least n) (replicate row_limit 0)) many
 
   pub changes-length : length changes ≡ row_limit
   changes-length = ap length changes-after ∙ after-length change_by ms least (replicate row_limit 0) n ∙ length-replicate {A = ℕ} row_limit 0
@@ -183,41 +187,41 @@ pub record Steadily (ws ms : List ℕ) (least : ℕ) (ns : List ℕ) (n : ℕ) (
   pub long : n ≤ length vs
   pub there : (i : ℕ) → i < n → get_or fs i 0 < 1 → get_or vs i 0 ≡ get_or (words ws ms least ns 0 n) i 0
 
-module _ (ws ns ms : List ℕ) (least n : ℕ) (few : n ≤ row_limit) (os : List ℕ) (is : os ≡ rows_from ms least n) where
+module _ (ws ns ms : List ℕ) (least n : ℕ) (few : n ≤ row_limit) (os : List ℕ) (count : ℕ) (many : count ≡ length (rows_from ms least n)) (is : take count os ≡ rows_from ms least n) where
   abbrev said : List ℕ
-  said = changes_of ws os ns (length os)
+  said = changes_of ws os ns count
 
   none_said : (i : ℕ) → get_or said i 0 < 1 → get_or said i 0 ≡ 0
   none_said i h = omega arith
 
   -- after the first block
   module _ (vs : List ℕ) (zeros : (i : ℕ) → get_or vs i 0 ≡ 0) (long : n ≤ length vs) where
-    first-words : take n (evaluated_to ws os ns 0 vs (length os)) ≡ words ws ms least ns 0 n
+    first-words : take n (evaluated_to ws os ns 0 vs count) ≡ words ws ms least ns 0 n
     first-words =
-        evaluated_words ws ns 0 ms least n ms least os is (λ i h m. m) vs long
-        (λ i h m. zeros i ∙ sym (no_word ws ns ms least n few os is 0 i h m))
+        evaluated_words ws ns 0 ms least n ms least os count many is (λ i h m. m) vs long
+        (λ i h m. zeros i ∙ sym (no_word ws ns ms least n few os count many is 0 i h m))
 
-    pub first-length : length (evaluated_to ws os ns 0 vs (length os)) ≡ length vs
-    first-length = evaluated_length ws ns 0 ms least n ms least os is (λ i h m. m) vs
+    pub first-length : length (evaluated_to ws os ns 0 vs count) ≡ length vs
+    first-length = evaluated_length ws ns 0 ms least n ms least os count many is (λ i h m. m) vs
 
-    pub first-steadily : Steadily ws ms least ns n said (evaluated_to ws os ns 0 vs (length os))
+    pub first-steadily : Steadily ws ms least ns n said (evaluated_to ws os ns 0 vs count)
     first-steadily =
         let l = first-length in
-        record { long = omega arith; there = λ i h m. taken-alike (evaluated_to ws os ns 0 vs (length os)) _ n first-words i h }
+        record { long = omega arith; there = λ i h m. taken-alike (evaluated_to ws os ns 0 vs count) _ n first-words i h }
 
   -- after any other
-  module _ (ls : List ℕ) (later : ls ≡ rows_from said 1 n) (vs : List ℕ)
+  module _ (ls : List ℕ) (more : ℕ) (more-many : more ≡ length (rows_from said 1 n)) (later : take more ls ≡ rows_from said 1 n) (vs : List ℕ)
       (k : Steadily ws ms least ns n said vs) (block : ℕ) where
     abbrev now : List ℕ
-    now = evaluated_to ws ls ns block vs (length ls)
+    now = evaluated_to ws ls ns block vs more
 
     pub later-words : take n now ≡ words ws ms least ns block n
     later-words =
-        evaluated_words ws ns block ms least n said 1 ls later (λ i h m. change_listed ws ns ms least n few os is i m) vs k.long
-        (λ i h m. k.there i h m ∙ sym (steady ws ns ms least n few os is (suc i) i (omega arith) h (none_said i m) block))
+        evaluated_words ws ns block ms least n said 1 ls more more-many later (λ i h m. change_listed ws ns ms least n few os count many is i m) vs k.long
+        (λ i h m. k.there i h m ∙ sym (steady ws ns ms least n few os count many is (suc i) i (omega arith) h (none_said i m) block))
 
     pub later-length : length now ≡ length vs
-    later-length = evaluated_length ws ns block ms least n said 1 ls later (λ i h m. change_listed ws ns ms least n few os is i m) vs
+    later-length = evaluated_length ws ns block ms least n said 1 ls more more-many later (λ i h m. change_listed ws ns ms least n few os count many is i m) vs
 
     pub later-steadily : Steadily ws ms least ns n said now
     later-steadily =
@@ -226,5 +230,5 @@ module _ (ws ns ms : List ℕ) (least n : ℕ) (few : n ≤ row_limit) (os : Lis
         record {
           long = omega arith;
           there = λ i h m.
-              taken-alike now _ n later-words i h ∙ steady ws ns ms least n few os is (suc i) i (omega arith) h (none_said i m) block;
+              taken-alike now _ n later-words i h ∙ steady ws ns ms least n few os count many is (suc i) i (omega arith) h (none_said i m) block;
         }

@@ -1,6 +1,6 @@
 -- References by their places: a place is a symbol and its origin in one number. And when two of them are certainly different cells. Assumes nothing.
 pub mod Laws
-use Rattle.std.specs.Prelude.{Bool, ℕ, zero, suc, ◌+◌, ◌*◌, ◌/◌, ◌%◌}
+use Rattle.std.specs.Prelude.{Bool, ◌≡◌, ℕ, zero, suc, ◌+◌, ◌*◌, ◌/◌, ◌%◌}
 use Rattle.rules.specs.Symbolic.{Origin, made, initial, other, apart}
 use Rattle.terms.specs.declared.references.Origin.{Origin as Named}
 use Rattle.terms.specs.declared.references.Origin.TheVariants.{Other, Initial, Made}
@@ -19,6 +19,10 @@ origin_by zero = other
 origin_by (suc zero) = other
 origin_by (suc (suc zero)) = initial
 origin_by (suc (suc (suc n))) = made
+
+-- the number of an origin
+abbrev pub IsOrigin : ℕ → Type 0
+IsOrigin n = n ≡ origin_number (origin_by n)
 
 -- the origin that the code names
 abbrev pub origin_as : Named → Origin

@@ -53,6 +53,14 @@ module _ (i n : ℕ) where
 module _ (p : ℕ → Bool) (n : ℕ) where
   -- ---- in a loop
 
+  pub nowhere-here : (i : ℕ) → Looked p n i → i < n → p i ≡ true → false ≡ nowhere p n
+  unfolding nowhere
+  nowhere-here i l h t = sym (ap is_none (look-found p n i l h t))
+
+  pub nowhere_end : (i : ℕ) → Looked p n i → n ≤ i → true ≡ nowhere p n
+  unfolding nowhere
+  nowhere_end i l h = sym (ap is_none (look_none p n i l h))
+
   pub first-here : (i : ℕ) → Looked p n i → i < n → p i ≡ true → i ≡ first_or p n
   unfolding first_or
   first-here i l h t = sym (ap (λ (o : Option ℕ). or_else o n) (look-found p n i l h t))

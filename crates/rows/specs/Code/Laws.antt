@@ -3,7 +3,7 @@ use Rattle.std.specs.Prelude.{Bool, List, [], ◌∷◌, ◌≡◌, leb, ltb, eq
 use Rattle.std.proofs.Math.Bool.{true, false}
 use Rattle.std.proofs.Math.Path.{refl}
 use Rattle.std.proofs.Common.{ap, ◌∙◌, lt-ltb, le-ltb, le-leb, length-set, length-take}
-use Prim.Native.Nat.{ℕ, zero, suc, ◌+◌, ◌≤◌, ◌<◌}
+use Prim.Native.Nat.{ℕ, zero, suc, ◌+◌, ◌-◌, ◌/◌, ◌%◌, ◌≤◌, ◌<◌}
 use Rattle.std.proofs.Math.Decide.{dec_lt}
 use native.Mathlib.Omega.{arith}
 use Rattle.std.specs.Int.Bits.{bit_or}
@@ -12,7 +12,7 @@ use Rattle.script.specs.Tests.{pick}
 use Rattle.terms.specs.Terms.{row_in, first_atom, of_conjunction, of_exclusion, of_negation}
 use Rattle.terms.specs.declared.Row.{Row}
 use Rattle.rows.specs.declared.Counts.{Counts}
-use Rattle.rows.specs.Code.{above, operand_below, reached, mark_row, marked, seen_after, rank, tally, Visited, word_of, words}
+use Rattle.rows.specs.Code.{above, operand_below, reached, mark_row, marked, seen_after, rank, tally, Visited, spread_of, pattern_of, word_of, words}
 
 -- ---- above
 
@@ -75,6 +75,12 @@ below-atom least op mark i h = rw (lt-ltb of_exclusion op h) (go (eqb mark 0) (l
     go true b = refl
     go false true = refl
     go false false = refl
+
+-- both operands, one after the other
+pub mark_made : (ms mid last : List ℕ) (r : Row) (i f s : ℕ) → f ≡ operand_below of_negation r.op (get_or ms i 0) i → mid ≡ reached ms r.a f (get_or ms i 0)
+    → s ≡ operand_below of_conjunction r.op (get_or ms i 0) i → last ≡ reached mid r.b s (get_or ms i 0) → last ≡ mark_row ms r i
+unfolding mark_row
+mark_made ms mid last r i f s ef em es el = rw (el, em, ef, es)
 
 pub mark_row-length : (ms : List ℕ) (r : Row) (i : ℕ) → length (mark_row ms r i) ≡ length ms
 unfolding mark_row
@@ -193,6 +199,16 @@ module _ {ws ms : List ℕ} (i : ℕ) (k : Counts) where
       }
 
 -- ---- words
+
+pub past : (m k : ℕ) → k ≤ m → (m ≡ k → ⊥) → suc k ≤ m
+past m k h n = omega arith
+
+pub pattern_many : (m block : ℕ) → 8 < m → pattern_of m block ≡ spread_of (block / 8 % 2)
+unfolding pattern_of
+pattern_many m block h = go (m - 9) (omega arith)
+  where
+    go : (t : ℕ) → m ≡ suc (suc (suc (suc (suc (suc (suc (suc (suc t)))))))) → pattern_of m block ≡ spread_of (block / 8 % 2)
+    go t e = rw e refl
 
 module _ (ws ms : List ℕ) (least : ℕ) (ns : List ℕ) (block : ℕ) where
   pub words-length : (i : ℕ) → length (words ws ms least ns block i) ≡ i

@@ -3,13 +3,19 @@ use Rattle.std.specs.Prelude.{Bool, true, false, List, [], ◌∷◌, ◌++◌, 
 use Rattle.std.proofs.Math.Path.{refl, sym}
 use Rattle.std.proofs.Common.{ap, ◌∙◌, add-one, arith, length-set, length-append, take-suc-set, get_or-set_other, length-take}
 use lib.Seq.{get_or-take}
+use borrow.Author.Tests.{lt-ltb, le-ltb, eq-eqb, ne_eqb}
 use Rattle.std.proofs.Math.Decide.{le_ind}
 use Rattle.std.proofs.lemmas.List.{length-replicate}
 use Rattle.script.specs.Tests.{pick}
 use Rattle.terms.specs.Places.{row_limit, rows_end, row_at}
 use Rattle.terms.specs.Terms.{row_in, first_atom, of_truth}
-use Rattle.rows.specs.Code.{Room, marked, seen_after, rank, count_after, listed_row, rows_from, Lists, seen_at, number_row, seen_to, numbers_to, is_numbered, numbered_to, evaluate_row, evaluated_to, change_row, changed_to, changes_of, known_row, known_numbers, keep_row, kept_rows, keep_word, kept_words, kept, Keepable, guard_marks, guard_rows, GuardListed}
+use Rattle.terms.specs.declared.Row.{Row}
+use Rattle.rows.specs.Code.{Room, marked, seen_after, rank, row_word, count_after, listed_row, rows_from, Lists, seen_at, number_row, seen_to, numbers_to, is_numbered, numbered_to, evaluate_row, evaluated_to, change_of, change_row, changed_to, changes_of, known_row, known_numbers, keep_row, kept_rows, keep_word, kept_words, kept, Keepable, guard_marks, guard_rows, GuardListed, guarded_words, guarded_word}
 use Rattle.rows.specs.Code.Laws.{seen_grows}
+
+-- at the end of a loop: what holds after i turns, where no more than n are made and no fewer
+ended : (P : ℕ → Type 0) (i n : ℕ) → i ≤ n → n ≤ i → P i → P n
+ended P i n a b p = let e : i ≡ n = omega arith in rw e at p
 
 -- ---- the rows in order
 
@@ -70,6 +76,15 @@ listing_on {ms} {n} {least} {os} {ls} {count} {i} next out k h l en eo =
       rest = one_rest t os ls count i k.rest;
     })
 
+pub listing_end : {ms : List ℕ} {n least : ℕ} {os ls : List ℕ} {count i : ℕ} → Listing ms n least os ls count i → n ≤ i → Lists ms n least os count ls
+listing_end {ms} {n} {least} {os} {ls} {count} {i} k h =
+    record {
+      same = k.same;
+      many = ended (λ (m : ℕ). count ≡ length (rows_from ms least m)) i n k.within h k.many;
+      rows = ended (λ (m : ℕ). take count ls ≡ rows_from ms least m) i n k.within h k.rows;
+      rest = k.rest;
+    }
+
 -- the rows of the first marks are those below so many
 rows_from-first : (ms : List ℕ) (least n : ℕ) (m : ℕ) → m ≤ n → rows_from (take n ms) least m ≡ rows_from ms least m
 unfolding rows_from
@@ -84,6 +99,24 @@ lists-first {ms} {os} {out} {n} {least} {count} h l =
     record { same = l.same; many = l.many ∙ ap length e; rows = l.rows ∙ e; rest = l.rest }
 
 -- ---- the numbers of the atoms
+
+-- a row that is no atom has no number, and an atom has the next
+module _ (ws ns : List ℕ) (i : ℕ) (r : Row) (e : r ≡ row_in ws i) where
+  pub number-other : (seen : ℕ) → r.op < first_atom → (seen ≡ seen_at ws i seen) × (ns ≡ number_row ws ns i seen)
+  unfolding seen_at number_row
+  number-other seen h = let t = lt-ltb (row_in ws i).op first_atom (rw e at h) in (rw t, rw t)
+
+  pub number-atom : (seen : ℕ) → first_atom ≤ r.op → (seen + 1 ≡ seen_at ws i seen) × (set ns i seen ≡ number_row ws ns i seen)
+  unfolding seen_at number_row
+  number-atom seen h = let t = le-ltb (row_in ws i).op first_atom (rw e at h) in (rw t, rw t)
+
+  pub numbered-other : r.op < first_atom → true ≡ is_numbered ws ns i
+  unfolding is_numbered
+  numbered-other h = rw (lt-ltb (row_in ws i).op first_atom (rw e at h))
+
+  pub numbered-atom : first_atom ≤ r.op → ltb (get_or ns i 0) 10 ≡ is_numbered ws ns i
+  unfolding is_numbered
+  numbered-atom h = rw (le-ltb (row_in ws i).op first_atom (rw e at h))
 
 -- so many atoms are seen among the first j rows, and have their numbers
 pub record Numbering (ws os ns : List ℕ) (count : ℕ) (ls : List ℕ) (seen j : ℕ) : Type 0 where
@@ -110,6 +143,10 @@ numbering_on {ws} {os} {ns} {count} {ls} {seen} {j} next out k h en eo =
       numbers = rw (add-one j, eo, sym k.atoms, k.numbers);
     }
 
+pub numbering_end : {ws os ns : List ℕ} {count : ℕ} {ls : List ℕ} {seen j : ℕ} → Numbering ws os ns count ls seen j → count ≤ j
+    → ls ≡ numbers_to ws os ns count
+numbering_end {ws} {os} {ns} {count} {ls} {seen} {j} k h = ended (λ (m : ℕ). ls ≡ numbers_to ws os ns m) j count k.within h k.numbers
+
 -- the first j rows are numbered
 pub record Numbered (ws os ns : List ℕ) (count j : ℕ) : Type 0 where
   pub within : j ≤ count
@@ -124,6 +161,9 @@ module _ {ws os ns : List ℕ} {count : ℕ} where
       → Numbered ws os ns count (j + 1)
   unfolding numbered_to
   numbered_on {j} r k h e t = record { within = omega arith; each = rw (add-one j, sym e, t) k.each }
+
+  pub numbered_end : {j : ℕ} → Numbered ws os ns count j → count ≤ j → true ≡ numbered_to ws os ns count
+  numbered_end {j} k h = sym (ended (λ (m : ℕ). numbered_to ws os ns m ≡ true) j count k.within h k.each)
 
 -- one that has none is enough
 fails : (b r : Bool) → r ≡ false → pick b r false ≡ false
@@ -142,6 +182,13 @@ numbered-not ws os ns count j r h e f =
 
 -- ---- the words
 
+pub evaluated_row : (ws ns : List ℕ) (block : ℕ) (vs : List ℕ) (i : ℕ) (r : Row) (x y w : ℕ) → r ≡ row_in ws i → x ≡ get_or (take i vs) r.a 0
+    → y ≡ get_or (take i vs) r.b 0 → w ≡ row_word r x y (get_or ns i 0) block → set vs i w ≡ evaluate_row ws ns block vs i
+unfolding evaluate_row
+evaluated_row ws ns block vs i r x y w e ex ey ew =
+    ap (λ (v : ℕ). set vs i v) (rw (ew, ex, ey))
+    ∙ ap (λ (q : Row). set vs i (row_word q (get_or (take i vs) q.a 0) (get_or (take i vs) q.b 0) (get_or ns i 0) block)) e
+
 -- the first j rows have their words
 pub record Evaluating (ws os ns : List ℕ) (block count : ℕ) (vs ls : List ℕ) (j : ℕ) : Type 0 where
   pub within : j ≤ count
@@ -158,7 +205,19 @@ unfolding evaluated_to evaluate_row
 evaluating_on {ws} {os} {ns} {block} {count} {vs} {ls} {j} out k h eo =
     record { within = omega arith; same = rw eo (length-set ls (get_or os j 0) _ ∙ k.same); words = rw (add-one j, eo, k.words) }
 
+pub evaluating_end : {ws os ns : List ℕ} {block count : ℕ} {vs ls : List ℕ} {j : ℕ} → Evaluating ws os ns block count vs ls j → count ≤ j
+    → ls ≡ evaluated_to ws os ns block vs count
+evaluating_end {ws} {os} {ns} {block} {count} {vs} {ls} {j} k h =
+    ended (λ (m : ℕ). ls ≡ evaluated_to ws os ns block vs m) j count k.within h k.words
+
 -- ---- whether the words of the rows may differ
+
+pub changed_row : (ws ns hs : List ℕ) (i : ℕ) (r : Row) (x y w : ℕ) → r ≡ row_in ws i → x ≡ get_or (take i hs) r.a 0
+    → y ≡ get_or (take i hs) r.b 0 → w ≡ change_of r (get_or ns i 0) x y → set hs i w ≡ change_row ws ns hs i
+unfolding change_row
+changed_row ws ns hs i r x y w e ex ey ew =
+    ap (λ (v : ℕ). set hs i v) (rw (ew, ex, ey))
+    ∙ ap (λ (q : Row). set hs i (change_of q (get_or ns i 0) (get_or (take i hs) q.a 0) (get_or (take i hs) q.b 0))) e
 
 -- of the first j rows it is said
 pub record Changing (ws os ns : List ℕ) (count : ℕ) (vs ls : List ℕ) (j : ℕ) : Type 0 where
@@ -175,6 +234,11 @@ pub changing_on : {ws os ns : List ℕ} {count : ℕ} {vs ls : List ℕ} {j : �
 unfolding changed_to change_row
 changing_on {ws} {os} {ns} {count} {vs} {ls} {j} out k h eo =
     record { within = omega arith; same = rw eo (length-set ls (get_or os j 0) _ ∙ k.same); changes = rw (add-one j, eo, k.changes) }
+
+pub changing_end : {ws os ns : List ℕ} {count : ℕ} {vs ls : List ℕ} {j : ℕ} → Changing ws os ns count vs ls j → count ≤ j
+    → ls ≡ changed_to ws os ns vs count
+changing_end {ws} {os} {ns} {count} {vs} {ls} {j} k h =
+    ended (λ (m : ℕ). ls ≡ changed_to ws os ns vs m) j count k.within h k.changes
 
 pub begun : (ws os ns : List ℕ) (count n : ℕ) {hs start out : List ℕ} {r : ℕ} → hs ≡ changed_to ws os ns (replicate row_limit 0) count
     → Lists hs n 1 start r out → Lists (changes_of ws os ns count) n 1 start r out
@@ -198,6 +262,10 @@ unfolding known_numbers
 recalling_on {ws} {at} {ns} {count} {ls} {j} k h =
     record { within = omega arith; same = length-set ls (known_row ws at j) j ∙ k.same; numbers = rw (add-one j, k.numbers) }
 
+pub recalling_end : {ws : List ℕ} {at : ℕ} {ns : List ℕ} {count : ℕ} {ls : List ℕ} {j : ℕ} → Recalling ws at ns count ls j → count ≤ j
+    → ls ≡ known_numbers ws at ns count
+recalling_end {ws} {at} {ns} {count} {ls} {j} k h = ended (λ (m : ℕ). ls ≡ known_numbers ws at ns m) j count k.within h k.numbers
+
 -- ---- what is kept
 
 -- the first rows have no more atoms than all
@@ -218,6 +286,28 @@ two-low : (s t : Bool) (ls : List ℕ) (k v j : ℕ) → j < k → get_or (pick 
 two-low true t ls k v j h = refl
 two-low false true ls k v j h = refl
 two-low false false ls k v j h = get_or-set_other ls k j v 0 (λ e. omega arith)
+
+-- a row with no mark is not kept, nor is one that is no atom
+pub keep_unmarked : (ws : List ℕ) (at mark i count : ℕ) → mark < 1
+    → (count ≡ seen_after (row_in ws i).op mark 1 count) × (ws ≡ keep_row ws at mark i count)
+unfolding seen_after keep_row
+keep_unmarked ws at mark i count h = let t = lt-ltb mark 1 h in (rw t, rw t)
+
+pub keep-other : (ws : List ℕ) (at mark i count : ℕ) (r : Row) → r ≡ row_in ws i → 1 ≤ mark → r.op < first_atom
+    → (count ≡ seen_after (row_in ws i).op mark 1 count) × (ws ≡ keep_row ws at mark i count)
+unfolding seen_after keep_row
+keep-other ws at mark i count r e m h =
+    let s = le-ltb mark 1 m in
+    let t = lt-ltb (row_in ws i).op first_atom (rw e at h) in
+    (rw (s, t), rw (s, t))
+
+pub keep-atom : (ws : List ℕ) (at mark i count : ℕ) (r : Row) → r ≡ row_in ws i → 1 ≤ mark → first_atom ≤ r.op
+    → (count + 1 ≡ seen_after (row_in ws i).op mark 1 count) × (set ws (at + 2 + count) i ≡ keep_row ws at mark i count)
+unfolding seen_after keep_row
+keep-atom ws at mark i count r e m h =
+    let s = le-ltb mark 1 m in
+    let t = le-ltb (row_in ws i).op first_atom (rw e at h) in
+    (rw (s, t), rw (s, t))
 
 pub keep_row-length : (ws : List ℕ) (at mark i count : ℕ) → length (keep_row ws at mark i count) ≡ length ws
 unfolding keep_row
@@ -269,6 +359,11 @@ keeping_on {ws} {at} {ms} {n} {ls} {count} {i} next out p k h en eo =
       rows = rw (add-one i, eo, sym k.atoms, sym k.rows);
     }
 
+pub keeping_end : {ws : List ℕ} {at : ℕ} {ms : List ℕ} {n : ℕ} {ls : List ℕ} {count i : ℕ} → Keeping ws at ms n ls count i → n ≤ i
+    → (count ≡ rank ws ms 1 n) × (ls ≡ kept_rows ws at ms n)
+keeping_end {ws} {at} {ms} {n} {ls} {count} {i} k h =
+    ended (λ (m : ℕ). (count ≡ rank ws ms 1 m) × (ls ≡ kept_rows ws at ms m)) i n k.within h (k.atoms, k.rows)
+
 -- the truths of the first blocks are kept
 pub keep_word-length : (ws : List ℕ) (at block w : ℕ) → length (keep_word ws at block w) ≡ length ws
 unfolding keep_word
@@ -295,10 +390,33 @@ storing_on {ws} {at} {ts} {blocks} {ls} {block} out k h eo =
       words = rw (add-one block, eo, k.words);
     }
 
+pub storing_end : {ws : List ℕ} {at : ℕ} {ts : List ℕ} {blocks : ℕ} {ls : List ℕ} {block : ℕ} → Storing ws at ts blocks ls block → blocks ≤ block
+    → ls ≡ kept_words ws at ts blocks
+storing_end {ws} {at} {ts} {blocks} {ls} {block} k h = ended (λ (m : ℕ). ls ≡ kept_words ws at ts m) block blocks k.within h k.words
+
 pub kept_words-length : (ws : List ℕ) (at : ℕ) (ts : List ℕ) (blocks : ℕ) → length (kept_words ws at ts blocks) ≡ length ws
 unfolding kept_words
 kept_words-length ws at ts zero = refl
 kept_words-length ws at ts (suc block) = keep_word-length (kept_words ws at ts block) at block (get_or ts block 0) ∙ kept_words-length ws at ts block
+
+-- the parts one after the other: the rows, the words, how many, and that there is something
+module _ (ws : List ℕ) (at : ℕ) (ms : List ℕ) (n blocks : ℕ) (ts : List ℕ) {rows out : List ℕ} (er : rows ≡ kept_rows ws at ms n)
+    (eo : out ≡ kept_words rows at ts blocks) where
+  kept-long : length out ≡ length ws
+  kept-long = ap length eo ∙ kept_words-length rows at ts blocks ∙ ap length er ∙ kept_rows-length ws at ms n
+
+  pub kept-room : (count : ℕ) → at < length ws → at < length (set out (at + 1) count)
+  kept-room count h =
+      let l = kept-long in
+      let s = length-set out (at + 1) count in
+      omega arith
+
+  pub kept_same : (count : ℕ) → length (set (set out (at + 1) count) at 1) ≡ length ws
+  kept_same count = length-set (set out (at + 1) count) at 1 ∙ length-set out (at + 1) count ∙ kept-long
+
+  pub kept-made : (count : ℕ) → count ≡ rank ws ms 1 n → set (set out (at + 1) count) at 1 ≡ kept ws at ms n blocks ts
+  unfolding kept
+  kept-made count ec = rw (eo, er, ec)
 
 -- what is kept is of the first marks
 rank-first : (ws ms : List ℕ) (least n m : ℕ) → m ≤ n → rank ws (take n ms) least m ≡ rank ws ms least m
@@ -340,3 +458,13 @@ pub guard-listed : (ws : List ℕ) (g : ℕ) (os : List ℕ) {ms : List ℕ} {co
     → Lists ms (g + 1) 1 os count out → GuardListed ws g os count out
 unfolding guard_rows guard_marks
 guard-listed ws g os e k = record { same = k.same; many = rw e at k.many; rows = rw e at k.rows; rest = k.rest }
+
+pub guarded_none : (ws os : List ℕ) (count : ℕ) (ns : List ℕ) (block : ℕ) (vs : List ℕ) (g c : ℕ) → c ≡ 0
+    → (vs ≡ guarded_words ws os count ns block vs c) × (0 ≡ guarded_word vs g c)
+unfolding guarded_words guarded_word
+guarded_none ws os count ns block vs g c e = let t = eq-eqb c 0 e in (rw t, rw t)
+
+pub guarded_some : (ws os : List ℕ) (count : ℕ) (ns : List ℕ) (block : ℕ) (vs out : List ℕ) (g c : ℕ) → (c ≡ 0 → ⊥)
+    → out ≡ evaluated_to ws os ns block vs count → (out ≡ guarded_words ws os count ns block vs c) × (get_or out g 0 ≡ guarded_word out g c)
+unfolding guarded_words guarded_word
+guarded_some ws os count ns block vs out g c n e = let t = ne_eqb c 0 n in (rw t e, rw t)

@@ -4,9 +4,32 @@ use Rattle.std.proofs.Math.Path.{refl}
 use Rattle.std.proofs.Common.{sym, ◌∙◌, length-set}
 use borrow.Author.Tests.{eq-eqb, ne_eqb, lt-ltb, le-ltb}
 use Rattle.script.specs.Tests.{pick}
-use Rattle.terms.specs.Atoms.{found_or, atom_row_of, atom_left, references_row, references_left}
+use Rattle.terms.specs.Atoms.{found_or, holds, is_atom, atom_row_of, atom_left, references_row, references_left}
 use Rattle.terms.specs.References.{symbol_at, apart_at}
 use Rattle.terms.specs.Terms.{count_in, pushed, of_constant, of_pair}
+use Rattle.terms.specs.declared.Row.{Row}
+
+module _ (row : Row) (a b : ℕ) where
+  pub holds_a : (row.a ≡ a → ⊥) → false ≡ holds row a b
+  unfolding holds
+  holds_a n = rw (ne_eqb row.a a n) refl
+
+  pub holds_b : row.a ≡ a → eqb row.b b ≡ holds row a b
+  unfolding holds
+  holds_b e = rw (eq-eqb row.a a e) refl
+
+module _ (op a b : ℕ) (row : Row) where
+  pub atom-other : (row.op ≡ op → ⊥) → false ≡ is_atom op a b row
+  unfolding is_atom
+  atom-other n = rw (ne_eqb row.op op n) refl
+
+  pub atom-straight : row.op ≡ op → holds row a b ≡ true → true ≡ is_atom op a b row
+  unfolding is_atom
+  atom-straight e t = rw (eq-eqb row.op op e, t) refl
+
+  pub atom-crossed : row.op ≡ op → holds row a b ≡ false → holds row b a ≡ is_atom op a b row
+  unfolding is_atom
+  atom-crossed e t = rw (eq-eqb row.op op e, t) refl
 
 -- ---- found or made
 

@@ -1,9 +1,9 @@
 -- The place of a reference has its symbol and its origin; and what the code answers of two places, case by case. Assumes nothing.
-use Rattle.std.specs.Prelude.{false, not, ◌≡◌, refl, ℕ, zero, suc, ◌+◌, ◌%◌, ◌≤◌, ◌<◌, eqb}
+use Rattle.std.specs.Prelude.{false, not, ◌≡◌, refl, ℕ, zero, suc, ◌+◌, ◌*◌, ◌%◌, ◌≤◌, ◌<◌, eqb}
 use Rattle.std.proofs.Math.Path.{sym}
-use Rattle.std.proofs.Common.{arith}
+use Rattle.std.proofs.Common.{ap, arith}
 use Rattle.rules.specs.Symbolic.{Origin, made, initial, other, apart}
-use Rattle.terms.specs.References.{origins, origin_number, origin_by, reference_at, symbol_at, origin_at, apart_at}
+use Rattle.terms.specs.References.{origins, origin_number, origin_by, IsOrigin, reference_at, symbol_at, origin_at, apart_at}
 
 pub symbol_of : (o : Origin) (s : ℕ) → symbol_at (reference_at o s) ≡ s
 symbol_of made s = omega arith
@@ -22,6 +22,15 @@ by_number other = refl
 
 pub origin_of : (o : Origin) (s : ℕ) → origin_at (reference_at o s) ≡ o
 origin_of o s = rw (number_of o s) (by_number o)
+
+pub reference_is : (s n : ℕ) → IsOrigin n → origins * s + n ≡ reference_at (origin_by n) s
+reference_is s n e = ap (λ (k : ℕ). origins * s + k) e
+
+pub origin-below : (n : ℕ) → IsOrigin n → n < origins
+origin-below zero e = omega arith
+origin-below (suc zero) e = omega arith
+origin-below (suc (suc zero)) e = omega arith
+origin-below (suc (suc (suc n))) e = omega arith
 
 pub apart_of : (o : Origin) (s : ℕ) (p : Origin) (u : ℕ) → apart_at (reference_at o s) (reference_at p u) ≡ apart o s p u
 unfolding apart_at

@@ -1,26 +1,32 @@
 -- What the code computes of a difference, case by case: each law is what one answer of the code cites. Assumes nothing.
 use Rattle.std.specs.Prelude.{◌≡◌, ℕ, zero, suc, ◌+◌, ◌*◌, ◌%◌, ◌^◌, ◌<◌, ◌≤◌, Bool, true, false, not, List, length, take, drop, replicate, ◌==◌, ◌≢◌, nat_lt, slice_index, slice_set}
 use Rattle.std.proofs.Math.Path.{refl, ap}
-use Rattle.std.proofs.Common.{sym, ◌∙◌, zero-mul, arith}
+use Rattle.std.proofs.Common.{sym, ◌∙◌, mul-le-mul_left, mul-lt-mul_of_pos_right, lt_of_le_of_lt, le_of_lt, zero-mul, arith, lit<}
 use Rattle.std.proofs.Math.ListN.{length-set}
 use Rattle.std.proofs.lemmas.Grind.{common_steps, get_or_after_one}
 use Rattle.std.proofs.lemmas.Bool.{not-false}
 use Rattle.std.proofs.lemmas.Bool.Decides.{same_from_decides}
 use Rattle.std.proofs.lemmas.List.{length-replicate, set-get_or, ext_get_or, get_or-take}
 use Rattle.std.specs.Bool.{Decides}
-use borrow.Author.Tests.{eqb-true, ltb-true, ltb-false, eq-eqb, ne_eqb, lt-ltb}
+use borrow.Author.Tests.{eqb-true, ltb-true, ltb-false, eq-eqb, ne_eqb, lt-ltb, le-ltb}
 use Rattle.script.specs.Tests.{pick}
 use Rattle.script.specs.Tests.Laws.{both_true, true-both}
 use Rattle.terms.specs.Places.{row_limit, symbol_limit}
 use Rattle.terms.specs.Search.{nowhere, nowhere-each, each-nowhere}
 use Rattle.terms.specs.Terms.{row_in, of_number, of_sum, of_symbol}
 use Rattle.terms.specs.declared.Row.{Row}
-use Rattle.words.specs.Sums.{place_count, added, joins, is_symbol, spread, gather, passed, rows_to, start_weights, subtracted, no_numbers, numbers_of, constant_numbers, same_numbers, Room, Two}
+use Rattle.words.specs.Sums.{place_count, added, joins, is_symbol, spread, gather, passed, rows_to, start_weights, subtracted, no_numbers, numbers_of, constant_numbers, alike, same_numbers, opposite_numbers, Room, Two}
 
 -- ---- tests of numbers
 
+pub differs : (x y : ℕ) → (x ≢ y) → not (x == y) ≡ true
+differs x y n = ap not (ne_eqb x y n)
+
 pub agrees : (x y : ℕ) → x ≡ y → not (x == y) ≡ false
 agrees x y e = ap not (eq-eqb x y e)
+
+pub product_fits : (v w : ℕ) → v < 2 ^ 32 → w < 2 ^ 32 → v * w < 2 ^ 64
+product_fits v w h k = lt_of_le_of_lt (mul-le-mul_left v (le_of_lt k)) (mul-lt-mul_of_pos_right h (lit< tt))
 
 pub not-told : (x y : ℕ) → not (x == y) ≡ false → x ≡ y
 not-told x y t = eqb-true x y (not-false (x == y) t)
@@ -57,6 +63,14 @@ module _ (row : Row) (op i : ℕ) where
   unfolding joins
   joins_op n = rw (ne_eqb row.op op n) refl
 
+  pub joins_a : row.op ≡ op → i ≤ row.a → false ≡ joins row op i
+  unfolding joins
+  joins_a e l = rw (eq-eqb row.op op e, le-ltb row.a i l) refl
+
+  pub joins_b : row.op ≡ op → row.a < i → nat_lt row.b i ≡ joins row op i
+  unfolding joins
+  joins_b e l = rw (eq-eqb row.op op e, lt-ltb row.a i l) refl
+
 -- what the test tells
 pub record Joined (row : Row) (op i : ℕ) : Type 0 where
   pub is : row.op ≡ op
@@ -83,6 +97,10 @@ module _ (row : Row) where
   pub symbol_op : (row.op ≢ of_symbol) → false ≡ is_symbol row
   unfolding is_symbol
   symbol_op n = rw (ne_eqb row.op of_symbol n) refl
+
+  pub symbol_a : row.op ≡ of_symbol → nat_lt row.a symbol_limit ≡ is_symbol row
+  unfolding is_symbol
+  symbol_a e = rw (eq-eqb row.op of_symbol e) refl
 
 -- what the test tells
 pub record SymbolOf (row : Row) : Type 0 where
@@ -198,6 +216,9 @@ pub record Passing (ws : List ℕ) (top : ℕ) (weights₀ numbers₀ : List ℕ
   pub reduced : Reduced numbers
   pub rest : passed ws i weights numbers ≡ passed ws top weights₀ numbers₀
 
+pub passing_start : (ws : List ℕ) (top : ℕ) (weights numbers : List ℕ) → Reduced numbers → Passing ws top weights numbers top weights numbers
+passing_start ws top weights numbers h = record { within = omega arith; weighted = refl; placed = refl; reduced = h; rest = refl }
+
 passed-next : (ws : List ℕ) (i j : ℕ) (weights numbers : List ℕ) → i ≡ suc j
     → passed ws i weights numbers
     ≡ passed ws j (spread weights (row_in ws j) j (slice_index weights j)) (gather numbers (row_in ws j) (slice_index weights j))
@@ -237,6 +258,14 @@ passed_length ws (suc i) weights numbers = passed_length ws i _ _ ∙ gather-len
 
 -- ---- how far the pass goes
 
+pub rows-second : (p q : ℕ) → p < q → q + 1 ≡ rows_to p q
+unfolding rows_to
+rows-second p q h = rw (lt-ltb p q h) refl
+
+pub rows-first : (p q : ℕ) → q ≤ p → p + 1 ≡ rows_to p q
+unfolding rows_to
+rows-first p q h = rw (le-ltb p q h) refl
+
 -- both rows are passed, and no row but those up to them
 pub record Reach (p q n : ℕ) : Type 0 where
   pub first : p < n
@@ -269,8 +298,22 @@ start-room {p = p} {q = q} t s = record {
   weighted = rw s.is (simp (length-set, length-replicate) (omega arith));
 }
 
+pub start-passed : {p q n : ℕ} {weights : List ℕ} (ws numbers ys : List ℕ) → Started p q n weights → ys ≡ passed ws n weights numbers
+    → ys ≡ subtracted ws p q numbers
+start-passed ws numbers ys s e = rw (s.rows, s.is) at e
+
 pub subtracted-length : (ws : List ℕ) (p q : ℕ) (numbers : List ℕ) → length (subtracted ws p q numbers) ≡ length numbers
 subtracted-length ws p q numbers = passed_length ws (rows_to p q) (start_weights p q) numbers
 
 pub numbers-length : (ws : List ℕ) (p q : ℕ) (ys : List ℕ) → ys ≡ numbers_of ws p q → length ys ≡ place_count
 numbers-length ws p q ys e = ap length e ∙ subtracted-length ws p q no_numbers
+
+-- ---- one atom
+
+pub alike_same : (xs ys : List ℕ) → same_numbers xs ys ≡ true → true ≡ alike xs ys
+unfolding alike
+alike_same xs ys t = rw t refl
+
+pub alike-opposite : (xs ys : List ℕ) → same_numbers xs ys ≡ false → opposite_numbers xs ys ≡ alike xs ys
+unfolding alike
+alike-opposite xs ys t = rw t refl

@@ -1,7 +1,8 @@
 -- What the code answers of equal words, case by case: each law is what one answer of the code cites. Assumes nothing.
-use Rattle.std.specs.Prelude.{◌≡◌, ℕ, ◌<◌, Bool, true, false, List, length, ◌==◌, slice_index}
+use Rattle.std.specs.Prelude.{◌≡◌, ℕ, ◌<◌, Bool, true, false, List, length, ◌==◌, ◌≢◌, slice_index}
 use Rattle.std.proofs.Math.Path.{refl}
 use Rattle.std.proofs.Common.{ap, arith, length-set}
+use borrow.Author.Tests.{eq-eqb, ne_eqb}
 use Rattle.script.specs.Tests.{pick}
 use Rattle.terms.specs.Atoms.Laws.{found-length}
 use Rattle.terms.specs.Terms.{row_in, count_in, Space, pushed, bit_of, of_constant, of_difference}
@@ -48,6 +49,14 @@ module _ (ws : List ℕ) (p q : ℕ) (ys : List ℕ) (e : ys ≡ numbers_of ws p
   pub row-constant : constant_numbers ys ≡ true → count_in ws ≡ equal_row ws p q
   unfolding equal_row
   row-constant t = rw (rw e at t) refl
+
+  pub left-zero : constant_numbers ys ≡ true → slice_index ys 0 ≡ 0 → pushed ws of_constant 1 0 ≡ equal_left ws p q
+  unfolding equal_left
+  left-zero t z = rw (rw e at t, eq-eqb (slice_index (numbers_of ws p q) 0) 0 (rw e at z)) refl
+
+  pub left_other : constant_numbers ys ≡ true → (slice_index ys 0 ≢ 0) → pushed ws of_constant 0 0 ≡ equal_left ws p q
+  unfolding equal_left
+  left_other t n = rw (rw e at t, ne_eqb (slice_index (numbers_of ws p q) 0) 0 (λ z. n (rw e z))) refl
 
   pub left-bit : constant_numbers ys ≡ true → (n : ℕ) → n ≡ bit_of (slice_index ys 0 == 0) → pushed ws of_constant n 0 ≡ equal_left ws p q
   left-bit t n f = rw (f, e) (left-constant ws p q (rw e at t))
