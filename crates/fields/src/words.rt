@@ -16,7 +16,15 @@ pub const LENGTHS: [usize; KINDS as usize] = [3, 4, 5, 3, 3, 2, 3, 3, 2, 3, 3, 3
 pub fn same(a: &[u8], b: &[u8]) -> bool
     ensures { result ≡ same_bytes a.now b.now }
 {
-    a == b
+    if a.len() != b.len() {
+        return false;
+    }
+    for i in 0..a.len() {
+        if a[i] != b[i] {
+            return false;
+        }
+    }
+    true
 }
 
 // The kind whose word the field is.
