@@ -1,8 +1,9 @@
 -- The rules of `ref`, `get`, `set` and of a typed block on the log in its numbers. Assumes nothing.
-use Rattle.std.specs.Prelude.{Bool, true, false, List, ◌≡◌, length, get_or, Some, None, Ok, Err}
+use Rattle.script.specs.Answers.Named.{same_parts}
+use Rattle.std.specs.Prelude.{Bool, true, false, List, ◌≡◌, length, get_or, Some, None, Ok, Err, ℕ}
 use Rattle.std.proofs.Math.Option.{Option, none, some}
 use Rattle.std.proofs.Math.Path.{refl, sym}
-use Rattle.std.proofs.Common.{◌∙◌, length-set, get_or-set_same, get_or-set_other}
+use Rattle.std.proofs.Common.{◌∙◌, length-set, get_or-set_same, get_or-set_other, arith}
 use Prim.Native.Nat.{ℕ, suc, ◌+◌, ◌-◌, ◌≤◌, ◌<◌}
 use native.Mathlib.Omega.{arith}
 use borrow.Author.Tests.{le-leb, lt-leb, lt-ltb, le-ltb}
@@ -274,3 +275,14 @@ module _ (n t : ℕ) {ws : List ℕ} {b : Bool} (e : b ≡ consistent_in ws) whe
           yields = λ p h. rw (log_is e h z) (fresh-yields t t refl y (emptied-path h));
           exactly = rw (sym e ∙ z, y.place_is, y.left_is) refl;
         }
+
+-- ---- what `lookup` finds, as values
+
+nothing-found : {u i : ℕ} → ◌≡◌ {A = Found} None (Some (u, i)) → ⊥
+nothing-found e = let z : ◌≡◌ {A = ℕ} 0 1 = cc in omega arith
+
+found_type : {u i w j : ℕ} → ◌≡◌ {A = Found} (Some (w, j)) (Some (u, i)) → w ≡ u
+found_type e = (same_parts e).0
+
+found-place : {u i w j : ℕ} → ◌≡◌ {A = Found} (Some (w, j)) (Some (u, i)) → j ≡ i
+found-place e = (same_parts e).1

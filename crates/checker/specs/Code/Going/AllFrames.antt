@@ -90,3 +90,26 @@ module _ {table ws fs left gs : List ℕ} {t q u s : ℕ} (c : Climbing table t 
           ended = λ i. cc;
           rises = λ i. cc;
         }
+
+-- ---- moves that are the same
+
+same-type : {t q u s : ℕ} → ◌≡◌ {A = Moved} (Ok (Value t q)) (Ok (Value u s)) → t ≡ u
+same-type e = cc
+
+same_place : {t q u s : ℕ} → ◌≡◌ {A = Moved} (Ok (Value t q)) (Ok (Value u s)) → q ≡ s
+same_place e = cc
+
+same_operand : {m k : ℕ} → ◌≡◌ {A = Moved} (Ok (Operand m)) (Ok (Operand k)) → m ≡ k
+same_operand e = cc
+
+same_stop : {x y : Refusal} → ◌≡◌ {A = Moved} (Err x) (Err y) → x ≡ y
+same_stop e = cc
+
+pub value-not-operand : {t q m : ℕ} → ◌≡◌ {A = Moved} (Ok (Value t q)) (Ok (Operand m)) → ⊥
+value-not-operand e = let z : ◌≡◌ {A = ℕ} 0 1 = cc in omega arith
+
+pub stopped-not-operand : {x : Refusal} {m : ℕ} → ◌≡◌ {A = Moved} (Err x) (Ok (Operand m)) → ⊥
+stopped-not-operand e = let z : ◌≡◌ {A = ℕ} 0 1 = cc in omega arith
+
+pub stopped-not-value : {x : Refusal} {t q : ℕ} → ◌≡◌ {A = Moved} (Err x) (Ok (Value t q)) → ⊥
+stopped-not-value e = let z : ◌≡◌ {A = ℕ} 0 1 = cc in omega arith

@@ -1,8 +1,10 @@
 -- The end of a path: its log, its type, and the path that follows; and the loop over the paths. Assumes nothing.
-use Rattle.std.specs.Prelude.{Bool, true, false, not, ◌≡◌, ℕ, suc, ◌≤◌, eqb, Option, Ok, Err, unwrap_or}
+use Rattle.script.specs.Tests.{pick}
+use Rattle.std.specs.Prelude.{Bool, true, false, not, ◌≡◌, ℕ, suc, ◌≤◌, eqb, Option, Ok, Err, unwrap_or, ◌||◌}
 use mathlib.Core.List.{List, [], ◌∷◌, ◌++◌}
 use Rattle.std.proofs.Math.Path.{refl, ap}
 use Rattle.std.proofs.Common.{sym, ◌∙◌, arith}
+use Rattle.std.proofs.lemmas.Bool.{false≢true}
 use borrow.Author.Tests.{not-true, not-false, eqb-true, eq-eqb}
 use Rattle.script.specs.declared.Refusal.TheVariants.{InconsistentLog, PathTypesDiffer}
 use Rattle.rules.specs.Paths.{Leaf, ended, leaves, consistent}
@@ -119,3 +121,13 @@ module _ {table ws fs : List ℕ} {t n : ℕ} {wanted : Option ℕ} (x : AtEnd t
 
 pub path_resumable : {table ws fs : List ℕ} {t : ℕ} → AtEnd table ws fs t → (forked_in fs ≡ 0 → ⊥) → Resumable table ws fs
 path_resumable x z = end_resumable x.returnable.returning x.none (omega arith)
+
+-- ---- a type and the one wanted, where a path may be the first
+
+right-type : (t wanted : ℕ) (first : Bool) → (first || eqb t wanted) ≡ true → pick first t wanted ≡ t
+right-type t wanted true e = refl
+right-type t wanted false e = sym (eqb-true t wanted e)
+
+other-type : (t wanted : ℕ) (first : Bool) → (first || eqb t wanted) ≡ false → eqb t (pick first t wanted) ≡ false
+other-type t wanted true e = absurd (false≢true (sym e))
+other-type t wanted false e = e
