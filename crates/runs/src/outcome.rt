@@ -79,24 +79,6 @@ fn say_unread(rt: &impl Print, why: Refusal) -> io::Result<()> {
     print!(rt; "\tunread")
 }
 
-// Runs a script that was read, on cells that hold what `before` holds, and then prints what came of it.
-fn try_script(
-    rt: &impl Print,
-    table: &[u32],
-    nodes: usize,
-    entries: &[u32],
-    entry_count: usize,
-    values: &[u8],
-    before: &[u8],
-    cells: &mut [u8],
-    used: u32,
-) -> io::Result<()>
-    ensures { cells.new ≡ (run_table (table_as table.now nodes entries.now entry_count) values.now cells.old used).cells }
-{
-    let answer = calls::run(table, nodes, entries, entry_count, values, cells, used);
-    say_ran(rt, before, cells, answer)
-}
-
 // Reads a text, and runs it if it could be read. The line is left open. Whether the printing fails or not, the cells hold what the run leaves.
 pub fn try_text(
     rt: &impl Print,
@@ -111,12 +93,14 @@ pub fn try_text(
     let mut table = [0u32; WIDTH * Script::NODES];
     let mut entries = [0u32; 16];
     match call_texts::read(text, &mut table, &mut entries) {
-        Ok(script) => {
-            let nodes = script.nodes;
-            let count = script.entries;
-            try_script(
-                rt, &table, nodes, &entries, count, values, before, cells, used,
-            )
+        Ok(
+            Script {
+                nodes,
+                entries: count,
+            },
+        ) => {
+            let answer = calls::run(&table, nodes, &entries, count, values, cells, used);
+            say_ran(rt, before, cells, answer)
         }
         Err(why) => say_unread(rt, why),
     }

@@ -20,17 +20,10 @@ pub struct Round {
     pub wrote: Result<usize, Refusal>,
 }
 
-// Prints whether the places from these counts on hold what reading leaves in unused places.
-fn say_clean(
-    rt: &impl Print,
-    table: &[u32],
-    nodes: usize,
-    entries: &[u32],
-    used: usize,
-) -> io::Result<()> {
-    let clear = nodes_clear(table, nodes);
-    let zero = entries_clear(entries, used);
-    say_either(rt, clear && zero, "clean", "dirty")
+// Prints whether the places after these counts hold what reading leaves in unused places.
+fn say_clean(rt: &impl Print, table: &[u32], entries: &[u32], used: Script) -> io::Result<()> {
+    let clear = nodes_clear(table, used.nodes) && entries_clear(entries, used.entries);
+    say_either(rt, clear, "clean", "dirty")
 }
 
 // Prints whether the output from `from` on is as it was.
@@ -47,15 +40,14 @@ fn say_same(rt: &impl Print, text: &[u8], out: &[u8], length: usize) -> io::Resu
 // Writes a table that was read.
 fn try_writer(
     table: &[u32],
-    nodes: usize,
     entries: &[u32],
-    used: usize,
+    script: Script,
     out: &mut [u8],
 ) -> Result<usize, Refusal>
-    ensures { out.new ≡ wrote_by table.now nodes entries.now «used» out.old }
+    ensures { out.new ≡ wrote_by table.now script.nodes entries.now script.entries out.old }
 {
     out.fill(BLANK);
-    call_texts::write(table, nodes, entries, used, out)
+    call_texts::write(table, script.nodes, entries, script.entries, out)
 }
 
 // Prints what came of the writing of what was read from `text`.
@@ -91,7 +83,7 @@ pub fn try_text(
     table.fill(STALE);
     entries.fill(STALE);
     let script = call_texts::read(text, table, entries)?;
-    let wrote = try_writer(table, script.nodes, entries, script.entries, out);
+    let wrote = try_writer(table, entries, script, out);
     Ok(Round { script, wrote })
 }
 
@@ -107,12 +99,12 @@ pub fn say_text(
     match round {
         Ok(Round { script, wrote }) => {
             print!(rt; "read\t{}\t{}", script.nodes, script.entries)?;
-            say_clean(rt, table, script.nodes, entries, script.entries)?;
+            say_clean(rt, table, entries, script)?;
             say_wrote(rt, text, out, wrote)
         }
         Err(why) => {
             say_refusal(rt, why)?;
-            say_clean(rt, table, 0, entries, 0)
+            say_clean(rt, table, entries, Script::empty())
         }
     }
 }
