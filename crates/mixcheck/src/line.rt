@@ -12,6 +12,7 @@ use script::Refusal;
 pub const MOST: usize = 26;
 
 // `accepted` and the type.
+#[tactic(auto, using(crate::specs::Line::Laws::lengths))]
 fn put_accepted(out: &mut [u8], code: u32) -> usize
     ensures { Put (line_of (Ok code)) 0 out.old result out.new }
 {
@@ -38,6 +39,7 @@ fn put_place(out: &mut [u8], at: usize, place: Option<u32>) -> usize
 }
 
 // `refused`, the number and the place.
+#[tactic(auto, using(crate::specs::Line::Laws::lengths))]
 fn put_refused(out: &mut [u8], why: Refusal) -> usize
     ensures { Put (line_of (Err why)) 0 out.old result out.new }
 {

@@ -79,21 +79,6 @@ fn say_unread(rt: &impl Print, why: Refusal) -> io::Result<()> {
     print!(rt; "\tunread")
 }
 
-// Runs a script that was read, on cells that hold what `before` holds, and then prints what came of it.
-fn try_script(
-    rt: &impl Print,
-    lent: &LentTable<u32>,
-    values: &[u8],
-    before: &[u8],
-    cells: &mut [u8],
-    used: u32,
-) -> io::Result<()>
-    ensures { cells.new ≡ (run_table (flat_by lent.now) values.now cells.old used).cells }
-{
-    let answer = calls::run(lent, values, cells, used);
-    say_ran(rt, before, cells, answer)
-}
-
 // Reads a text, and runs it if it could be read. The line is left open. Whether the printing fails or not, the cells hold what the run leaves.
 pub fn try_text(
     rt: &impl Print,
@@ -115,7 +100,8 @@ pub fn try_text(
                 entries: &entries,
                 entry_count: script.entries,
             };
-            try_script(rt, &lent, values, before, cells, used)
+            let answer = calls::run(&lent, values, cells, used);
+            say_ran(rt, before, cells, answer)
         }
         Err(why) => say_unread(rt, why),
     }

@@ -23,8 +23,8 @@ fn widen(bytes: &[u8], words: &mut [u32])
     requires { length bytes.now ≤ length words.old }
     ensures { words.new ≡ bytes.now ++ drop (length bytes.now) words.old }
 {
-    for i in 0..bytes.len() {
-        words[i] = u32::from(bytes[i]);
+    for (i, byte) in bytes.iter().enumerate() {
+        words[i] = u32::from(*byte);
     }
 }
 

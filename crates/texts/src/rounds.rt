@@ -21,17 +21,10 @@ pub struct Round {
     pub wrote: Result<usize, Refusal>,
 }
 
-// Prints whether the places from these counts on hold what reading leaves in unused places.
-fn say_clean(
-    rt: &impl Print,
-    table: &[u32],
-    nodes: usize,
-    entries: &[u32],
-    used: usize,
-) -> io::Result<()> {
-    let clear = nodes_clear(table, nodes);
-    let zero = entries_clear(entries, used);
-    say_either(rt, clear && zero, "clean", "dirty")
+// Prints whether the places after these counts hold what reading leaves in unused places.
+fn say_clean(rt: &impl Print, table: &[u32], entries: &[u32], used: Script) -> io::Result<()> {
+    let clear = nodes_clear(table, used.nodes) && entries_clear(entries, used.entries);
+    say_either(rt, clear, "clean", "dirty")
 }
 
 // Prints whether the output from `from` on is as it was.
@@ -108,12 +101,12 @@ pub fn say_text(
     match round {
         Ok(Round { script, wrote }) => {
             print!(rt; "read\t{}\t{}", script.nodes, script.entries)?;
-            say_clean(rt, table, script.nodes, entries, script.entries)?;
+            say_clean(rt, table, entries, script)?;
             say_wrote(rt, text, out, wrote)
         }
         Err(why) => {
             say_refusal(rt, why)?;
-            say_clean(rt, table, 0, entries, 0)
+            say_clean(rt, table, entries, Script::empty())
         }
     }
 }

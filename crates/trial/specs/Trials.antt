@@ -1,5 +1,5 @@
 -- The trials at the places of an input, one after the other, and what they leave in a state that each may change. Assumes nothing.
-use Rattle.std.specs.Prelude.{◌≡◌, ℕ, ◌≤◌, ◌<◌, Result, Ok, Err, IsErr, Option, Some, None}
+use Rattle.std.specs.Prelude.{◌≡◌, refl, ℕ, ◌≤◌, ◌<◌, Result, Ok, Err, IsErr, Option, Some, None}
 use Rattle.std.specs.Fn.{Shared}
 use denote.Ref.{MutBor}
 
@@ -16,6 +16,10 @@ module _ {F S E : Type 0} (g : Shared F (MutBor S × (ℕ × Unit {0})) (Result 
     pub left : MutBor S
     pub met : g.post f (shown, (at, tt)) (r, (left, tt))
     pub leaves : left.now ≡ t
+
+  -- a call is such a trial, also where its answer is known
+  pub tried : {at : ℕ} {shown left : MutBor S} {r r' : Result (Option ℕ) E} → g.post f (shown, (at, tt)) (r, (left, tt)) → r ≡ r' → Trial shown.now at r' left.now
+  tried {at} {shown} {left} m e = record { shown = shown; shows = refl; left = left; met = rw e at m; leaves = refl }
 
   module _ (n : ℕ) (first : S) where
     -- trials from the first place on, each below n, lead to a place and a state

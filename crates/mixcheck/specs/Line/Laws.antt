@@ -1,6 +1,6 @@
 -- How long a line is, and how its parts make it up. Assumes nothing.
-use Rattle.std.specs.Prelude.{Bool, true, false, List, [], ◌∷◌, ◌++◌, ◌≡◌, ℕ, zero, suc, ◌+◌, ◌/◌, ◌%◌, ◌≤◌, ltb, length, take, drop, Err, None, Some}
-use Rattle.std.proofs.Common.{sym, ap, ◌∙◌, arith, length-append, take_at}
+use Rattle.std.specs.Prelude.{Bool, true, false, List, [], ◌∷◌, ◌++◌, ◌≡◌, ℕ, zero, suc, ◌+◌, ◌/◌, ◌%◌, ◌≤◌, ltb, length, drop, Err, None, Some}
+use Rattle.std.proofs.Common.{sym, ap, ◌∙◌, arith, length-append}
 use Rattle.script.specs.Answers.{number_of, place_of}
 use Rattle.script.specs.Answers.Bounds.{PlaceBelow, no_place, place-below, number-most}
 use Rattle.script.specs.Tests.{pick}
@@ -14,7 +14,7 @@ use Rattle.text.specs.SameTable.Numbers.{digits-most}
 use Rattle.text.specs.Writing.{digits_in, digits}
 use Rattle.host.specs.Texts.Bounds.{place_limit, check-bounded}
 use Rattle.host.specs.Texts.{check_text}
-use Rattle.mixcheck.specs.Line.{refused_word, dash, place_text, line_of, line_limit, PutLine}
+use Rattle.mixcheck.specs.Line.{refused_word, place_text, line_of, line_limit, PutLine}
 use Rattle.script.specs.Answers.Named.{Checked}
 use Rattle.script.specs.Answers.Named.{Place}
 
@@ -36,6 +36,9 @@ pub place_ten : (p : Place) → length (place_text p) ≤ 10
 place_ten None = omega arith
 place_ten (Some i) = digits_ten i
 
+-- how long the parts of a line get
+pub ruleset lengths = (type-length, digits_ten, place_ten)
+
 number-few : (r : Refusal) → length (digits (number_of r)) ≤ 2
 number-few r = let m = number-most r in digits-most 10 1 (number_of r) (omega arith)
 
@@ -52,22 +55,6 @@ line-bounded (refusal {r = r} h) =
 
 line-most : (text : List ℕ) → length (line_of (check_text text)) ≤ line_limit
 line-most text = line-bounded (check-bounded text)
-
--- ---- the place
-
-module _ {place : Place} where
-  pub nowhere-length : place ≡ None → length (place_text place) ≡ 1
-  nowhere-length e = ap (λ (p : Place). length (place_text p)) e
-
-  pub at_length : {i : ℕ} → place ≡ Some i → length (place_text place) ≡ length (digits i)
-  at_length e = ap (λ (p : Place). length (place_text p)) e
-
-  module _ {at n : ℕ} {out out' : List ℕ} where
-    pub put_nowhere : place ≡ None → Put (tab ∷ dash ∷ []) at out n out' → Put (tab ∷ place_text place) at out n out'
-    put_nowhere e p = rw e p
-
-    pub put_at : {i : ℕ} → place ≡ Some i → Put (tab ∷ digits i) at out n out' → Put (tab ∷ place_text place) at out n out'
-    put_at e p = rw e p
 
 -- ---- the whole line
 
@@ -86,8 +73,3 @@ module _ (text : List ℕ) {told : Checked} {n : ℕ} {out out' : List ℕ} (q :
           let w : Put (line_of (check_text text)) 0 out n out' = rw e p in
           let l : n ≡ length (line_of (check_text text)) = let a = w.next-is in omega arith in
           record { length-is = l; most = omega arith; bytes_are = put_text w (omega arith) ∙ ap (λ (k : ℕ). line_of (check_text text) ++ drop k out) (sym l) }
-
--- its bytes are as many as its length says
-pub line_taken : {line out out' : List ℕ} {n : ℕ} → PutLine line out n out' → n ≡ length (take n out')
-line_taken {line} {out} {out'} {n} q =
-    q.length-is ∙ sym (ap length (ap (λ (bytes : List ℕ). take n bytes) q.bytes_are ∙ take_at line (drop n out) n (sym q.length-is)))

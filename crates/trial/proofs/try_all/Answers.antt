@@ -1,5 +1,6 @@
-use Rattle.std.proofs.Common.{refl}
-use Rattle.trial.specs.Trials.{Trial, Malformed, no_turn, a_turn, all_tried, malformed, failed}
+use Rattle.std.proofs.Common.{ap, ◌∙◌}
+use Rattle.std.specs.Prelude.{Ok}
+use Rattle.trial.specs.Trials.{Malformed, tried, no_turn, a_turn, all_tried, malformed, failed}
 use Rattle.trial.proofs.try_all.Goals as goal
 use Rattle.trial.proofs.try_all.Goals.{in_default-via-in-Some+else-at-next, in_default-via-in_default}
 
@@ -8,23 +9,17 @@ loop-at-init g c = no_turn
 
 pub loop-at-preserved : goal.loop-at-preserved
 loop-at-preserved g c =
-    let t : Trial g.F.Fn c.args.try_at c.loop-at.state c.loop-at.at c.try_at.result c.try_at.new.arg2 =
-    record { shown = _; shows = refl; left = _; met = c.try_at.ensures; leaves = refl } in
-    a_turn c.loop-at.invariant c.loop-at-test.true (rw (c.in_ok-next.was, c.in-Some.is) at t) c.if-at-next.true
+    a_turn c.loop-at.invariant c.loop-at-test.true (tried g.F.Fn c.args.try_at c.try_at.ensures (c.in_ok-next.was ∙ ap Ok c.in-Some.is)) c.if-at-next.true
 
 pub returns-in_err-next : goal.returns-in_err-next
 returns-in_err-next g c =
-    let t : Trial g.F.Fn c.args.try_at c.loop-at.state c.loop-at.at c.try_at.result c.try_at.new.arg2 =
-    record { shown = _; shows = refl; left = _; met = c.try_at.ensures; leaves = refl } in
-    failed c.loop-at.invariant c.loop-at-test.true (rw c.in_err-next.was at t) c.from_residual.ensures.0
+    failed c.loop-at.invariant c.loop-at-test.true (tried g.F.Fn c.args.try_at c.try_at.ensures c.in_err-next.was) c.from_residual.ensures.0
 
 pub returns-in_default : goal.returns-in_default
 returns-in_default g c =
-    let t : Trial g.F.Fn c.args.try_at c.loop-at.state c.loop-at.at c.try_at.result c.try_at.new.arg2 =
-    record { shown = _; shows = refl; left = _; met = c.try_at.ensures; leaves = refl } in
     let last : Malformed c.loop-at.at c.in_ok-next.field-0 =
     elim c.in_default.branch [ in_default-via-in-Some+else-at-next w ↦ rw w.in-Some.is w.if-at-next.false | in_default-via-in_default w ↦ rw w.in_default.is tt ] in
-    malformed c.loop-at.invariant c.loop-at-test.true (rw c.in_ok-next.was at t) last
+    malformed c.loop-at.invariant c.loop-at-test.true (tried g.F.Fn c.args.try_at c.try_at.ensures c.in_ok-next.was) last
 
 pub returns : goal.returns
 returns g c = all_tried c.loop-at.invariant c.loop-at-test.false
