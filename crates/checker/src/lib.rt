@@ -1,5 +1,5 @@
 // The checker: the typed rules and the symbolic rules over a table. `check` is the whole call; `nodes` checks and executes nodes, `path` has a path's own
-// numbers, `steps` the way of a value up, `forks` the way back to a fork. Below it stand the rules, `types` and `symbolic`, and `log`, `notes` and `frames`,
+// numbers, `steps` the way of a value up, `forks` the way back to a fork. Below it stand the rules, `types` and `symbolic`, and `write_log`, `notes` and `frames`,
 // over one `workspace`.
 #![tactic(auto)]
 

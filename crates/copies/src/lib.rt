@@ -1,4 +1,4 @@
-// Between a table of records and a table in flat form: one record out or in, and the whole table. What takes or fills a slice of records is proved by a walk.
+// Between a table of records and a table in flat form: one record out or in, and the whole table.
 #![tactic(auto)]
 
 ghost use Rattle.std.specs.Prelude.{◌≡◌, ◌<◌, min, length, set};

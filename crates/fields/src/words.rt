@@ -1,16 +1,37 @@
 // The words of the kinds: compared with fields in reading, copied out in writing.
-ghost use Rattle.std.specs.Prelude.{◌≡◌};
+ghost use Rattle.std.specs.Prelude.{◌≡◌, ◌<◌};
 ghost use Rattle.text.specs.Fields.{same_bytes, kind_named};
 ghost use Rattle.text.specs.Code.Scan.{said_by};
+ghost use Rattle.text.specs.Code.Output.{word_of};
+ghost use Rattle.script.specs.Rows.Kinds.{kind_count};
 
-use script::table::KINDS;
+use script::table::{
+    ADD, AND, EQ, FALSE, GET, IF, INT, KINDS, LET, NOT, REF, SET, TRUE, TYPED, VAR,
+};
 
-// The words in the order of the kinds, each in five places.
-pub const WORDS: [u8; 5 * KINDS as usize] =
-    *b"int  true falsevar  add  eq   not  and  if   let  ref  get  set  typedsym  ";
-
-// How long each word is.
-pub const LENGTHS: [usize; KINDS as usize] = [3, 4, 5, 3, 3, 2, 3, 3, 2, 3, 3, 3, 3, 5, 3];
+// The word of a kind.
+pub fn word(kind: u32) -> &'static [u8]
+    requires { kind < kind_count }
+    ensures { result.now ≡ word_of kind }
+{
+    match kind {
+        INT => b"int",
+        TRUE => b"true",
+        FALSE => b"false",
+        VAR => b"var",
+        ADD => b"add",
+        EQ => b"eq",
+        NOT => b"not",
+        AND => b"and",
+        IF => b"if",
+        LET => b"let",
+        REF => b"ref",
+        GET => b"get",
+        SET => b"set",
+        TYPED => b"typed",
+        _ => b"sym",
+    }
+}
 
 // Whether two byte strings are the same.
 pub fn same(a: &[u8], b: &[u8]) -> bool
@@ -31,12 +52,8 @@ pub fn same(a: &[u8], b: &[u8]) -> bool
 pub fn kind_of(f: &[u8]) -> Option<u32>
     ensures { result ≡ said_by (kind_named f.now) }
 {
-    let words = WORDS;
-    let lengths = LENGTHS;
     for k in 0..KINDS {
-        let from = 5 * (k as usize);
-        let end = from + lengths[k as usize];
-        if same(&words[from..end], f) {
+        if same(word(k), f) {
             return Some(k);
         }
     }

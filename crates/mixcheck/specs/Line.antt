@@ -4,8 +4,7 @@ use Rattle.std.specs.Prelude.{List, [], ◌∷◌, ◌++◌, ◌≡◌, ℕ, ◌
 use Rattle.script.specs.Answers.{number_of, place_of}
 use Rattle.text.specs.Bytes.{lf, tab}
 use Rattle.text.specs.Writing.{digits, type_text}
-use Rattle.script.specs.Answers.Named.{Checked}
-use Rattle.script.specs.Answers.Named.{Place}
+use Rattle.script.specs.Answers.Named.{Checked, Place}
 pub mod Laws
 
 -- accepted

@@ -7,7 +7,7 @@ ghost use Rattle.script.specs.Rows.Kinds.{kind_count};
 ghost use Rattle.text.specs.Code.Output.{Put, word_of};
 ghost use Rattle.text.specs.Writing.{digits, type_text};
 
-use fields::words::{LENGTHS, WORDS};
+use fields::words::word;
 
 // One byte at place `at`.
 pub fn put(out: &mut [u8], at: usize, b: u8)
@@ -35,11 +35,7 @@ pub fn put_word(out: &mut [u8], at: usize, kind: u32) -> usize
     requires kind_bound { at + length (word_of kind) < 2 ^ 64 }
     ensures { Put (word_of kind) at out.old result out.new }
 {
-    let k = kind as usize;
-    let words = WORDS;
-    let from = 5 * k;
-    let end = from + LENGTHS[k];
-    put_bytes(out, at, &words[from..end])
+    put_bytes(out, at, word(kind))
 }
 
 // A number in decimal: its tens first, then its last digit.

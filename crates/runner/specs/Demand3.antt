@@ -11,7 +11,6 @@ use Rattle.rules.proofs.Demand3.{accepted_ends_with_value}
 use Rattle.rules.specs.Running.{Run, values_of, within_limits}
 use Rattle.rules.specs.Typings.{Fits, HaveTypes}
 use Rattle.runner.specs.Answered.{Answered}
-use Rattle.script.specs.Answers.Named.{Checked}
 
 module _ (table : List ℕ) (nodes : ℕ) (entries : List ℕ) (entry_count : ℕ) (values cells : List ℕ) (used : ℕ) where
   pub accepted_answers_with_value : (limit type : ℕ) (typing : List ℕ) (r : Ran) (left : List ℕ)

@@ -26,8 +26,6 @@ use Rattle.text.proofs.Writing.Laws.{long-enough}
 use Rattle.text.specs.OneSpelling.Lines.{joined-parts}
 use Rattle.text.specs.OneSpelling.Text.{Whole, whole, taken-text, kept-none, taken-kept}
 use Rattle.text.specs.OneSpelling.{ReadAs, table_after}
-use Rattle.script.specs.Answers.Named.{Reading}
-use Rattle.script.specs.Answers.Named.{Writing}
 
 -- ---- texts
 

@@ -17,7 +17,6 @@ use Rattle.text.specs.Bytes.{lf}
 use Rattle.text.specs.Grammar.{parts, Line, entry_line, node_line, line_of, Step, go_on, stop, admit, Meaning, means, refused, unless, at_end, last_part, after, lines_from, meaning_of}
 use Rattle.text.specs.Reading as Reads
 use Rattle.text.specs.SameTable.Text.{Some, some-parts, parts-some}
-use Rattle.script.specs.Answers.Named.{Reading}
 
 -- ---- what the places say
 

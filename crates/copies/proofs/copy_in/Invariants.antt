@@ -1,5 +1,5 @@
 -- Before turn i of the loop the first i places of the table are filled.
-use Rattle.std.proofs.Common.{◌≡◌, ◌-◌, length}
+use Rattle.std.proofs.Common.{◌≡◌}
 use Rattle.copies.specs.Copies.{placed}
 use Rattle.copies.proofs.copy_in.Given as goal
 

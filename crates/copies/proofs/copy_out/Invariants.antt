@@ -1,5 +1,5 @@
 -- Before turn i of the loop the flat slice holds the numbers of the first i records in front.
-use Rattle.std.proofs.Common.{◌≡◌, ◌≤◌, ◌-◌}
+use Rattle.std.proofs.Common.{◌≡◌}
 use Rattle.copies.specs.Copies.{copied}
 use Rattle.copies.proofs.copy_out.Given as goal
 

@@ -1,5 +1,5 @@
 use mathlib.Core.Path.{◌≡◌}
-use Prim.Native.Nat.{◌≤◌, ◌+◌, ◌-◌}
+use Prim.Native.Nat.{◌≤◌, ◌+◌}
 use lib.ListN.{length, drop}
 use Rattle.text.specs.Code.Scan.{field_in}
 use Rattle.fields.proofs.field_end.Given as goal

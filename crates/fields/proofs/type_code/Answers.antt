@@ -2,13 +2,13 @@
 -- is room for one letter more. Assumes nothing.
 use mathlib.Core.List.{[]}
 use mathlib.Core.Path.{◌≡◌, refl, sym, ap, ◌∙◌}
-use Prim.Native.Nat.{suc, ◌+◌, ◌*◌}
+use Prim.Native.Nat.{suc, ◌*◌}
 use native.Mathlib.Numerals.{add-one}
 use native.Mathlib.Omega.{arith}
 use lib.ListN.{length, drop}
 use lib.Seq.{drop-length}
 use Rattle.script.specs.Limits.{type_limit}
-use Rattle.text.specs.Fields.{type_after, type_up_to, type_of}
+use Rattle.text.specs.Fields.{type_up_to, type_of}
 use Rattle.text.specs.Code.Scan.{said_by}
 use Rattle.text.specs.Code.Scan.Laws.{type-above, type-more, type-last, type-long, type_end}
 use Rattle.fields.proofs.type_code.Goals as goal

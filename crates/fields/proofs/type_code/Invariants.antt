@@ -1,6 +1,6 @@
 use mathlib.Core.Path.{◌≡◌}
-use Prim.Native.Nat.{◌≤◌, ◌-◌, ◌*◌}
-use lib.ListN.{length, drop}
+use Prim.Native.Nat.{◌≤◌, ◌*◌}
+use lib.ListN.{drop}
 use Rattle.script.specs.Limits.{type_limit}
 use Rattle.text.specs.Fields.{type_after, type_up_to, type_of}
 use Rattle.fields.proofs.type_code.Given as goal

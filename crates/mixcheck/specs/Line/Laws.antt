@@ -1,6 +1,6 @@
 -- How long a line is, and how its parts make it up. Assumes nothing.
-use Rattle.std.specs.Prelude.{Bool, true, false, List, [], ◌∷◌, ◌++◌, ◌≡◌, ℕ, zero, suc, ◌+◌, ◌/◌, ◌%◌, ◌≤◌, ltb, length, drop, Err, None, Some}
-use Rattle.std.proofs.Common.{sym, ap, ◌∙◌, arith, length-append}
+use Rattle.std.specs.Prelude.{Bool, true, false, List, [], ◌∷◌, ◌++◌, ◌≡◌, ℕ, zero, suc, ◌+◌, ◌/◌, ◌%◌, ◌≤◌, ltb, length, take, drop, Err, None, Some}
+use Rattle.std.proofs.Common.{sym, ap, ◌∙◌, arith, length-append, take_at}
 use Rattle.script.specs.Answers.{number_of, place_of}
 use Rattle.script.specs.Answers.Bounds.{PlaceBelow, no_place, place-below, number-most}
 use Rattle.script.specs.Tests.{pick}
@@ -15,8 +15,7 @@ use Rattle.text.specs.Writing.{digits_in, digits}
 use Rattle.host.specs.Texts.Bounds.{place_limit, check-bounded}
 use Rattle.host.specs.Texts.{check_text}
 use Rattle.mixcheck.specs.Line.{refused_word, place_text, line_of, line_limit, PutLine}
-use Rattle.script.specs.Answers.Named.{Checked}
-use Rattle.script.specs.Answers.Named.{Place}
+use Rattle.script.specs.Answers.Named.{Checked, Place}
 
 -- ---- lengths
 
@@ -73,3 +72,8 @@ module _ (text : List ℕ) {told : Checked} {n : ℕ} {out out' : List ℕ} (q :
           let w : Put (line_of (check_text text)) 0 out n out' = rw e p in
           let l : n ≡ length (line_of (check_text text)) = let a = w.next-is in omega arith in
           record { length-is = l; most = omega arith; bytes_are = put_text w (omega arith) ∙ ap (λ (k : ℕ). line_of (check_text text) ++ drop k out) (sym l) }
+
+-- its bytes are as many as its length says
+pub line_taken : {line out out' : List ℕ} {n : ℕ} → PutLine line out n out' → n ≡ length (take n out')
+line_taken {line} {out} {out'} {n} q =
+    q.length-is ∙ sym (ap length (ap (λ (bytes : List ℕ). take n bytes) q.bytes_are ∙ take_at line (drop n out) n (sym q.length-is)))

@@ -1,5 +1,5 @@
-use Prim.Native.Nat.{◌≤◌, ◌-◌, ◌+◌}
-use lib.ListN.{length, drop}
+use Prim.Native.Nat.{◌+◌}
+use lib.ListN.{drop}
 use Rattle.text.specs.Code.Output.Laws.{Remains}
 use Rattle.output.proofs.put_bytes.Given as goal
 

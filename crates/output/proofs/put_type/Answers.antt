@@ -1,9 +1,8 @@
 -- `output::put_type` meets its contract: the text of what is left of the code remains to be stored. Assumes nothing.
-use Prim.Native.Nat.{ℕ, ◌+◌, ◌-◌, ◌*◌, ◌/◌}
-use mathlib.Core.Path.{◌≡◌, ap}
+use Prim.Native.Nat.{◌+◌, ◌-◌, ◌*◌, ◌/◌}
+use mathlib.Core.Path.{◌≡◌}
 use native.Mathlib.Omega.{arith}
-use lib.ListN.{length}
-use Rattle.text.specs.Code.Output.Laws.{remains_all, remains_byte, remains_none, put_length}
+use Rattle.text.specs.Code.Output.Laws.{remains_byte, remains_none}
 use Rattle.text.specs.Code.Output.Fields.{type-more}
 use Rattle.text.specs.Writing.{type_text}
 use Rattle.output.proofs.put_type.Goals as goal

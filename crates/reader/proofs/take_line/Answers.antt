@@ -11,14 +11,14 @@ use Rattle.reader.proofs.take_line.Goals as goal
 pub returns-in-Entry : goal.returns-in-Entry
 returns-in-Entry c =
     let a = c.args in
-    let h = here-entry a.at (drop a.at a.text.now) c.in-Entry.t c.in_ok-line.next (sym c.line_at.ensures ∙ there_is c.line_at.result (BadLine a.i) (sym c.ok_or.ensures.value ∙ c.in_ok-line.was) ∙ ap (λ (x : Scanned). Some (x , c.in_ok-line.next)) c.in-Entry.is) in
+    let h = here-entry a.at (drop a.at a.text.now) c.in-Entry.t c.in_ok-line.next (sym c.line_at.ensures ∙ there_is c.line_at.result (BadLine a.i) (sym c.ok_or.ensures.value ∙ c.in_ok-line.was) ∙ ap (λ (x : Scanned). Some (x, c.in_ok-line.next)) c.in-Entry.is) in
     let t = took-entry a.text.now a.at a.i a.script a.table.now a.entries.now c.requires.kept c.in-Entry.t c.in_ok-line.next h in
     rw (c.take_entry.ensures.0, c.take_entry.ensures.1) t
 
 pub returns-in-Node : goal.returns-in-Node
 returns-in-Node c =
     let a = c.args in
-    let h = here-node a.at (drop a.at a.text.now) c.in-Node.n c.in_ok-line.next (sym c.line_at.ensures ∙ there_is c.line_at.result (BadLine a.i) (sym c.ok_or.ensures.value ∙ c.in_ok-line.was) ∙ ap (λ (x : Scanned). Some (x , c.in_ok-line.next)) c.in-Node.is) in
+    let h = here-node a.at (drop a.at a.text.now) c.in-Node.n c.in_ok-line.next (sym c.line_at.ensures ∙ there_is c.line_at.result (BadLine a.i) (sym c.ok_or.ensures.value ∙ c.in_ok-line.was) ∙ ap (λ (x : Scanned). Some (x, c.in_ok-line.next)) c.in-Node.is) in
     let t = took-node a.text.now a.at a.i a.script a.table.now a.entries.now c.requires.kept c.in-Node.n c.in_ok-line.next h in
     rw (c.take_node.ensures.0, c.take_node.ensures.1) t
 

@@ -13,7 +13,6 @@ use Rattle.script.specs.Limits.{node_limit, entry_limit}
 use Rattle.script.specs.Table.{table_test}
 use Rattle.script.specs.Table.Laws.{passes}
 use Rattle.script.specs.Tree.{Expr, root, tree_of}
-use Rattle.script.specs.Answers.Named.{Ran}
 use Rattle.script.specs.declared.Ended.{Ended}
 use Rattle.script.specs.declared.Refusal.{Refusal}
 use Rattle.script.specs.declared.Value.{Value}

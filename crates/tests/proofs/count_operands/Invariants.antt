@@ -1,4 +1,4 @@
-use Prim.Native.Nat.{◌≤◌, ◌-◌}
+use Prim.Native.Nat.{◌≤◌}
 use lib.ListN.{take}
 use Rattle.script.specs.Table.{operands}
 use Rattle.script.specs.Code.TableTests.{Counted}

@@ -1,4 +1,4 @@
-use Prim.Native.Nat.{◌≤◌, ◌-◌}
+use Prim.Native.Nat.{◌≤◌}
 use lib.ListN.{length, take}
 use Rattle.script.specs.Flat.{nodes_in}
 use Rattle.tests.specs.Counts.{UsedBy}

@@ -1,4 +1,4 @@
-use Prim.Native.Nat.{◌≤◌, ◌-◌, pred}
+use Prim.Native.Nat.{◌≤◌, pred}
 use Rattle.script.specs.Tests.Loops.{Looked}
 use Rattle.tests.specs.Lowest.{not_once}
 use Rattle.tests.proofs.test_counts.Given as goal

@@ -1,4 +1,3 @@
-use Prim.Native.Nat.{◌-◌}
 use Rattle.script.specs.Tests.Loops.{Looked}
 use Rattle.tests.specs.Lowest.{deep_by}
 use Rattle.tests.proofs.test_depths.Given as goal

@@ -1,5 +1,5 @@
 -- `tests::test_table` meets its contract: 32 and 2, then the tests of what is used. Assumes nothing.
-use mathlib.Core.Path.{◌≡◌, ◌∙◌, sym, ap}
+use mathlib.Core.Path.{◌∙◌, sym, ap}
 use Rattle.std.specs.Prelude.{Err}
 use Rattle.script.specs.Answers.Named.{handed_on, lacking, there_is}
 use Rattle.script.specs.declared.Refusal.TheVariants.{TooMany}

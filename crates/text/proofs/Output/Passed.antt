@@ -20,8 +20,6 @@ use Rattle.text.specs.Code.Output.Laws.{put_then, put_text}
 use Rattle.text.specs.SameTable.{text-most}
 use Rattle.text.proofs.Writing.Laws.{enough-fits}
 use Rattle.text.specs.Writing.{outcome, text_of, entries_text, nodes_text, long_enough, writing}
-use Rattle.script.specs.Answers.Named.{Tested}
-use Rattle.script.specs.Answers.Named.{Writing}
 
 module _ (xs : List ℕ) (n : ℕ) (es : List ℕ) (m : ℕ) (e : table_test (table_in xs n es m) ≡ none) where
   pub entries-lent : m ≤ length es

@@ -67,11 +67,11 @@ largest_by (some r) = up_to (number_up_to r.form)
 
 abbrev pub operand_by : Option ℕ → ℕ → Operand
 operand_by none at = None
-operand_by (some n) at = Some (n , at)
+operand_by (some n) at = Some (n, at)
 
 -- an operand, if one is wanted, and the place after it
 abbrev pub operand_at : Bool → ℕ → ℕ → List ℕ → Operand
-operand_at false m at cs = Some (0 , at)
+operand_at false m at cs = Some (0, at)
 operand_at true m at [] = None
 operand_at true m at (c ∷ cs) = pick (eqb c tab) (operand_by (decimal_up_to m (field_in cs)) (at + 1 + length (field_in cs))) None
 
@@ -79,8 +79,8 @@ operand_at true m at (c ∷ cs) = pick (eqb c tab) (operand_by (decimal_up_to m 
 abbrev pub located : Bool → Option Line → ℕ → Located
 located false l at = None
 located true none at = None
-located true (some (entry_line t)) at = Some (Scanned.Entry t , at)
-located true (some (node_line n)) at = Some (Scanned.Node n , at)
+located true (some (entry_line t)) at = Some (Scanned.Entry t, at)
+located true (some (node_line n)) at = Some (Scanned.Node n, at)
 
 -- a line, and its rest after the word `entry` or the word of a kind
 unfoldable pub line_at : ℕ → List ℕ → Located

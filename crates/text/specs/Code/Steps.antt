@@ -52,7 +52,7 @@ pub record Framed (xs es xs' es' : List ℕ) : Type 0 where
 abbrev pub entry_step : Script → ℕ → ℕ → Step
 entry_step s next i =
     pick (eqb s.nodes 0)
-    (pick (ltb s.entries entry_limit) (Ok (size_of s.nodes (s.entries + 1) , next)) (Err (TooManyAt i)))
+    (pick (ltb s.entries entry_limit) (Ok (size_of s.nodes (s.entries + 1), next)) (Err (TooManyAt i)))
     (Err (BadLine i))
 
 abbrev pub entry_stored : Script → ℕ → List ℕ → List ℕ
@@ -62,7 +62,7 @@ entry_stored s t es = pick (eqb s.nodes 0) (pick (ltb s.entries entry_limit) (se
 abbrev pub node_step : Script → Node → ℕ → ℕ → Step
 node_step s n next i =
     pick (ltb s.nodes node_limit)
-    (pick (right_node (row_of n.kind) s.nodes n) (Ok (size_of (s.nodes + 1) s.entries , next)) (Err (BadOperand i)))
+    (pick (right_node (row_of n.kind) s.nodes n) (Ok (size_of (s.nodes + 1) s.entries, next)) (Err (BadOperand i)))
     (Err (TooManyAt i))
 
 abbrev pub node_stored : Script → Node → List ℕ → List ℕ
@@ -77,12 +77,12 @@ line_here cs = pick (line_ends cs) (line_of (line_in cs)) none
 
 -- an answer with the lent numbers, as the grammar says it
 abbrev pub step_of : Step → List ℕ → List ℕ → Grammar.Step
-step_of (Ok (s , next)) xs es = go_on (entries_by s es) (nodes_by s xs)
+step_of (Ok (s, next)) xs es = go_on (entries_by s es) (nodes_by s xs)
 step_of (Err r) xs es = stop r
 
 -- where the text goes on, which has `most` bytes
 pub data GoesTo (at next most : ℕ) (xs es : List ℕ) : Step → Type 0 where
-  goes-next : {s : Script} → Kept s xs es → at < next → next ≤ most → GoesTo at next most xs es (Ok (s , next))
+  goes-next : {s : Script} → Kept s xs es → at < next → next ≤ most → GoesTo at next most xs es (Ok (s, next))
   refused : {r : Refusal} → GoesTo at next most xs es (Err r)
 
 -- line i, which starts at `at`, has been read

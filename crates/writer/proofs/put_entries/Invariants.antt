@@ -1,4 +1,3 @@
-use Prim.Native.Nat.{◌≤◌, ◌-◌}
 use lib.ListN.{take, drop}
 use Rattle.text.specs.Code.Output.Laws.{Remains}
 use Rattle.text.specs.Writing.{entries_text}

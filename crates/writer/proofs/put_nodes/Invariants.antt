@@ -1,4 +1,3 @@
-use Prim.Native.Nat.{◌≤◌, ◌-◌}
 use lib.ListN.{take, drop}
 use Rattle.script.specs.Flat.{nodes_in}
 use Rattle.text.specs.Code.Output.Laws.{Remains}

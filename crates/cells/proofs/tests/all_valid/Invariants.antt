@@ -1,4 +1,3 @@
-use Prim.Native.Nat.{◌-◌}
 use Rattle.cells.specs.Tests.{Passed}
 use Rattle.cells.proofs.tests.all_valid.Given as goal
 

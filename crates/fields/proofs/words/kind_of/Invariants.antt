@@ -1,4 +1,3 @@
-use Prim.Native.Nat.{◌-◌}
 use Rattle.script.specs.Rows.Kinds.{kind_count}
 use Rattle.script.specs.Tests.Loops.{Looked}
 use Rattle.text.specs.Fields.Words.{is_kind_of}

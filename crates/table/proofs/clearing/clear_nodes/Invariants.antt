@@ -1,7 +1,4 @@
-use Prim.Native.Nat.{◌-◌, ◌/◌}
-use lib.ListN.{length}
 use Rattle.script.specs.Code.Clearing.Laws.{Clearing}
-use Rattle.script.specs.Flat.{node_width}
 use Rattle.table.proofs.clearing.clear_nodes.Given as goal
 
 abbrev pub invariant-loop-i : goal.invariant-loop-i

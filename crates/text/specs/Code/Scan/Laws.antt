@@ -9,7 +9,6 @@ use Rattle.script.specs.Limits.{type_limit}
 use Rattle.script.specs.Tests.{pick, all}
 use Rattle.text.specs.Fields.{given, is_digit, value_after, decimal_up_to, last_letter, type_after, type_up_to}
 use Rattle.text.specs.Code.Scan.{ends_field, starts_with, field_in, field_ends, number_after, said_by}
-use Rattle.text.specs.Code.Named.{Said}
 
 -- ---- fields
 

@@ -20,8 +20,6 @@ use Rattle.text.specs.Grammar.{parts, on_first, on_numbers, numbers_up_to, node_
 use Rattle.text.specs.Code.Scan.{starts_with, field_in, field_ends, line_in, line_ends, fields_after, operand_by, operand_at, located, line_at, entry_after, node_after}
 use Rattle.text.specs.Code.Scan.Laws.{field-ends, field-most}
 use Rattle.script.specs.Answers.Named.{same_parts}
-use Rattle.text.specs.Code.Named.{Operand}
-use Rattle.text.specs.declared.Scanned.{Scanned}
 use Rattle.text.specs.Code.Named.{Located}
 
 -- ---- a line goes on after its first field
@@ -103,11 +101,11 @@ pub record FoundOperand (m at : ℕ) (cs : List ℕ) (x next : ℕ) : Type 0 whe
   pub number_is : decimal_up_to m (field_in after-tab) ≡ some x
   pub next-is : next ≡ at + 1 + length (field_in after-tab)
 
-pub found-operand : (m at : ℕ) (cs : List ℕ) (x next : ℕ) → operand_at true m at cs ≡ Some (x , next) → FoundOperand m at cs x next
+pub found-operand : (m at : ℕ) (cs : List ℕ) (x next : ℕ) → operand_at true m at cs ≡ Some (x, next) → FoundOperand m at cs x next
 found-operand m at [] x next e = let z : ◌≡◌ {A = ℕ} 0 1 = cc in absurd (omega arith)
 found-operand m at (c ∷ ds) x next e = go (eqb c tab) refl (decimal_up_to m (field_in ds)) refl e
   where
-    go : (b : Bool) → eqb c tab ≡ b → (o : Option ℕ) → decimal_up_to m (field_in ds) ≡ o → pick b (operand_by o (at + 1 + length (field_in ds))) None ≡ Some (x , next) → FoundOperand m at (c ∷ ds) x next
+    go : (b : Bool) → eqb c tab ≡ b → (o : Option ℕ) → decimal_up_to m (field_in ds) ≡ o → pick b (operand_by o (at + 1 + length (field_in ds))) None ≡ Some (x, next) → FoundOperand m at (c ∷ ds) x next
     go true t none n e = let z : ◌≡◌ {A = ℕ} 0 1 = cc in absurd (omega arith)
     go true t (some y) n e = record { after-tab = ds; begins = ap (λ d. d ∷ ds) (eqb-true c tab t); number_is = n ∙ ap some (same_parts e).0; next-is = sym (same_parts e).1 }
     go false t o n e = let z : ◌≡◌ {A = ℕ} 0 1 = cc in absurd (omega arith)

@@ -15,9 +15,7 @@ use Rattle.text.specs.Grammar.{node_with, node_by, up_to}
 use Rattle.text.specs.Code.Scan.{starts_with, field_in, field_ends, fields_after, line_in, line_ends, operand_at, located, node_after, largest_by}
 use Rattle.text.specs.Code.Scan.Lines.{FoundOperand, found-operand, node_rest, rest-operand, rest_bad, rest-lf, rest_no_lf, exactly, behind, node-exactly, rest_at, starts_then, then_most, then_ends}
 use Rattle.script.specs.Answers.Named.{same_parts}
-use Rattle.text.specs.Code.Named.{Operand}
 use Rattle.text.specs.declared.Scanned.{Scanned}
-use Rattle.text.specs.Code.Named.{Located}
 
 -- ---- one operand
 
@@ -59,10 +57,10 @@ module _ (text : List ℕ) (k m : ℕ) where
           unwanted = λ u. absurd (true_or_false (ltb j count) t u);
         }
 
-    pub step : (x next : ℕ) → at ≤ length text → field_ends (drop at text) ≡ true → operand_at (ltb j count) m at (drop at text) ≡ Some (x , next) → Stepped os count j at x next
+    pub step : (x next : ℕ) → at ≤ length text → field_ends (drop at text) ≡ true → operand_at (ltb j count) m at (drop at text) ≡ Some (x, next) → Stepped os count j at x next
     step x next l f e = go (ltb j count) refl e
       where
-        go : (b : Bool) → ltb j count ≡ b → operand_at b m at (drop at text) ≡ Some (x , next) → Stepped os count j at x next
+        go : (b : Bool) → ltb j count ≡ b → operand_at b m at (drop at text) ≡ Some (x, next) → Stepped os count j at x next
         go true t e = wanted_step x next t (found-operand m at (drop at text) x next e)
         go false t e =
             let h = ltb-false j count t in
@@ -94,7 +92,7 @@ node-start k at cs h = go (row_of k) refl
 
 -- the node of the three operands, of which the unwanted ones are 0
 pub node_made : (k count a b c at : ℕ) → count ≤ 3 → (ltb 0 count ≡ false → a ≡ 0) → (ltb 1 count ≡ false → b ≡ 0) → (ltb 2 count ≡ false → c ≡ 0)
-    → located true (node_with k (some ([] ++ added 0 count a ++ added 1 count b ++ added 2 count c ++ []))) (at + 0 + 1) ≡ Some (Scanned.Node (node_of k a b c) , (at + 1))
+    → located true (node_with k (some ([] ++ added 0 count a ++ added 1 count b ++ added 2 count c ++ []))) (at + 0 + 1) ≡ Some (Scanned.Node (node_of k a b c), (at + 1))
 node_made k zero a b c at h x y z = rw (x refl, y refl, z refl, add-zero at) refl
 node_made k (suc zero) a b c at h x y z = rw (y refl, z refl, add-zero at) refl
 node_made k (suc (suc zero)) a b c at h x y z = rw (z refl, add-zero at) refl
@@ -140,12 +138,12 @@ module _ (text : List ℕ) (k start count m : ℕ) where
   reach_start h l f c e = record { same = rw (c, e) (node-start k start (drop start text) h); most = l; ends = f }
 
   module _ {os : List ℕ} {j at : ℕ} (r : Reached os j at) where
-    pub reach_next : (x next : ℕ) → operand_at (ltb j count) m at (drop at text) ≡ Some (x , next) → Reached (os ++ added j count x) (suc j) next
+    pub reach_next : (x next : ℕ) → operand_at (ltb j count) m at (drop at text) ≡ Some (x, next) → Reached (os ++ added j count x) (suc j) next
     reach_next x next e =
         let s = step text k m os count j at x next r.most r.ends e in
         record { same = r.same ∙ s.same; most = s.most; ends = s.ends }
 
-    pub reach_unwanted : (x next : ℕ) → operand_at (ltb j count) m at (drop at text) ≡ Some (x , next) → ltb j count ≡ false → x ≡ 0
+    pub reach_unwanted : (x next : ℕ) → operand_at (ltb j count) m at (drop at text) ≡ Some (x, next) → ltb j count ≡ false → x ≡ 0
     reach_unwanted x next e = (step text k m os count j at x next r.most r.ends e).unwanted
 
     pub reach_bad : operand_at (ltb j count) m at (drop at text) ≡ None → node_after k start (drop start text) ≡ None

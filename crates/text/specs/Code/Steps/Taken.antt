@@ -22,9 +22,6 @@ use Rattle.text.specs.Code.Steps.{nodes_by, entries_by, Kept, Framed, entry_step
 use Rattle.text.specs.Code.Steps.Laws.{line-within}
 use Rattle.text.specs.declared.Scanned.{Scanned}
 use Rattle.script.specs.Answers.Named.{same_parts}
-use Rattle.text.specs.Code.Named.{Located}
-use Rattle.text.specs.Code.Named.{Step}
-use Rattle.script.specs.Answers.Named.{Sized}
 
 -- ---- what a scanned line tells
 
@@ -35,13 +32,13 @@ pub record Here (l : Line) (at next : ℕ) (cs : List ℕ) : Type 0 where
   pub ends : line_ends cs ≡ true
 
 module _ (at : ℕ) (cs : List ℕ) where
-  located-entry : (b : Bool) (o : Option Line) (t next n : ℕ) → located b o n ≡ Some (Scanned.Entry t , next) → (b ≡ true) × (o ≡ some (entry_line t)) × (next ≡ n)
+  located-entry : (b : Bool) (o : Option Line) (t next n : ℕ) → located b o n ≡ Some (Scanned.Entry t, next) → (b ≡ true) × (o ≡ some (entry_line t)) × (next ≡ n)
   located-entry false o t next n e = let z : ◌≡◌ {A = ℕ} 0 1 = cc in absurd (omega arith)
   located-entry true none t next n e = let z : ◌≡◌ {A = ℕ} 0 1 = cc in absurd (omega arith)
   located-entry true (some (entry_line u)) t next n e = let p = same_parts e in let q : u ≡ t = cc (p.0) in (refl, ap (λ t. some (entry_line t)) q, sym p.1)
   located-entry true (some (node_line m)) t next n e = let p = (same_parts e).0 in let z : ◌≡◌ {A = ℕ} 0 1 = cc in absurd (omega arith)
 
-  located-node : (b : Bool) (o : Option Line) (m : Node) (next n : ℕ) → located b o n ≡ Some (Scanned.Node m , next) → (b ≡ true) × (o ≡ some (node_line m)) × (next ≡ n)
+  located-node : (b : Bool) (o : Option Line) (m : Node) (next n : ℕ) → located b o n ≡ Some (Scanned.Node m, next) → (b ≡ true) × (o ≡ some (node_line m)) × (next ≡ n)
   located-node false o m next n e = let z : ◌≡◌ {A = ℕ} 0 1 = cc in absurd (omega arith)
   located-node true none m next n e = let z : ◌≡◌ {A = ℕ} 0 1 = cc in absurd (omega arith)
   located-node true (some (entry_line u)) m next n e = let p = (same_parts e).0 in let z : ◌≡◌ {A = ℕ} 0 1 = cc in absurd (omega arith)
@@ -53,13 +50,13 @@ module _ (at : ℕ) (cs : List ℕ) where
   located_bad true (some (entry_line u)) n e = let z : ◌≡◌ {A = ℕ} 0 1 = cc in absurd (omega arith)
   located_bad true (some (node_line k)) n e = let z : ◌≡◌ {A = ℕ} 0 1 = cc in absurd (omega arith)
 
-  pub here-entry : (t next : ℕ) → line_at at cs ≡ Some (Scanned.Entry t , next) → Here (entry_line t) at next cs
+  pub here-entry : (t next : ℕ) → line_at at cs ≡ Some (Scanned.Entry t, next) → Here (entry_line t) at next cs
   unfolding line_at
   here-entry t next e =
       let l = located-entry (line_ends cs) (line_of (line_in cs)) t next (at + length (line_in cs) + 1) e in
       record { line-is = rw l.0 l.1; next-is = l.2; ends = l.0 }
 
-  pub here-node : (n : Node) (next : ℕ) → line_at at cs ≡ Some (Scanned.Node n , next) → Here (node_line n) at next cs
+  pub here-node : (n : Node) (next : ℕ) → line_at at cs ≡ Some (Scanned.Node n, next) → Here (node_line n) at next cs
   unfolding line_at
   here-node n next e =
       let l = located-node (line_ends cs) (line_of (line_in cs)) n next (at + length (line_in cs) + 1) e in

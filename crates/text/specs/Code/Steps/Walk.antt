@@ -19,7 +19,6 @@ use Rattle.text.specs.Code.Steps.{nodes_by, entries_by, Kept, Framed, step_of, G
 use Rattle.text.specs.Code.Steps.Laws.{text-step}
 use Rattle.text.specs.Code.Steps.Taken.{same-frame, frames, nodes-length, entries-length}
 use Rattle.text.specs.Code.Named.{Step}
-use Rattle.script.specs.Answers.Named.{Reading}
 
 -- before line i, which starts at `at`: what the rest means after the entries and nodes so far, the text means
 pub record Walked (text xs₀ es₀ : List ℕ) (s : Script) (xs es : List ℕ) (at i : ℕ) : Type 0 where
@@ -40,7 +39,7 @@ walk_start text xs es h l =
     }
 
 -- where a line taken goes on
-goes_at : {at next most : ℕ} {xs es : List ℕ} {s : Script} {n : ℕ} → GoesTo at next most xs es (Ok (s , n)) → (n ≡ next) × Kept s xs es × (at < next) × (next ≤ most)
+goes_at : {at next most : ℕ} {xs es : List ℕ} {s : Script} {n : ℕ} → GoesTo at next most xs es (Ok (s, n)) → (n ≡ next) × Kept s xs es × (at < next) × (next ≤ most)
 goes_at (goes-next k a b) = (refl, k, a, b)
 
 module _ {text xs₀ es₀ : List ℕ} {s : Script} {xs es : List ℕ} {at i : ℕ} (w : Walked text xs₀ es₀ s xs es at i) where
@@ -49,7 +48,7 @@ module _ {text xs₀ es₀ : List ℕ} {s : Script} {xs es : List ℕ} {at i : �
       → after (step_of r xs' es') (λ es' ns'. lines_from (suc i) es' ns' (parts lf (drop (at + length (line_in (drop at text)) + 1) text))) ≡ lines_from 0 [] [] (parts lf text)
   walk_step h t = rw t.step_is (sym (text-step i (entries_by s es) (nodes_by s xs) text at h) ∙ w.same)
 
-  pub walk_on : at < length text → {s' : Script} {next : ℕ} {xs' es' : List ℕ} → Took text at i s xs es (Ok (s' , next)) xs' es' → Walked text xs₀ es₀ s' xs' es' next (suc i) × (at < next)
+  pub walk_on : at < length text → {s' : Script} {next : ℕ} {xs' es' : List ℕ} → Took text at i s xs es (Ok (s', next)) xs' es' → Walked text xs₀ es₀ s' xs' es' next (suc i) × (at < next)
   walk_on h {s'} {next} {xs'} {es'} t =
       let g = goes_at t.goes in
       let n = g.0 in
