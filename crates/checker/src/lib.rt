@@ -36,23 +36,23 @@ fn entry_types(entries: &[u32], entry_count: usize, space: &mut [u32])
 }
 
 // Checks a table that passes its tests.
-fn check_tested(
-    lent: &LentTable<u32>,
-    limit: u32,
-) -> Result<u32, Refusal>
+fn check_tested(lent: &LentTable<u32>, limit: u32) -> Result<u32, Refusal>
     requires { table_test (table_by lent.now) ≡ none }
     ensures { result ≡ check_table limit (table_by lent.now) }
 {
     let mut space = [0u32; 2 * VARIABLES];
     entry_types(lent.entries, lent.entry_count, &mut space);
-    check_node(lent.table, &mut space, lent.entry_count, limit, (lent.nodes - 1) as u32)
+    check_node(
+        lent.table,
+        &mut space,
+        lent.entry_count,
+        limit,
+        (lent.nodes - 1) as u32,
+    )
 }
 
 // Checks a table by the rules, where a `sym` may have so many paths.
-fn check_within(
-    lent: &LentTable<u32>,
-    limit: u32,
-) -> Result<u32, Refusal>
+fn check_within(lent: &LentTable<u32>, limit: u32) -> Result<u32, Refusal>
     ensures { result ≡ check_table limit (table_by lent.now) }
 {
     test_table(lent)?;
@@ -60,9 +60,7 @@ fn check_within(
 }
 
 // Checks a table that is known to pass its tests, as one that was read from a text.
-pub fn check_passed(
-    lent: &LentTable<u32>,
-) -> Result<u32, Refusal>
+pub fn check_passed(lent: &LentTable<u32>) -> Result<u32, Refusal>
     requires { table_test (table_by lent.now) ≡ none }
     ensures { result ≡ check_table path_limit (table_by lent.now) }
 {
@@ -70,9 +68,7 @@ pub fn check_passed(
 }
 
 // Checks a table: accepted with its type, or why not. Nothing lent changes.
-pub fn check(
-    lent: &LentTable<u32>,
-) -> Result<u32, Refusal>
+pub fn check(lent: &LentTable<u32>) -> Result<u32, Refusal>
     ensures { result ≡ check_table path_limit (table_by lent.now) }
 {
     check_within(lent, PATHS)
