@@ -9,23 +9,13 @@ pub mod tests;
 
 use script::Value;
 
-// A byte as a number of 32 bits.
-fn wide(b: u8) -> u32
-    ensures { result ≡ b }
-{
-    b as u32
-}
-
 // The 32 bits at place i.
 pub fn bits_at(bytes: &[u8], i: usize) -> u32
     requires { 5 * i + 4 < length bytes.now }
     ensures { result ≡ bits_at (drop (5 * i) bytes.now) }
 {
     let at = 5 * i;
-    wide(bytes[at + 1])
-        + 256 * wide(bytes[at + 2])
-        + 65536 * wide(bytes[at + 3])
-        + 16777216 * wide(bytes[at + 4])
+    u32::from_le_bytes([bytes[at + 1], bytes[at + 2], bytes[at + 3], bytes[at + 4]])
 }
 
 // The value at place i.
@@ -47,10 +37,10 @@ pub fn store(bytes: &mut [u8], i: usize, v: Value)
     ensures { bytes.new ≡ sets bytes.old (5 * i) (bytes_of v) }
 {
     let at = 5 * i;
-    let bits = v.bits();
+    let [first, second, third, fourth] = v.bits().to_le_bytes();
     bytes[at] = v.kind() as u8;
-    bytes[at + 1] = (bits % 256) as u8;
-    bytes[at + 2] = (bits / 256 % 256) as u8;
-    bytes[at + 3] = (bits / 65536 % 256) as u8;
-    bytes[at + 4] = (bits / 16777216 % 256) as u8;
+    bytes[at + 1] = first;
+    bytes[at + 2] = second;
+    bytes[at + 3] = third;
+    bytes[at + 4] = fourth;
 }

@@ -25,13 +25,12 @@ use tests::test_table;
 const PATHS: u32 = 64;
 
 // The entries' types as the environment.
-fn entry_types(entries: &[u32], entry_count: usize, space: &mut [u32])
-    requires entry_count_in_bounds { entry_count ≤ length entries.now }
-    requires entry_count_in_bounds_2 { 2 * entry_count ≤ length space.old }
-    ensures { Placed entries.now space.old entry_count space.new }
+fn entry_types(entries: &[u32], space: &mut [u32])
+    requires { 2 * length entries.now ≤ length space.old }
+    ensures { Placed entries.now space.old (length entries.now) space.new }
 {
-    for i in 0..entry_count {
-        space[2 * i] = entries[i];
+    for (i, code) in entries.iter().enumerate() {
+        space[2 * i] = *code;
     }
 }
 
@@ -41,7 +40,7 @@ fn check_tested(lent: &LentTable<u32>, limit: u32) -> Result<u32, Refusal>
     ensures { result ≡ check_table limit (table_by lent.now) }
 {
     let mut space = [0u32; 2 * VARIABLES];
-    entry_types(lent.entries, lent.entry_count, &mut space);
+    entry_types(&lent.entries[..lent.entry_count], &mut space);
     check_node(
         lent.table,
         &mut space,

@@ -13,12 +13,11 @@ use script::table::{LentTable, WIDTH};
 use script::{Node, Refusal, Script};
 use table::{is_sym, node_at, node_operands, operand_at, well_formed};
 
-// All codes of the first `count` entries are types.
-fn right_codes(entries: &[u32], count: usize) -> bool
-    requires { count ≤ length entries.now }
-    ensures { result ≡ all (λ c. leb c type_limit) (take count entries.now) }
+// All codes of the entries are types.
+fn right_codes(entries: &[u32]) -> bool
+    ensures { result ≡ all (λ c. leb c type_limit) entries.now }
 {
-    entries[..count].iter().all(|&code| code <= Script::TYPE)
+    entries.iter().all(|&code| code <= Script::TYPE)
 }
 
 // 4 of the first `nodes` nodes.
@@ -194,7 +193,7 @@ fn test_used(lent: &LentTable<u32>) -> Result<(), Refusal>
     if lent.nodes == 0 {
         return Err(Refusal::NoNode);
     }
-    if right_codes(lent.entries, lent.entry_count) {
+    if right_codes(&lent.entries[..lent.entry_count]) {
         return test_nodes(lent.table, lent.nodes);
     }
     Err(Refusal::BadTypeCode)

@@ -55,14 +55,13 @@ fn put_node_line(out: &mut [u8], at: usize, n: Node) -> usize
     after_c + 1
 }
 
-// The lines of the first `count` entries.
-fn put_entries(out: &mut [u8], entries: &[u32], count: usize) -> usize
-    requires count_in_bounds { count ≤ length entries.now }
-    requires entries_len_bound { length (entries_text (take count entries.now)) < 2 ^ 64 }
-    ensures { Put (entries_text (take count entries.now)) 0 out.old result out.new }
+// The lines of the entries.
+fn put_entries(out: &mut [u8], entries: &[u32]) -> usize
+    requires { length (entries_text entries.now) < 2 ^ 64 }
+    ensures { Put (entries_text entries.now) 0 out.old result out.new }
 {
     let mut at = 0;
-    for &t in &entries[..count] {
+    for &t in entries {
         at = put_entry(out, at, t);
     }
     at
@@ -88,7 +87,7 @@ fn put_text(out: &mut [u8], lent: &LentTable<u32>) -> usize
     requires { table_test (table_by lent.now) ≡ none }
     ensures { Put (text_in (table_by lent.now)) 0 out.old result out.new }
 {
-    let after_entries = put_entries(out, lent.entries, lent.entry_count);
+    let after_entries = put_entries(out, &lent.entries[..lent.entry_count]);
     put_nodes(out, after_entries, lent.table, lent.nodes)
 }
 

@@ -20,4 +20,4 @@ bounds-bytes-at-4 c = simp length-set (omega arith)
 pub returns : goal.returns
 returns c =
     let a = c.args in
-    rw (c.kind.ensures, c.bits-bits.ensures) (value_stores a.bytes.now (5 * a.i) _ _ _ _ _)
+    rw (c.kind.ensures, c.to_le_bytes.ensures, c.bits.ensures) (value_stores a.bytes.now (5 * a.i) _ _ _ _ _)

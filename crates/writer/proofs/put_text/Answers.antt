@@ -1,17 +1,21 @@
 -- `writer::put_text` meets its contract: a table that passed its tests lends what its lines need. Assumes nothing.
+use mathlib.Core.Path.{sym}
+use Rattle.std.proofs.Common.{length-take-le}
 use native.Mathlib.Omega.{arith}
 use Rattle.script.specs.Flat.{table_in}
 use Rattle.text.proofs.Output.Passed.{entries-lent, nodes-lent, kinds_known, parts-most, put_parts}
 use Rattle.writer.proofs.put_text.Goals as goal
 
+pub slice_bounds-put_entries-end : goal.slice_bounds-put_entries-end
+slice_bounds-put_entries-end c =
+    let t = c.args.lent.now in
+    sym (length-take-le t.entry_count t.entries.now (entries-lent t.table.now t.nodes t.entries.now t.entry_count c.requires))
+
 pub put_entries-after_entries-requires : goal.put_entries-after_entries-requires
 put_entries-after_entries-requires c =
     let a = c.args in
     let m = parts-most a.lent.now.table.now a.lent.now.nodes a.lent.now.entries.now a.lent.now.entry_count c.requires in
-    record {
-      count_in_bounds = entries-lent a.lent.now.table.now a.lent.now.nodes a.lent.now.entries.now a.lent.now.entry_count c.requires;
-      entries_len_bound = omega arith;
-    }
+    omega arith
 
 pub put_nodes-requires : goal.put_nodes-requires
 put_nodes-requires c =
