@@ -5,7 +5,7 @@ use Rattle.trial.specs.declared.Header.{Header}
 use Rattle.trial.specs.Numbers.{header_at}
 use Rattle.trial.specs.Places.{name_end}
 use Rattle.call_texts.specs.Tables.{place_count}
-use Rattle.texts.specs.declared.Lent.{Lent}
+pub use Rattle.texts.specs.declared.Lent.{Lent}
 use Rattle.texts.specs.Rounds.{output_by, table_after, entries_after}
 pub mod Laws
 

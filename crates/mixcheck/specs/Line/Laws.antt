@@ -14,7 +14,7 @@ use Rattle.text.specs.SameTable.Numbers.{digits-most}
 use Rattle.text.specs.Writing.{digits_in, digits}
 use Rattle.host.specs.Texts.Bounds.{place_limit, check-bounded}
 use Rattle.host.specs.Texts.{check_text}
-use Rattle.mixcheck.specs.Line.{refused_word, place_text, line_of, line_limit, PutLine}
+use Rattle.mixcheck.specs.Line.{refused_word, dash, place_text, line_of, line_limit, PutLine}
 use Rattle.script.specs.Answers.Named.{Checked, Place}
 
 -- ---- lengths
@@ -54,6 +54,22 @@ line-bounded (refusal {r = r} h) =
 
 line-most : (text : List ℕ) → length (line_of (check_text text)) ≤ line_limit
 line-most text = line-bounded (check-bounded text)
+
+-- ---- the place
+
+module _ {place : Place} where
+  pub nowhere-length : place ≡ None → length (place_text place) ≡ 1
+  nowhere-length e = ap (λ (p : Place). length (place_text p)) e
+
+  pub at_length : {i : ℕ} → place ≡ Some i → length (place_text place) ≡ length (digits i)
+  at_length e = ap (λ (p : Place). length (place_text p)) e
+
+  module _ {at n : ℕ} {out out' : List ℕ} where
+    pub put_nowhere : place ≡ None → Put (tab ∷ dash ∷ []) at out n out' → Put (tab ∷ place_text place) at out n out'
+    put_nowhere e p = rw e p
+
+    pub put_at : {i : ℕ} → place ≡ Some i → Put (tab ∷ digits i) at out n out' → Put (tab ∷ place_text place) at out n out'
+    put_at e p = rw e p
 
 -- ---- the whole line
 

@@ -207,3 +207,11 @@ module _ {F E : Type 0} (g : Shared F (MutBor Lent × (ℕ × Unit {0})) (Result
   tried-err r l (all_tried w e) = tt
   tried-err r l (malformed w i t e) = on_err_anyway r (length input, stops input _ (goes w) (ok _ _ _ _ t) e)
   tried-err r l (failed w i t h) = on_err_anyway r (went_here input first (went w) (err _ _ _ _ t))
+
+-- ---- what goes on, by its frame
+
+pub stays : (room at : ℕ) → Onward room at None
+stays room at = tt
+
+pub goes_further : {room at : ℕ} (f : Frame) → at < f.next → f.share ≤ room → Onward room at (Some f)
+goes_further f h r = (h, r)

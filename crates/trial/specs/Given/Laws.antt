@@ -6,12 +6,12 @@ use Rattle.std.proofs.Common.{◌∙◌, add-one, arith, drop-cons, drop-set-lt,
 use Rattle.std.proofs.Math.ListN.{drop_of_length-le}
 use Rattle.std.proofs.lemmas.List.{set_split}
 use Rattle.std.proofs.Math.Seq.{split_at, take_all}
-use borrow.Author.Tests.{eq-eqb, ne_eqb}
+use borrow.Author.Tests.{le-leb, lt-leb, eq-eqb, ne_eqb}
 use Rattle.trial.specs.declared.given.Byte.{Byte}
-use Rattle.trial.specs.Numbers.{Number}
+use Rattle.trial.specs.Numbers.{Number, number_at}
 use Rattle.trial.specs.Numbers.Laws.{second-most}
 use Rattle.trial.specs.Places.Laws.{name_within, text_within}
-use Rattle.trial.specs.Given.{byte_at, Line, line, after, line_by, bytes_from, line_in, bytes_line}
+use Rattle.trial.specs.Given.{byte_of, byte_at, Line, line, after, line_by, bytes_from, line_in, bytes_line}
 
 -- ---- a line: at its start
 
@@ -99,3 +99,39 @@ count_most input at out e f = rw (← e, f) at (line-counted input at out)
 
 -- what callers know of what was found
 pub ruleset found = (name_within, text_within, second-most)
+
+-- ---- a byte
+
+module _ (input : List ℕ) (at : ℕ) {v next : ℕ} where
+  module _ (e : number_at 32 input at ≡ Some (v, next)) where
+    pub byte_more : v ≤ 255 → byte_at input at ≡ Some (byte_of v false next)
+    unfolding byte_at
+    byte_more h = rw (e, le-leb v 255 h) refl
+
+    pub byte_large : 255 < v → byte_at input at ≡ None
+    unfolding byte_at
+    byte_large h = rw (e, lt-leb v 255 h) refl
+
+  module _ (n : number_at 32 input at ≡ None) (e : number_at 10 input at ≡ Some (v, next)) where
+    pub byte_last : v ≤ 255 → byte_at input at ≡ Some (byte_of v true next)
+    unfolding byte_at
+    byte_last h = rw (n, e, le-leb v 255 h) refl
+
+    pub byte-last_large : 255 < v → byte_at input at ≡ None
+    unfolding byte_at
+    byte-last_large h = rw (n, e, lt-leb v 255 h) refl
+
+pub byte-none : (input : List ℕ) (at : ℕ) → number_at 32 input at ≡ None → number_at 10 input at ≡ None → byte_at input at ≡ None
+unfolding byte_at
+byte-none input at n e = rw (n, e) refl
+
+-- ---- no more than n bytes, case by case
+
+no_line : (n : ℕ) → Counted n None
+no_line n = tt
+
+counted : {n v : ℕ} (next : ℕ) → v ≤ n → Counted n (Some (v, next))
+counted next h = h
+
+count : {n v : ℕ} (next : ℕ) → Counted n (Some (v, next)) → v ≤ n
+count next h = h

@@ -144,3 +144,21 @@ second-most input at {h} e =
 -- past the end there is none
 pub header_past : (input : List ℕ) (at : ℕ) → length input ≤ at → header_at input at ≡ None
 header_past input at h = no_first input at (number_past 9 input at h)
+
+-- ---- what callers know, case by case
+
+pub no_number : (n at : ℕ) → Within n at None
+no_number n at = tt
+
+pub no_header : (n at : ℕ) → BothWithin n at None
+no_header n at = tt
+
+module _ {n at : ℕ} where
+  pub a_number_lem : {v next : ℕ} → v ≤ n → at < next → Within n at (Some (v, next))
+  a_number_lem l h = (l, h)
+
+  pub a_header : {h : Header} → h.first ≤ n → h.second ≤ n → at < h.name → BothWithin n at (Some h)
+  a_header f s l = (f, s, l)
+
+  second-within : {h : Header} → BothWithin n at (Some h) → h.second ≤ n
+  second-within w = w.1

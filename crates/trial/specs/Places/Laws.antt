@@ -92,3 +92,34 @@ text_within input at {k} e =
     rw e at (line-within at (at + length (drop at input)) true at (drop at input) (omega arith) (omega arith)) in
     let d = length-drop at input in
     (w.0, omega arith)
+
+-- ---- ends, case by case
+
+pub not-ended : (at n : ℕ) → Ends at n None
+not-ended at n = tt
+
+pub ended : {at n k : ℕ} → at ≤ k → k < n → Ends at n (Some k)
+ended l h = (l, h)
+
+module _ (input : List ℕ) (at : ℕ) where
+  name_found : Ends at (at + length (drop at input)) (line_end at (drop at input))
+  name_found = line-ends at (at + length (drop at input)) at (drop at input) (omega arith) (omega arith)
+
+  -- a name ends behind its start
+  pub name_least : IfSome (name_end input at) (λ k. at < k)
+  name_least = go (name_end input at) refl
+    where
+      go : (o : Option ℕ) → name_end input at ≡ o → IfSome o (λ k. at < k)
+      go None e = tt
+      go (Some k) e = (name_within input at e).0
+
+-- a text does not end before it starts
+pub text-least : (starts : Bool) (i : ℕ) (cs : List ℕ) → IfSome (empty_line starts i cs) (λ k. i ≤ k)
+text-least starts i cs = go (empty_line starts i cs) (line-within i (i + length cs) starts i cs (omega arith) (omega arith))
+  where
+    go : (o : Option ℕ) → Ends i (i + length cs) o → IfSome o (λ k. i ≤ k)
+    go None w = tt
+    go (Some k) w = w.0
+
+pub text-after : (input : List ℕ) (at : ℕ) {r : Option ℕ} → r ≡ text_end input at → IfSome r (λ k. at ≤ k)
+text-after input at e = rw e (text-least true at (drop at input))
