@@ -234,8 +234,8 @@ fn block_up(
     let a = node_at(table, n as usize).a;
     let depth = space[DEPTH] as usize;
     let t = block_type(table, space, depth, limit, a)?;
-    let (u, q) = typed_result(t, space, n)?;
-    climb(table, space, frames, u, q)
+    let value = typed_result(t, space, n)?;
+    climb(table, space, frames, value)
 }
 
 // A node on a path that waits for no operand: a leaf or a typed block.

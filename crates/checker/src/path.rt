@@ -12,13 +12,14 @@ use script::Refusal;
 use symbolic::fresh;
 use terms::references::Origin;
 use terms::{CONSTANT, push};
-use workspace::{BASE, Branch, CONDITION, DEPTH, KNOWN};
+use workspace::{BASE, Branch, CONDITION, DEPTH, KNOWN, Typed};
 
-// The decision at an `if` whose condition has type t and place q.
-pub fn choose(space: &mut [u32], t: u32, q: u32, n: u32) -> Result<Branch, Refusal>
-    requires { Decidable space.old t q }
-    ensures { Chooses n t q space.old result space.new }
+// The decision at an `if` whose condition gave the value v.
+pub fn choose(space: &mut [u32], v: Typed, n: u32) -> Result<Branch, Refusal>
+    requires { Decidable space.old v.0 v.1 }
+    ensures { Chooses n v.0 v.1 space.old result space.new }
 {
+    let (t, q) = v;
     if t != 1 {
         return Err(Refusal::WrongType(n));
     }

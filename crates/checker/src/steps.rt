@@ -16,7 +16,7 @@ use script::Refusal;
 use script::table::{IF, LET};
 use symbolic::{leaf, one, two};
 use table::{has_one, node_at};
-use workspace::{Branch, DEPTH, FOR_BODY, FOR_FIRST, FOR_NEXT, GOAL, KNOWN, Step};
+use workspace::{Branch, DEPTH, FOR_BODY, FOR_FIRST, FOR_NEXT, GOAL, KNOWN, Step, Typed};
 
 // What comes next on a path: a value's type and place, or an operand to execute.
 #[derive(Clone, Copy)]
@@ -33,26 +33,26 @@ fn moved(step: Step) -> Result<Move, Refusal>
     Ok(Move::Value(t, q))
 }
 
-// An `if` whose condition gave a value of type t at place q: the branch that is taken. Where both can be, the
+// An `if` whose condition gave the value v: the branch that is taken. Where both can be, the
 // condition gets the guard, and what is known of it is forgotten.
 fn branch(
     space: &mut [u32],
     frames: &mut [u32],
     b: u32,
     c: u32,
-    t: u32,
-    q: u32,
+    v: Typed,
     n: u32,
 ) -> Result<Move, Refusal>
-    requires decidable { Decidable space.old t q }
+    requires decidable { Decidable space.old v.0 v.1 }
     requires waitable { Waitable frames.old }
     requires frames_size_in_bounds { frames_size ≤ length frames.old }
     requires frames_bound { forked_in frames.old < fork_limit }
     requires space_bound { depth_in space.old ≤ symbol_limit }
-    ensures { Branched b c n t q space.old frames.old space.new frames.new result }
+    ensures { Branched b c n v.0 v.1 space.old frames.old space.new frames.new result }
 {
+    let (t, q) = v;
     wait(frames, n, FOR_NEXT, t, q);
-    match choose(space, t, q, n)? {
+    match choose(space, v, n)? {
         Branch::First => Ok(Move::Operand(b)),
         Branch::Second => Ok(Move::Operand(c)),
         Branch::Both => {
@@ -64,15 +64,15 @@ fn branch(
     }
 }
 
-// A value of type t at place q becomes a variable.
-fn bind(space: &mut [u32], t: u32, q: u32)
+// A value becomes a variable.
+fn bind(space: &mut [u32], v: Typed)
     requires space_size_in_bounds { space_size ≤ length space.old }
     requires space_bound { depth_in space.old < symbol_limit }
-    ensures { space.new ≡ bound_to space.old t q }
+    ensures { space.new ≡ bound_to space.old v.0 v.1 }
 {
     let depth = space[DEPTH];
-    space[2 * (depth as usize)] = t;
-    space[2 * (depth as usize) + 1] = q;
+    space[2 * (depth as usize)] = v.0;
+    space[2 * (depth as usize) + 1] = v.1;
     space[DEPTH] = depth + 1;
 }
 
@@ -85,75 +85,66 @@ fn unbind(space: &mut [u32])
     space[DEPTH] = space[DEPTH] - 1;
 }
 
-// Node n, whose last operand gave a value of type u at place s, and the first one of type t at place q.
+// Node n, whose first operand gave the value v, and the last one w.
 fn last(
     kind: u32,
     awaits: u32,
-    t: u32,
-    q: u32,
-    u: u32,
-    s: u32,
+    v: Typed,
+    w: Typed,
     space: &mut [u32],
     n: u32,
 ) -> Result<Move, Refusal>
-    requires { Lastable awaits space.old t q u s }
-    ensures { Lasts kind awaits n t q u s space.old result space.new }
+    requires { Lastable awaits space.old v.0 v.1 w.0 w.1 }
+    ensures { Lasts kind awaits n v.0 v.1 w.0 w.1 space.old result space.new }
 {
     if awaits == FOR_BODY {
         unbind(space);
-        return Ok(Move::Value(u, s));
+        return Ok(Move::Value(w.0, w.1));
     }
-    moved(two(kind, t, q, u, s, space, n))
+    moved(two(kind, v, w, space, n))
 }
 
-// The value of type t at place q goes to the frame that waits for it.
-fn back(
-    table: &[u32],
-    space: &mut [u32],
-    frames: &mut [u32],
-    t: u32,
-    q: u32,
-) -> Result<Move, Refusal>
-    requires returnable { Returnable table.now space.old frames.old t q }
+// The value goes to the frame that waits for it.
+fn back(table: &[u32], space: &mut [u32], frames: &mut [u32], v: Typed) -> Result<Move, Refusal>
+    requires returnable { Returnable table.now space.old frames.old v.0 v.1 }
     requires bound { 1 ≤ frame_in frames.old }
-    ensures { Backs table.now t q space.old frames.old result space.new frames.new }
+    ensures { Backs table.now v.0 v.1 space.old frames.old result space.new frames.new }
 {
+    let (t, q) = v;
     let frame = leave(frames);
     let n = frame.node;
     let node = node_at(table, n as usize);
     if frame.awaits != FOR_FIRST {
-        return last(node.kind, frame.awaits, frame.x, frame.y, t, q, space, n);
+        return last(node.kind, frame.awaits, (frame.x, frame.y), v, space, n);
     }
     if has_one(node.kind) {
-        return moved(one(node.kind, t, q, space, n));
+        return moved(one(node.kind, v, space, n));
     }
     if node.kind == IF {
-        return branch(space, frames, node.b, node.c, t, q, n);
+        return branch(space, frames, node.b, node.c, v, n);
     }
     if node.kind == LET {
         wait(frames, n, FOR_BODY, t, q);
-        bind(space, t, q);
+        bind(space, v);
         return Ok(Move::Operand(node.b));
     }
     wait(frames, n, FOR_NEXT, t, q);
     Ok(Move::Operand(node.b))
 }
 
-// The value of type t at place q goes up until an operand is next; a value that no frame waits for is the path's.
+// The value goes up until an operand is next; a value that no frame waits for is the path's.
 pub fn climb(
     table: &[u32],
     space: &mut [u32],
     frames: &mut [u32],
-    t: u32,
-    q: u32,
+    v: Typed,
 ) -> Result<Move, Refusal>
-    requires { Returnable table.now space.old frames.old t q }
-    ensures { Climbs table.now t q space.old frames.old result space.new frames.new }
+    requires { Returnable table.now space.old frames.old v.0 v.1 }
+    ensures { Climbs table.now v.0 v.1 space.old frames.old result space.new frames.new }
 {
-    let mut u = t;
-    let mut s = q;
+    let (mut u, mut s) = v;
     while frames[GOAL] != 0 {
-        match back(table, space, frames, u, s)? {
+        match back(table, space, frames, (u, s))? {
             Move::Value(w, r) => {
                 u = w;
                 s = r;
@@ -176,6 +167,6 @@ pub fn leaf_up(
 {
     let node = node_at(table, n as usize);
     let depth = space[DEPTH] as usize;
-    let (t, q) = leaf(node, space, depth, n)?;
-    climb(table, space, frames, t, q)
+    let value = leaf(node, space, depth, n)?;
+    climb(table, space, frames, value)
 }

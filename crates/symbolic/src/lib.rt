@@ -17,7 +17,7 @@ use terms::references::{Origin, reference};
 use terms::{CONJUNCTION, CONSTANT, EQUALITY, NEGATION, NUMBER, SUM, SYMBOL, TRUTH, push};
 use types::DEEPEST;
 use words::equal_words;
-use workspace::{NEXT, Step};
+use workspace::{NEXT, Step, Typed};
 use write_log::{consistent, forget, lookup, write};
 
 // A fresh symbol of type t, with this origin: its place.
@@ -62,10 +62,11 @@ pub fn leaf(node: Node, space: &mut [u32], depth: usize, n: u32) -> Step
 }
 
 // `not`.
-fn negation(t: u32, q: u32, space: &mut [u32], n: u32) -> Step
+fn negation(v: Typed, space: &mut [u32], n: u32) -> Step
     requires { Room space.old 1 }
-    ensures { One (unary_form not_op) n t q space.old result space.new }
+    ensures { One (unary_form not_op) n v.0 v.1 space.old result space.new }
 {
+    let (t, q) = v;
     if t != 1 {
         return Err(Refusal::WrongType(n));
     }
@@ -73,23 +74,25 @@ fn negation(t: u32, q: u32, space: &mut [u32], n: u32) -> Step
 }
 
 // `ref`: a fresh symbol, and its value in the log.
-fn make_cell(t: u32, q: u32, space: &mut [u32], n: u32) -> Step
+fn make_cell(v: Typed, space: &mut [u32], n: u32) -> Step
     requires { Room space.old 1 }
-    ensures { One (unary_form ref_op) n t q space.old result space.new }
+    ensures { One (unary_form ref_op) n v.0 v.1 space.old result space.new }
 {
+    let t = v.0;
     if DEEPEST <= t {
         return Err(Refusal::TooManyReferences(n));
     }
     let place = fresh(space, t + 2, Origin::Made);
-    write(space, t + 2, place, t, q);
+    write(space, (t + 2, place), v);
     Ok((t + 2, place))
 }
 
 // `get`: what the log has, of whatever type; or else, if the log is consistent, a fresh symbol.
-fn read_cell(t: u32, q: u32, space: &mut [u32], n: u32) -> Step
+fn read_cell(v: Typed, space: &mut [u32], n: u32) -> Step
     requires { Room space.old 1 }
-    ensures { One (unary_form get_op) n t q space.old result space.new }
+    ensures { One (unary_form get_op) n v.0 v.1 space.old result space.new }
 {
+    let (t, q) = v;
     if t < 2 {
         return Err(Refusal::WrongType(n));
     }
@@ -104,24 +107,26 @@ fn read_cell(t: u32, q: u32, space: &mut [u32], n: u32) -> Step
     }
 }
 
-// A node with one operand that is a node, which gave a value of type t at place q.
-pub fn one(kind: u32, t: u32, q: u32, space: &mut [u32], n: u32) -> Step
+// A node with one operand that is a node, which gave the value v.
+pub fn one(kind: u32, v: Typed, space: &mut [u32], n: u32) -> Step
     requires { Room space.old 1 }
-    ensures { One (form_of kind) n t q space.old result space.new }
+    ensures { One (form_of kind) n v.0 v.1 space.old result space.new }
 {
     match kind {
-        NOT => negation(t, q, space, n),
-        REF => make_cell(t, q, space, n),
-        GET => read_cell(t, q, space, n),
-        _ => Ok((t, q)),
+        NOT => negation(v, space, n),
+        REF => make_cell(v, space, n),
+        GET => read_cell(v, space, n),
+        _ => Ok(v),
     }
 }
 
 // `add` and `and`: both values are of the type wanted, and so is the row of this operator.
-fn both(wanted: u32, op: u32, t: u32, q: u32, u: u32, s: u32, space: &mut [u32], n: u32) -> Step
+fn both(wanted: u32, op: u32, v: Typed, w: Typed, space: &mut [u32], n: u32) -> Step
     requires { Room space.old 1 }
-    ensures { OfBoth wanted op n t q u s space.old result space.new }
+    ensures { OfBoth wanted op n v.0 v.1 w.0 w.1 space.old result space.new }
 {
+    let (t, q) = v;
+    let (u, s) = w;
     if t == wanted && u == wanted {
         return Ok((wanted, push(space, op, q, s)));
     }
@@ -129,10 +134,12 @@ fn both(wanted: u32, op: u32, t: u32, q: u32, u: u32, s: u32, space: &mut [u32],
 }
 
 // `eq`.
-fn equality(t: u32, q: u32, u: u32, s: u32, space: &mut [u32], n: u32) -> Step
-    requires { Operable space.old t q u s }
-    ensures { Two (binary_form eq_op) n t q u s space.old result space.new }
+fn equality(v: Typed, w: Typed, space: &mut [u32], n: u32) -> Step
+    requires { Operable space.old v.0 v.1 w.0 w.1 }
+    ensures { Two (binary_form eq_op) n v.0 v.1 w.0 w.1 space.old result space.new }
 {
+    let (t, q) = v;
+    let (u, s) = w;
     if t != u {
         return Err(Refusal::WrongType(n));
     }
@@ -144,28 +151,28 @@ fn equality(t: u32, q: u32, u: u32, s: u32, space: &mut [u32], n: u32) -> Step
 }
 
 // `set`: any value is logged.
-fn write_cell(t: u32, q: u32, u: u32, s: u32, space: &mut [u32], n: u32) -> Step
+fn write_cell(v: Typed, w: Typed, space: &mut [u32], n: u32) -> Step
     requires { Room space.old 1 }
-    ensures { Two (binary_form set_op) n t q u s space.old result space.new }
+    ensures { Two (binary_form set_op) n v.0 v.1 w.0 w.1 space.old result space.new }
 {
-    if t < 2 {
+    if v.0 < 2 {
         return Err(Refusal::WrongType(n));
     }
-    write(space, t, q, u, s);
-    Ok((u, s))
+    write(space, v, w);
+    Ok(w)
 }
 
-// A node whose first operand gave a value of type t at place q, and the next one of type u at place s.
-pub fn two(kind: u32, t: u32, q: u32, u: u32, s: u32, space: &mut [u32], n: u32) -> Step
-    requires { Operable space.old t q u s }
-    ensures { Two (form_of kind) n t q u s space.old result space.new }
+// A node whose first operand gave the value v, and the next one w.
+pub fn two(kind: u32, v: Typed, w: Typed, space: &mut [u32], n: u32) -> Step
+    requires { Operable space.old v.0 v.1 w.0 w.1 }
+    ensures { Two (form_of kind) n v.0 v.1 w.0 w.1 space.old result space.new }
 {
     match kind {
-        ADD => both(0, SUM, t, q, u, s, space, n),
-        EQ => equality(t, q, u, s, space, n),
-        AND => both(1, CONJUNCTION, t, q, u, s, space, n),
-        SET => write_cell(t, q, u, s, space, n),
-        _ => Ok((u, s)),
+        ADD => both(0, SUM, v, w, space, n),
+        EQ => equality(v, w, space, n),
+        AND => both(1, CONJUNCTION, v, w, space, n),
+        SET => write_cell(v, w, space, n),
+        _ => Ok(w),
     }
 }
 

@@ -93,8 +93,11 @@ pub const AWAITS: u32 = 4;
 
 // ---- what the functions hand to each other
 
-// A path's step: a value's type and place, or a refusal that ends the path.
-pub type Step = Result<(u32, u32), Refusal>;
+// A value on a path: its type's code, and its place.
+pub type Typed = (u32, u32);
+
+// A path's step: a value, or a refusal that ends the path.
+pub type Step = Result<Typed, Refusal>;
 
 // What a frame has: the node that waits, for what, and the type and the place of its first operand's value.
 #[derive(Clone, Copy)]

@@ -8,7 +8,7 @@ ghost use Rattle.workspace.specs.Places.{space_size};
 ghost use Rattle.workspace.specs.State.{writes_in};
 
 use terms::references::{apart, symbol_of};
-use workspace::{LOG, START, WRITE, WRITES};
+use workspace::{LOG, START, Typed, WRITE, WRITES};
 
 // Write i has the type of its cell.
 fn is_right(space: &[u32], i: usize) -> bool
@@ -73,7 +73,7 @@ pub fn consistent(space: &[u32]) -> bool
 }
 
 // What `get` finds through the reference at this place, seen from the newest write, among those that count.
-pub fn lookup(space: &[u32], place: u32) -> Option<(u32, u32)>
+pub fn lookup(space: &[u32], place: u32) -> Option<Typed>
     requires space_bound { writes_in space.now ≤ node_limit }
     requires space_size_in_bounds { space_size ≤ length space.now }
     ensures { result ≡ lookup_in space.now place }
@@ -92,18 +92,18 @@ pub fn lookup(space: &[u32], place: u32) -> Option<(u32, u32)>
     None
 }
 
-// A write through the reference of type t at place q: a value of type u at place s.
-pub fn write(space: &mut [u32], t: u32, q: u32, u: u32, s: u32)
+// A write of a value through a reference.
+pub fn write(space: &mut [u32], through: Typed, value: Typed)
     requires space_bound { writes_in space.old < node_limit }
     requires space_size_in_bounds { space_size ≤ length space.old }
-    ensures { space.new ≡ written space.old t q u s }
+    ensures { space.new ≡ written space.old through.0 through.1 value.0 value.1 }
 {
     let count = space[WRITES];
     let at = LOG + WRITE * (count as usize);
-    space[at] = t;
-    space[at + 1] = q;
-    space[at + 2] = u;
-    space[at + 3] = s;
+    space[at] = through.0;
+    space[at + 1] = through.1;
+    space[at + 2] = value.0;
+    space[at + 3] = value.1;
     space[WRITES] = count + 1;
 }
 

@@ -3,7 +3,7 @@ use Rattle.workspace.specs.Rules.Operators.{negation-wrong, negation-made}
 use Rattle.symbolic.proofs.negation.Goals as goal
 
 pub returns-then-t-ne1 : goal.returns-then-t-ne1
-returns-then-t-ne1 c = negation-wrong c.args.n c.args.t c.args.q c.if-t-ne1.true
+returns-then-t-ne1 c = negation-wrong c.args.n c.args.v.0 c.args.v.1 c.if-t-ne1.true
 
 pub returns : goal.returns
-returns c = negation-made c.args.n c.args.t c.args.q c.if-t-ne1.false c.requires c.push.ensures.value c.push.ensures.space_after
+returns c = negation-made c.args.n c.args.v.0 c.args.v.1 c.if-t-ne1.false c.requires c.push.ensures.value c.push.ensures.space_after

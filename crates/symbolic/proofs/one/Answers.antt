@@ -20,4 +20,4 @@ returns-in-11 c = rw c.in-11.is c.read_cell.ensures
 pub returns-in_default : goal.returns-in_default
 returns-in_default c =
     let d = c.in_default.in_default-own.rest in
-    one_other c.args.n c.args.t c.args.q c.args.kind (but d.0.0.1 (but d.0.1 (but d.1 none_left)))
+    one_other c.args.n c.args.v.0 c.args.v.1 c.args.kind (but d.0.0.1 (but d.0.1 (but d.1 none_left)))

@@ -2,10 +2,10 @@
 use Rattle.workspace.specs.Rules.Memory.{set-wrong, set-made}
 use Rattle.symbolic.proofs.write_cell.Goals as goal
 
-pub returns-then-t-lt2 : goal.returns-then-t-lt2
-returns-then-t-lt2 c = set-wrong c.args.n c.args.t c.args.q c.args.u c.args.s c.if-t-lt2.true
+pub returns-then-v-lt2 : goal.returns-then-v-lt2
+returns-then-v-lt2 c = set-wrong c.args.n c.args.v.0 c.args.v.1 c.args.w.0 c.args.w.1 c.if-v-lt2.true
 
 pub returns : goal.returns
 returns c =
-    set-made c.args.n c.args.t c.args.q c.args.u c.args.s c.if-t-lt2.false c.requires
+    set-made c.args.n c.args.v.0 c.args.v.1 c.args.w.0 c.args.w.1 c.if-v-lt2.false c.requires
     c.write.ensures

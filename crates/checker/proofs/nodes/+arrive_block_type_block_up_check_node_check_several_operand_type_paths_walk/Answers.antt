@@ -50,7 +50,7 @@ pub block_up-climb-requires : goal.block_up-climb-requires
 block_up-climb-requires t c =
     let s = c.requires in
     let b = rw c.node_at-a.ensures at c.block_type.ensures in
-    up-returnable s.enterable s.n_value b c.in_ok-t.was c.typed_result.ensures c.in_ok-u.was
+    up-returnable s.enterable s.n_value b c.in_ok-t.was c.typed_result.ensures c.in_ok-value.was
 
 pub block_up-returns-in_err-t : goal.block_up-returns-in_err-t
 block_up-returns-in_err-t t c =
@@ -58,17 +58,17 @@ block_up-returns-in_err-t t c =
     let b = rw c.node_at-a.ensures at c.block_type.ensures in
     rw (handed_on c.from_residual.result c.from_residual.ensures.1) (up-refused s.enterable s.n_value b c.in_err-t.was)
 
-pub block_up-returns-in_err-u : goal.block_up-returns-in_err-u
-block_up-returns-in_err-u t c =
+pub block_up-returns-in_err-value : goal.block_up-returns-in_err-value
+block_up-returns-in_err-value t c =
     let s = c.requires in
     let b = rw c.node_at-a.ensures at c.block_type.ensures in
-    rw (handed_on c.from_residual-in_err-u.result c.from_residual-in_err-u.ensures.1) (up-stopping s.enterable s.n_value b c.in_ok-t.was c.typed_result.ensures c.in_err-u.was)
+    rw (handed_on c.from_residual-in_err-value.result c.from_residual-in_err-value.ensures.1) (up-stopping s.enterable s.n_value b c.in_ok-t.was c.typed_result.ensures c.in_err-value.was)
 
 pub block_up-returns : goal.block_up-returns
 block_up-returns t c =
     let s = c.requires in
     let b = rw c.node_at-a.ensures at c.block_type.ensures in
-    up_climbing s.enterable s.n_value b c.in_ok-t.was c.typed_result.ensures c.in_ok-u.was c.climb.ensures
+    up_climbing s.enterable s.n_value b c.in_ok-t.was c.typed_result.ensures c.in_ok-value.was c.climb.ensures
 
 pub check_node-returns-then-node-lt-LEAVES : goal.check_node-returns-then-node-lt-LEAVES
 check_node-returns-then-node-lt-LEAVES t c =

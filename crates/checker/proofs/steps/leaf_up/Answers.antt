@@ -12,12 +12,12 @@ leaf-requires c =
 
 pub climb-requires : goal.climb-requires
 climb-requires c =
-    leaf-returnable c.requires (rw c.node_at-node.ensures at c.leaf.ensures) c.in_ok-t.was
+    leaf-returnable c.requires (rw c.node_at-node.ensures at c.leaf.ensures) c.in_ok-value.was
 
-pub returns-in_err-t : goal.returns-in_err-t
-returns-in_err-t c =
-    rw (handed_on c.from_residual.result c.from_residual.ensures.1) (leaf-stopping c.requires (rw c.node_at-node.ensures at c.leaf.ensures) c.in_err-t.was)
+pub returns-in_err-value : goal.returns-in_err-value
+returns-in_err-value c =
+    rw (handed_on c.from_residual.result c.from_residual.ensures.1) (leaf-stopping c.requires (rw c.node_at-node.ensures at c.leaf.ensures) c.in_err-value.was)
 
 pub returns : goal.returns
 returns c =
-    leaf_climbing c.requires (rw c.node_at-node.ensures at c.leaf.ensures) c.in_ok-t.was c.climb.ensures
+    leaf_climbing c.requires (rw c.node_at-node.ensures at c.leaf.ensures) c.in_ok-value.was c.climb.ensures
