@@ -92,13 +92,13 @@ frame_past input room at h = rw (header_past input at h) refl
 -- ---- all frames
 
 -- from `at` on k frames are more than the input has, and their trials leave m
-record Going (input : List ℕ) (at : ℕ) (l m : Lent) : Type 0 where
+pub record Going (input : List ℕ) (at : ℕ) (l m : Lent) : Type 0 where
   turns : ℕ
   enough : length input ≤ at + turns
   rest : after_frames input turns at l ≡ m
 
 module _ (input : List ℕ) where
-  starts : (l : Lent) → Going input 0 l (after_frames input (length input) 0 l)
+  pub starts : (l : Lent) → Going input 0 l (after_frames input (length input) 0 l)
   starts l = record { turns = length input; enough = omega arith; rest = refl }
 
   module _ (at : ℕ) where
@@ -114,7 +114,7 @@ module _ (input : List ℕ) where
     turn-some k l e = rw e refl
 
     module _ {l m : Lent} (g : Going input at l m) where
-      ends : length input ≤ at → l ≡ m
+      pub ends : length input ≤ at → l ≡ m
       ends h = sym (turn-none g.turns l (frame_past input (length l.out) at h)) ∙ g.rest
 
       stops : {r : Option ℕ} {n : Lent} → Framed (frame_at input (length l.out) at) l r n → Malformed at r → n ≡ m
@@ -124,7 +124,7 @@ module _ (input : List ℕ) where
           go None e a p q = q ∙ sym (turn-none g.turns l e) ∙ g.rest
           go (Some f) e a p q = let k : f.next ≤ at = rw p at h in absurd (omega arith)
 
-      on : {next : ℕ} {n : Lent} → Framed (frame_at input (length l.out) at) l (Some next) n → at < length input → at < next → Going input next n m
+      pub on : {next : ℕ} {n : Lent} → Framed (frame_at input (length l.out) at) l (Some next) n → at < length input → at < next → Going input next n m
       on {next} {n} w i h = go (frame_at input (length l.out) at) refl w.next-is w.left_is g.turns g.enough g.rest
         where
           go : (o : Option Frame) → frame_at input (length l.out) at ≡ o → Some next ≡ next_by o → n ≡ after_frame o l
@@ -138,7 +138,7 @@ module _ (input : List ℕ) where
 -- ---- the first frames
 
 -- so many trials, of the frames from the input's start on, leave l, and the next frame starts at `at`
-record Went (input : List ℕ) (first : Lent) (at : ℕ) (l : Lent) : Type 0 where
+pub record Went (input : List ℕ) (first : Lent) (at : ℕ) (l : Lent) : Type 0 where
   turns : ℕ
   more : (k : ℕ) → after_frames input (turns + k) 0 first ≡ after_frames input k at l
 
@@ -152,15 +152,15 @@ module _ (input : List ℕ) where
       go (Some f) = refl
 
   module _ (first : Lent) where
-    went-none : Went input first 0 first
+    pub went-none : Went input first 0 first
     went-none = record { turns = zero; more = λ k. ap (λ m. after_frames input m 0 first) (zero-add k) }
 
     module _ {at : ℕ} {l : Lent} (w : Went input first at l) where
       -- with the trial of the frame at `at`
-      went_here : {n : Lent} → n ≡ after_frame (frame_at input (length l.out) at) l → (turns : ℕ) × (n ≡ after_frames input turns 0 first)
+      pub went_here : {n : Lent} → n ≡ after_frame (frame_at input (length l.out) at) l → (turns : ℕ) × (n ≡ after_frames input turns 0 first)
       went_here e = (w.turns + suc zero, e ∙ sym (after-one at l) ∙ sym (w.more (suc zero)))
 
-      went_on : {next : ℕ} {n : Lent} → Framed (frame_at input (length l.out) at) l (Some next) n → Went input first next n
+      pub went_on : {next : ℕ} {n : Lent} → Framed (frame_at input (length l.out) at) l (Some next) n → Went input first next n
       went_on {next} {n} f = go (frame_at input (length l.out) at) refl f.next-is f.left_is
         where
           go : (o : Option Frame) → frame_at input (length l.out) at ≡ o → Some next ≡ next_by o → n ≡ after_frame o l → Went input first next n

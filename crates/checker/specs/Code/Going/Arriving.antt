@@ -6,7 +6,7 @@ use Rattle.script.specs.Flat.{HasNode}
 use Rattle.script.specs.Limits.{node_limit}
 use Rattle.script.specs.Rows.{typed_form, node_operands}
 use Rattle.script.specs.Rows.Kinds.{kind_for, leaf_kinds}
-use Rattle.script.specs.Answers.Named.{Checked}
+use Rattle.script.specs.Answers.Named.{Checked, same_given}
 use Rattle.script.specs.declared.Refusal.{Refusal}
 use Rattle.rules.specs.Checking.{check, exec}
 use Rattle.rules.specs.Paths.{Paths, bind, Leaf, stopped, leaves}
@@ -262,3 +262,14 @@ module _ {limit : ℕ} {table ws fs : List ℕ} {n : ℕ} (x : Enterable limit t
 
       pub up-stopping : {y : Refusal} → a ≡ Err y → Arrives limit table n ws fs (Err y) left₂ fs
       up-stopping j = arrives_stopping λ bound base beneath ls q. gives-stopped (block_gives q k some b i o) j
+
+-- ---- steps that are the same
+
+same-type : {t q u s : ℕ} → ◌≡◌ {A = Step} (Ok (t, q)) (Ok (u, s)) → t ≡ u
+same-type e = (same_given e).0
+
+same_place : {t q u s : ℕ} → ◌≡◌ {A = Step} (Ok (t, q)) (Ok (u, s)) → q ≡ s
+same_place e = (same_given e).1
+
+same_stop : {x y : Refusal} → ◌≡◌ {A = Step} (Err x) (Err y) → x ≡ y
+same_stop e = cc
