@@ -50,11 +50,7 @@ pub fn field(text: &[u8], from: usize) -> &[u8]
 pub fn byte_is(text: &[u8], at: usize, b: u8) -> bool
     ensures { result ≡ starts_with b (drop at text.now) }
 {
-    if at < text.len() {
-        let c = text[at];
-        return c == b;
-    }
-    false
+    text.get(at) == Some(&b)
 }
 
 // The number that the digits of a field make, at most `limit`.

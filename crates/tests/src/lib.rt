@@ -88,10 +88,7 @@ fn with_sym(n: Node, d: u32) -> u32
     requires { d < word_limit }
     ensures { result ≡ pick (is_sym_node n) 1 0 + d }
 {
-    if is_sym(n) {
-        return d + 1;
-    }
-    d
+    d + is_sym(n) as u32
 }
 
 // How many of the first `nodes` nodes are `sym`.

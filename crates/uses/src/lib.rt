@@ -57,10 +57,10 @@ fn without_bit(word: u64, k: u32) -> u64
 fn used_again(u: Uses, o: u32) -> Uses
     ensures { result ≡ used_again u o }
 {
-    if o < u.again {
-        return Uses { again: o, ..u };
+    Uses {
+        again: u.again.min(o),
+        ..u
     }
-    u
 }
 
 // One use more, of node o.
@@ -119,14 +119,11 @@ fn first_unused(u: Uses) -> u32
 }
 
 // The lowest node that is unused or used again, or 128.
+#[tactic(auto, unfolding(crate::specs::Walk::lowest_wrong))]
 fn lowest_wrong(u: Uses) -> u32
     ensures { result ≡ lowest_wrong u }
 {
-    let unused = first_unused(u);
-    if unused < u.again {
-        return unused;
-    }
-    u.again
+    first_unused(u).min(u.again)
 }
 
 // That node, if it is before the last.
