@@ -2,7 +2,7 @@
 use Rattle.std.specs.Prelude.{Bool, true, false, List, ◌≡◌, refl, ℕ, zero, suc, ◌+◌, ◌-◌, ◌≤◌, ◌<◌, pred, eqb, length, take, drop, get_or, set}
 use Rattle.std.proofs.Math.Bool.{not}
 use Rattle.std.proofs.Math.Option.{Option, none}
-use Rattle.std.proofs.Common.{sym, ◌∙◌, add-one, arith, length-set, length-take, length-drop, get_or-set_same, get_or-set_other, take_all, eq-eqb, ne_eqb}
+use Rattle.std.proofs.Common.{sym, ◌∙◌, add-one, arith, length-set, length-take, length-drop, get_or-set_same, get_or-set_other, take_all, eq-eqb, ne_eqb, length-take-le, get_or-take, ap}
 use Rattle.std.proofs.Math.Path.{ap}
 use Rattle.std.proofs.Math.Decide.{ℕ_discrete}
 use Rattle.std.proofs.Math.Seq.{take-length, drop-length}
@@ -231,3 +231,11 @@ module _ (ns : List Node) (xs : List ℕ) where
   nesting_depths u =
       ap (λ (o : Option ℕ). need_none o TooDeep none)
       (lowest-same (λ i. deep_at (node_at ns i) (get_or xs i 0)) (too_deep ns) (length ns) (λ j h. ap (deep_at (node_at ns j)) (u.around j h)))
+
+-- of a list only the counts of the nodes are looked at
+pub counts-first : (xs : List ℕ) (n : ℕ) → n ≤ length xs → counts_test (take n xs) (length (take n xs)) ≡ counts_test xs n
+unfolding counts_test
+counts-first xs n h =
+    rw (length-take-le n xs h)
+    (ap (λ (o : Option ℕ). need_none o NotUsedOnce none)
+    (lowest-same (λ i. not (eqb (get_or (take n xs) i 0) 1)) (λ i. not (eqb (get_or xs i 0) 1)) (pred n) (λ j k. ap (λ (x : ℕ). not (eqb x 1)) (get_or-take n xs j 0 (pred-below j n k)))))

@@ -57,13 +57,12 @@ fn count_uses(table: &[u32], nodes: usize, counts: &mut [u32])
     }
 }
 
-// 5 by the counts of the first `nodes` nodes. The last node is not tested.
-fn test_counts(counts: &[u32], nodes: usize) -> Result<(), Refusal>
-    requires nodes_in_bounds { nodes ≤ length counts.now }
-    requires nodes_le_node_limit { nodes ≤ node_limit }
-    ensures { result ≡ tested_by (counts_test counts.now nodes) }
+// 5 by the counts of the nodes. The last node is not tested.
+fn test_counts(counts: &[u32]) -> Result<(), Refusal>
+    requires { length counts.now ≤ node_limit }
+    ensures { result ≡ tested_by (counts_test counts.now (length counts.now)) }
 {
-    for i in 0..nodes.saturating_sub(1) {
+    for i in 0..counts.len().saturating_sub(1) {
         if counts[i] != 1 {
             return Err(Refusal::NotUsedOnce(i as u32));
         }
@@ -147,7 +146,7 @@ fn test_uses(table: &[u32], nodes: usize) -> Result<(), Refusal>
 {
     let mut counts = [0u32; Script::NODES];
     count_uses(table, nodes, &mut counts);
-    test_counts(&counts, nodes)
+    test_counts(&counts[..nodes])
 }
 
 // 13 of the first `nodes` nodes, which are well formed. No more `sym` are around a node than there are.

@@ -93,9 +93,9 @@ frame_past input room at h = rw (header_past input at h) refl
 
 -- from `at` on k frames are more than the input has, and their trials leave m
 pub record Going (input : List ℕ) (at : ℕ) (l m : Lent) : Type 0 where
-  turns : ℕ
-  enough : length input ≤ at + turns
-  rest : after_frames input turns at l ≡ m
+  pub turns : ℕ
+  pub enough : length input ≤ at + turns
+  pub rest : after_frames input turns at l ≡ m
 
 module _ (input : List ℕ) where
   pub starts : (l : Lent) → Going input 0 l (after_frames input (length input) 0 l)
@@ -139,8 +139,8 @@ module _ (input : List ℕ) where
 
 -- so many trials, of the frames from the input's start on, leave l, and the next frame starts at `at`
 pub record Went (input : List ℕ) (first : Lent) (at : ℕ) (l : Lent) : Type 0 where
-  turns : ℕ
-  more : (k : ℕ) → after_frames input (turns + k) 0 first ≡ after_frames input k at l
+  pub turns : ℕ
+  pub more : (k : ℕ) → after_frames input (turns + k) 0 first ≡ after_frames input k at l
 
 module _ (input : List ℕ) where
   after-one : (at : ℕ) (l : Lent) → after_frames input (suc zero) at l ≡ after_frame (frame_at input (length l.out) at) l
