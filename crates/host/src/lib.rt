@@ -1,4 +1,4 @@
-// Checking and running of script text: `check_text` and `run_text` with answers as enums, for Rattle; `teqharis_check` and `teqharis_run` with each answer as
+// Checking and running of script text: `check_text` and `run_text` with answers as results, for Rattle; `teqharis_check` and `teqharis_run` with each answer as
 // one number, which `host_c` exports to C.
 #![tactic(auto)]
 
