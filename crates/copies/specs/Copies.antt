@@ -1,5 +1,5 @@
 -- The table of a call over records, and what the copying functions leave: a table of records in flat form, and a flat table in records. Assumes nothing.
-use Rattle.std.specs.Prelude.{refl, List, ◌++◌, ◌≡◌, ℕ, ◌*◌, ◌/◌, min, length, take, drop}
+use Rattle.std.specs.Prelude.{List, ◌++◌, ◌≡◌, ℕ, ◌*◌, ◌/◌, min, length, take, drop}
 use Rattle.script.specs.Flat.{node_width, flat, nodes_in}
 use Rattle.script.specs.Limits.{node_limit}
 use Rattle.script.specs.Table.{Table, unused}
@@ -15,9 +15,6 @@ table_of ns nodes es entries = record { lent_nodes = ns; node_count = nodes; len
 
 abbrev pub records_by : LentTable Node → Table
 records_by t = table_of t.table.now t.nodes t.entries.now t.entry_count
-
-pub records-over : (t : LentTable Node) {ns : List Node} {es : List ℕ} {n m : ℕ} → t.table.now ≡ ns → t.nodes ≡ n → t.entries.now ≡ es → t.entry_count ≡ m → records_by t ≡ table_of ns n es m
-records-over t a b c d = rw (a, b, c, d) refl
 
 -- a call makes room for the numbers of as many nodes as a script can have
 abbrev pub flat_size : ℕ
