@@ -39,7 +39,7 @@ fn say_kept(rt: &impl Print, before: &[u8], cells: &[u8], from: usize) -> io::Re
     let kept = before
         .get(from..)
         .is_some_and(|rest| cells.get(from..) == Some(rest));
-    say_either(rt, kept, "kept", "touched")
+    say_either(rt, kept, b"kept", b"touched")
 }
 
 // Prints a used count, the used cells, and whether those after them are as they were.

@@ -24,18 +24,18 @@ pub struct Round {
 // Prints whether the places after these counts hold what reading leaves in unused places.
 fn say_clean(rt: &impl Print, table: &[u32], entries: &[u32], used: Script) -> io::Result<()> {
     let clear = nodes_clear(table, used.nodes) && entries_clear(entries, used.entries);
-    say_either(rt, clear, "clean", "dirty")
+    say_either(rt, clear, b"clean", b"dirty")
 }
 
 // Prints whether the output from `from` on is as it was.
 fn say_kept(rt: &impl Print, out: &[u8], from: usize) -> io::Result<()> {
     let kept = out.get(from..).is_some_and(|rest| all_bytes(rest, BLANK));
-    say_either(rt, kept, "kept", "touched")
+    say_either(rt, kept, b"kept", b"touched")
 }
 
 // Prints whether the output begins with a text of this length, and it is `text`.
 fn say_same(rt: &impl Print, text: &[u8], out: &[u8], length: usize) -> io::Result<()> {
-    say_either(rt, out.get(..length) == Some(text), "same", "differs")
+    say_either(rt, out.get(..length) == Some(text), b"same", b"differs")
 }
 
 // Writes a table that was read.

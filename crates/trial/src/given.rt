@@ -6,10 +6,10 @@ use crate::number_until;
 
 // A byte of a line, whether it is the line's last, and where the next byte starts, or after the last the next line.
 #[derive(Clone, Copy)]
-struct Byte {
-    value: u8,
-    last: bool,
-    next: usize,
+pub struct Byte {
+    pub value: u8,
+    pub last: bool,
+    pub next: usize,
 }
 
 // The decimal byte at `at`, with a blank or an LF after it.

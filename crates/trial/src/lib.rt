@@ -136,8 +136,9 @@ pub fn say(rt: &impl Print, s: &[u8]) -> io::Result<()> {
 }
 
 // Prints one of two words, after a tab.
-pub fn say_either(rt: &impl Print, first: bool, a: &str, b: &str) -> io::Result<()> {
-    print!(rt; "\t{}", if first { a } else { b })
+pub fn say_either(rt: &impl Print, first: bool, a: &[u8], b: &[u8]) -> io::Result<()> {
+    say(rt, b"\t")?;
+    say(rt, if first { a } else { b })
 }
 
 // Prints a refusal: the word, its number, its place or `-`.

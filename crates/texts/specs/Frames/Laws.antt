@@ -117,7 +117,7 @@ module _ (input : List ℕ) where
       pub ends : length input ≤ at → l ≡ m
       ends h = sym (turn-none g.turns l (frame_past input (length l.out) at h)) ∙ g.rest
 
-      stops : {r : Option ℕ} {n : Lent} → Framed (frame_at input (length l.out) at) l r n → Malformed at r → n ≡ m
+      pub stops : {r : Option ℕ} {n : Lent} → Framed (frame_at input (length l.out) at) l r n → Malformed at r → n ≡ m
       stops {r} {n} w h = go (frame_at input (length l.out) at) refl (frame-onward input (length l.out) at) w.next-is w.left_is
         where
           go : (o : Option Frame) → frame_at input (length l.out) at ≡ o → Onward (length l.out) at o → r ≡ next_by o → n ≡ after_frame o l → n ≡ m
