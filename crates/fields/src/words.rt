@@ -5,32 +5,20 @@ ghost use Rattle.text.specs.Code.Scan.{said_by};
 ghost use Rattle.text.specs.Code.Output.{word_of};
 ghost use Rattle.script.specs.Rows.Kinds.{kind_count};
 
-use script::table::{
-    ADD, AND, EQ, FALSE, GET, IF, INT, KINDS, LET, NOT, REF, SET, TRUE, TYPED, VAR,
-};
+use script::table::KINDS;
+
+// The words in the order of the kinds.
+const WORDS: [&[u8]; KINDS as usize] = [
+    b"int", b"true", b"false", b"var", b"add", b"eq", b"not", b"and", b"if", b"let", b"ref",
+    b"get", b"set", b"typed", b"sym",
+];
 
 // The word of a kind.
 pub fn word(kind: u32) -> &'static [u8]
     requires { kind < kind_count }
     ensures { result.now ≡ word_of kind }
 {
-    match kind {
-        INT => b"int",
-        TRUE => b"true",
-        FALSE => b"false",
-        VAR => b"var",
-        ADD => b"add",
-        EQ => b"eq",
-        NOT => b"not",
-        AND => b"and",
-        IF => b"if",
-        LET => b"let",
-        REF => b"ref",
-        GET => b"get",
-        SET => b"set",
-        TYPED => b"typed",
-        _ => b"sym",
-    }
+    WORDS[kind as usize]
 }
 
 // Whether two byte strings are the same.
