@@ -2,7 +2,7 @@
 // is measured by writing it into no bytes.
 #![tactic(auto)]
 
-ghost use Rattle.std.specs.Prelude.{◌≡◌, ◌+◌, ◌^◌, ◌<◌, length, set};
+ghost use Rattle.std.specs.Prelude.{replicate, ◌≡◌, ◌+◌, ◌^◌, ◌<◌, length, set};
 ghost use Rattle.script.specs.Rows.Kinds.{kind_count};
 ghost use Rattle.text.specs.Code.Output.{Put, word_of};
 ghost use Rattle.text.specs.Writing.{digits, type_text};
@@ -52,16 +52,26 @@ pub fn put_number(out: &mut [u8], at: usize, n: u32) -> usize
     last + 1
 }
 
+// A byte so many times, from place `at` on.
+fn put_times(out: &mut [u8], at: usize, b: u8, times: usize) -> usize
+    requires { at + times < 2 ^ 64 }
+    ensures { Put (replicate times b) at out.old result out.new }
+{
+    let next = at + times;
+    let end = next.min(out.len());
+    if at < end {
+        out[at..end].fill(b);
+        return next;
+    }
+    next
+}
+
 // A type by its code: a letter r for each 2, then i or b.
 pub fn put_type(out: &mut [u8], at: usize, code: u32) -> usize
     requires { at + length (type_text code) < 2 ^ 64 }
     ensures { Put (type_text code) at out.old result out.new }
 {
-    let references = (code / 2) as usize;
-    for k in 0..references {
-        put(out, at + k, b'r');
-    }
-    let last = at + references;
+    let last = put_times(out, at, b'r', (code / 2) as usize);
     if code % 2 == 0 {
         put(out, last, b'i');
         return last + 1;

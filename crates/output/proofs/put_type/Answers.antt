@@ -1,53 +1,53 @@
--- `output::put_type` meets its contract: the text of what is left of the code remains to be stored. Assumes nothing.
-use Prim.Native.Nat.{◌+◌, ◌-◌, ◌*◌, ◌/◌}
-use mathlib.Core.Path.{◌≡◌}
+-- `output::put_type` meets its contract: the letters r, and then the last one. Assumes nothing.
+use Prim.Native.Nat.{ℕ, zero, suc, ◌+◌, ◌/◌, ◌%◌}
+use mathlib.Core.Path.{◌≡◌, refl, sym, ap, ◌∙◌}
 use native.Mathlib.Omega.{arith}
-use Rattle.text.specs.Code.Output.Laws.{remains_byte, remains_none}
-use Rattle.text.specs.Code.Output.Fields.{type-more}
+use Rattle.std.specs.Prelude.{List, ◌∷◌, ◌++◌, length, replicate}
+use Rattle.std.proofs.lemmas.List.{length-replicate}
+use Rattle.text.specs.Bytes.{letter_r}
+use Rattle.text.specs.Code.Output.Laws.{put_one, put_then}
 use Rattle.text.specs.Writing.{type_text}
 use Rattle.output.proofs.put_type.Goals as goal
 
-pub loop-k-preserved : goal.loop-k-preserved
-loop-k-preserved c =
-    let a = c.args in
-    let l = c.loop-k in
-    let m = type-more (a.code - 2 * l.k) (omega arith) in
-    let e : a.code - 2 * l.k - 2 ≡ a.code - 2 * (l.k + 1) = omega arith in
-    let f : a.at + l.k + 1 ≡ a.at + (l.k + 1) = omega arith in
-    rw (← e, ← f) (remains_byte (rw m at l.invariant) c.put.ensures)
+type-length : (t : ℕ) → length (type_text t) ≡ t / 2 + 1
+unfolding type_text
+type-length zero = refl
+type-length (suc zero) = refl
+type-length (suc (suc t)) = let e = type-length t in omega arith
+
+type-parts : (t : ℕ) → replicate (t / 2) letter_r ++ type_text (t % 2) ≡ type_text t
+unfolding type_text
+type-parts zero = refl
+type-parts (suc zero) = refl
+type-parts (suc (suc t)) =
+    let h : suc (suc t) / 2 ≡ suc (t / 2) = omega arith in
+    let m : suc (suc t) % 2 ≡ t % 2 = omega arith in
+    rw (h, m) (ap (λ (l : List ℕ). letter_r ∷ l) (type-parts t))
+
+pub put_times-last-requires : goal.put_times-last-requires
+put_times-last-requires c = let e = type-length c.args.code in omega (arith, e)
 
 pub overflow_add-result : goal.overflow_add-result
-unfolding type_text
 overflow_add-result c =
-    let a = c.args in
-    let l = c.loop-k in
-    let e : a.code - 2 * l.k ≡ 0 = omega arith in
-    let r = rw e at l.invariant.end_is in
-    record { fits = omega (arith, r) }
+    let e = type-length c.args.code in
+    let p = c.put_times-last.ensures.next-is ∙ ap (λ i. c.args.at + i) (length-replicate (c.args.code / 2) letter_r) in
+    record { fits = omega (arith, e, p) }
 
 pub returns-then-code-eq0 : goal.returns-then-code-eq0
 unfolding type_text
 returns-then-code-eq0 c =
-    let a = c.args in
-    let l = c.loop-k in
-    let e : a.code - 2 * l.k ≡ 0 = omega arith in
-    let k : l.k ≡ a.code / 2 = omega arith in
-    remains_none (remains_byte (rw (e, k) at l.invariant) c.put-then-code-eq0.ensures)
+    let parts = rw c.if-code-eq0.true at (type-parts c.args.code) in
+    rw (sym parts) (put_then c.put_times-last.ensures (put_one c.put.ensures))
 
 pub overflow_add-result-2 : goal.overflow_add-result-2
-unfolding type_text
 overflow_add-result-2 c =
-    let a = c.args in
-    let l = c.loop-k in
-    let e : a.code - 2 * l.k ≡ 1 = omega arith in
-    let r = rw e at l.invariant.end_is in
-    record { fits = omega (arith, r) }
+    let e = type-length c.args.code in
+    let p = c.put_times-last.ensures.next-is ∙ ap (λ i. c.args.at + i) (length-replicate (c.args.code / 2) letter_r) in
+    record { fits = omega (arith, e, p) }
 
 pub returns : goal.returns
 unfolding type_text
 returns c =
-    let a = c.args in
-    let l = c.loop-k in
-    let e : a.code - 2 * l.k ≡ 1 = omega arith in
-    let k : l.k ≡ a.code / 2 = omega arith in
-    remains_none (remains_byte (rw (e, k) at l.invariant) c.put-2.ensures)
+    let odd : c.args.code % 2 ≡ 1 = omega arith in
+    let parts = rw odd at (type-parts c.args.code) in
+    rw (sym parts) (put_then c.put_times-last.ensures (put_one c.put-2.ensures))
